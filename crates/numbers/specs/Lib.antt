@@ -1,0 +1,5 @@
+pub mod Clamps
+pub mod Sizes
+pub mod Whole
+pub mod Units
+pub mod Sums
