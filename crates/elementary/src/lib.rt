@@ -1,0 +1,2 @@
+// Elementary functions: whole powers.
+pub mod whole_power;

@@ -1,0 +1,11 @@
+pub mod Terms
+pub mod Payment
+pub mod Row
+pub mod RowRule
+pub mod Steps
+pub mod Rows
+pub mod Draws
+pub mod Demand3
+pub mod Totals
+pub mod Savings
+pub mod BreakEven

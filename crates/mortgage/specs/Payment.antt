@@ -1,0 +1,53 @@
+-- The monthly payment, and the loan in hand that an opening gives. Definitions only. Assumes nothing.
+use Prim.Native.Nat.{ℕ}
+use mathlib.Core.Bool.{cond}
+use lib.IntN.{pos}
+use lib.Ieee.{Float, binary64, add, sub, mul, div, eq, ofInt, ofBits}
+use Rattle.numbers.specs.Clamps.{plusZero}
+use Rattle.elementary.specs.WholePower.{one, wholePower}
+use Rattle.refusals.specs.Outcome.{Outcome, refused, accepted, judged}
+use Rattle.records.specs.declared.Terms.{Terms}
+use Rattle.mortgage.specs.declared.Loan.{Loan}
+use Rattle.mortgage.specs.declared.Opening.{Opening}
+use Rattle.mortgage.specs.declared.Opening.the-variants as O
+use Rattle.mortgage.specs.Terms.{termsLines}
+
+-- "r = rate/12"
+abbrev pub twelve : Float
+twelve = ofBits binary64 0x4028_0000_0000_0000
+
+unfoldable pub monthlyRate : Float → Float
+monthlyRate rate = div binary64 rate twelve
+
+-- "f = (1+r)^n"
+unfoldable pub growth : Float → ℕ → Float
+growth r n = wholePower (add binary64 one r) n
+
+-- "P·r·f/(f-1), left to right"
+unfoldable pub levelPayment : Float → Float → Float → Float
+levelPayment P r f = div binary64 (mul binary64 (mul binary64 P r) f) (sub binary64 f one)
+
+-- "If r is 0, P/n; else P·r·f/(f-1)"
+unfoldable pub payment : Terms → Float
+payment t =
+    cond (eq (monthlyRate (t .rate)) plusZero) (div binary64 (t .principal) (ofInt binary64 (pos (t .term))))
+    (levelPayment (t .principal) (monthlyRate (t .rate)) (growth (monthlyRate (t .rate)) (t .term)))
+
+-- what `monthly_payment` answers
+unfoldable pub monthlyPayment : Terms → Outcome Float
+monthlyPayment t = judged (termsLines t) (payment t)
+
+-- "A loan in hand holds its term, annual rate, payment, months done and balance": before its first month
+unfoldable pub loanOf : Terms → Float → Loan
+loanOf t pay = record { term = t .term; rate = t .rate; payment = pay; done = 0; balance = t .principal }
+
+-- "It is opened with the worked-out payment or with a given one."
+unfoldable pub openedWith : Terms → Float → Outcome Loan
+openedWith t pay = judged (termsLines t) (loanOf t pay)
+
+unfoldable pub opened : Terms → Outcome Loan
+opened t = openedWith t (payment t)
+
+abbrev pub openingOutcome : Opening → Outcome Loan
+openingOutcome (O.Refused r) = refused (r .number) (r .place)
+openingOutcome (O.Open l) = accepted l
