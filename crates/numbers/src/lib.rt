@@ -2,4 +2,3 @@
 pub mod clamps;
 pub mod patterns;
 pub mod sizes;
-pub mod whole;
