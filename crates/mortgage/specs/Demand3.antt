@@ -11,7 +11,7 @@ use Rattle.numbers.specs.Sums.{exactSum}
 use Rattle.refusals.specs.Outcome.{Outcome, refused, accepted}
 use Rattle.records.specs.declared.Terms.{Terms}
 use Rattle.mortgage.specs.declared.Loan.{Loan}
-use Rattle.mortgage.specs.declared.Portion.{Portion}
+use Rattle.mortgage.specs.declared.draws.Portion.{Portion}
 use Rattle.mortgage.specs.Row.{width, principalPlace, balancePlace}
 use Rattle.mortgage.specs.RowRule.{due}
 use Rattle.mortgage.specs.Rows.{rows}

@@ -6,9 +6,9 @@ use lib.Ieee.{Float}
 use Rattle.refusals.specs.Outcome.{Outcome, refused, accepted, Line, line, judged}
 use Rattle.refusals.specs.Table.{badTerm, noRoom, pastEnd}
 use Rattle.mortgage.specs.declared.Loan.{Loan}
-use Rattle.mortgage.specs.declared.Portion.{Portion}
-use Rattle.mortgage.specs.declared.Drawing.{Drawing}
-use Rattle.mortgage.specs.declared.Drawing.the-variants as D
+use Rattle.mortgage.specs.declared.draws.Portion.{Portion}
+use Rattle.mortgage.specs.declared.draws.Drawing.{Drawing}
+use Rattle.mortgage.specs.declared.draws.Drawing.the-variants as drawing-is
 use Rattle.mortgage.specs.Row.{width}
 use Rattle.mortgage.specs.RowRule.{endMonth, due}
 use Rattle.mortgage.specs.Steps.{fitting, laid}
@@ -39,5 +39,5 @@ unfoldable pub filled : Loan → List Float → List Float
 filled l room = filledBy (drawn l room) l room
 
 abbrev pub drawingOutcome : Drawing → Outcome Portion
-drawingOutcome (D.Refused r) = refused (r .number) (r .place)
-drawingOutcome (D.Drawn d) = accepted d
+drawingOutcome (drawing-is.Refused r) = refused (r .number) (r .place)
+drawingOutcome (drawing-is.Drawn d) = accepted d

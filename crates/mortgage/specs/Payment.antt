@@ -8,8 +8,8 @@ use Rattle.elementary.specs.WholePower.{one, wholePower}
 use Rattle.refusals.specs.Outcome.{Outcome, refused, accepted, judged}
 use Rattle.records.specs.declared.Terms.{Terms}
 use Rattle.mortgage.specs.declared.Loan.{Loan}
-use Rattle.mortgage.specs.declared.Opening.{Opening}
-use Rattle.mortgage.specs.declared.Opening.the-variants as O
+use Rattle.mortgage.specs.declared.opening.Opening.{Opening}
+use Rattle.mortgage.specs.declared.opening.Opening.the-variants as opening-is
 use Rattle.mortgage.specs.Terms.{termsLines}
 
 -- "r = rate/12"
@@ -49,5 +49,5 @@ unfoldable pub opened : Terms → Outcome Loan
 opened t = openedWith t (payment t)
 
 abbrev pub openingOutcome : Opening → Outcome Loan
-openingOutcome (O.Refused r) = refused (r .number) (r .place)
-openingOutcome (O.Open l) = accepted l
+openingOutcome (opening-is.Refused r) = refused (r .number) (r .place)
+openingOutcome (opening-is.Open l) = accepted l

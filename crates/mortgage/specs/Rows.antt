@@ -8,8 +8,8 @@ use Rattle.refusals.specs.Outcome.{Outcome, refused, accepted, Line, line, judg
 use Rattle.refusals.specs.Table.{badTerm, pastEnd}
 use Rattle.records.specs.declared.Row.{Row}
 use Rattle.mortgage.specs.declared.Loan.{Loan}
-use Rattle.mortgage.specs.declared.Next.{Next}
-use Rattle.mortgage.specs.declared.Next.the-variants as N
+use Rattle.mortgage.specs.declared.rows.Next.{Next}
+use Rattle.mortgage.specs.declared.rows.Next.the-variants as next-is
 use Rattle.mortgage.specs.Row.{places}
 use Rattle.mortgage.specs.RowRule.{endMonth, due, rowOf, nextOf}
 use Rattle.mortgage.specs.Steps.{stepped, written}
@@ -33,6 +33,6 @@ unfoldable pub nextRow : Loan → Outcome NextRow
 nextRow l = judged (stateLines l) (cond (eqb (due l) 0) finished (next (rowOf l) (nextOf l)))
 
 abbrev pub nextOutcome : Next → Outcome NextRow
-nextOutcome (N.Refused r) = refused (r .number) (r .place)
-nextOutcome N.Finished = accepted finished
-nextOutcome (N.Due row loan) = accepted (next row loan)
+nextOutcome (next-is.Refused r) = refused (r .number) (r .place)
+nextOutcome next-is.Finished = accepted finished
+nextOutcome (next-is.Due row loan) = accepted (next row loan)

@@ -5,10 +5,10 @@ use lib.Ieee.{Float, binary64, add, sub, mul, lt, le, ofBits}
 use Rattle.numbers.specs.Clamps.{plusZero, raised, lowered}
 use Rattle.refusals.specs.Outcome.{Outcome, refused, accepted, judged}
 use Rattle.records.specs.declared.Terms.{Terms}
-use Rattle.mortgage.specs.declared.Paydown.{Paydown}
-use Rattle.mortgage.specs.declared.Savings.{Savings}
-use Rattle.mortgage.specs.declared.SavingsAnswer.{SavingsAnswer}
-use Rattle.mortgage.specs.declared.SavingsAnswer.the-variants as S
+use Rattle.mortgage.specs.declared.savings.Paydown.{Paydown}
+use Rattle.mortgage.specs.declared.savings.Savings.{Savings}
+use Rattle.mortgage.specs.declared.savings.SavingsAnswer.{SavingsAnswer}
+use Rattle.mortgage.specs.declared.savings.SavingsAnswer.the-variants as savings-is
 use Rattle.mortgage.specs.Terms.{termsLines}
 use Rattle.mortgage.specs.Payment.{monthlyRate, payment}
 use Rattle.mortgage.specs.Totals.{interestSum}
@@ -51,5 +51,5 @@ unfoldable pub prepaymentSavings : Terms → Float → Outcome Savings
 prepaymentSavings t extra = judged (termsLines t) (saved t extra)
 
 abbrev pub savingsOutcome : SavingsAnswer → Outcome Savings
-savingsOutcome (S.Refused r) = refused (r .number) (r .place)
-savingsOutcome (S.Saved s) = accepted s
+savingsOutcome (savings-is.Refused r) = refused (r .number) (r .place)
+savingsOutcome (savings-is.Saved s) = accepted s

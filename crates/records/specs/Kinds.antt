@@ -7,9 +7,9 @@ use Rattle.refusals.specs.Table.{badRecord}
 use Rattle.records.specs.declared.Terms.{Terms}
 use Rattle.records.specs.declared.Row.{Row}
 use Rattle.records.specs.declared.TermsRead.{TermsRead}
-use Rattle.records.specs.declared.TermsRead.the-variants as T
+use Rattle.records.specs.declared.TermsRead.the-variants as terms-is
 use Rattle.records.specs.declared.RowRead.{RowRead}
-use Rattle.records.specs.declared.RowRead.the-variants as R
+use Rattle.records.specs.declared.RowRead.the-variants as row-is
 use Rattle.records.specs.Bytes.{wholeAt, floatAt, wholeBytes, floatBytes}
 
 -- ---- kind 1, a loan: "principal, rate (f64), term (u32), 21 bytes"
@@ -30,8 +30,8 @@ unfoldable pub readTerms : List ℕ → Outcome Terms
 readTerms bytes = judged (line 11 (badRecord termsKind termsSize bytes) ∷ []) (termsIn bytes)
 
 abbrev pub termsOutcome : TermsRead → Outcome Terms
-termsOutcome (T.Refused r) = refused (r .number) (r .place)
-termsOutcome (T.Given t) = accepted t
+termsOutcome (terms-is.Refused r) = refused (r .number) (r .place)
+termsOutcome (terms-is.Given t) = accepted t
 
 -- ---- kind 3, a row: "month (u32), payment, principal, interest, balance, 37"
 abbrev pub rowKind : ℕ
@@ -57,5 +57,5 @@ unfoldable pub readRow : List ℕ → Outcome Row
 readRow bytes = judged (line 11 (badRecord rowKind rowSize bytes) ∷ []) (rowIn bytes)
 
 abbrev pub rowOutcome : RowRead → Outcome Row
-rowOutcome (R.Refused r) = refused (r .number) (r .place)
-rowOutcome (R.Given r) = accepted r
+rowOutcome (row-is.Refused r) = refused (r .number) (r .place)
+rowOutcome (row-is.Given r) = accepted r

@@ -1,8 +1,4 @@
 // Records for a host: bytes to values and back, little-endian, one byte of kind and then a fixed body.
-pub mod fields;
-pub mod row;
-pub mod terms;
-
 // Kind 1, a loan's terms.
 pub struct Terms {
     pub principal: f64,

@@ -9,9 +9,9 @@ use lib.ListN.{getD}
 use lib.Dec.{ltb}
 
 -- a refusal's number and place, or the values that are asked for
-pub data Outcome (V : Type 0) : Type 0 where
-  refused : ℕ → ℕ → Outcome V
-  accepted : V → Outcome V
+pub data Outcome (Value : Type 0) : Type 0 where
+  refused : ℕ → ℕ → Outcome Value
+  accepted : Value → Outcome Value
 
 -- a line of the table as one call meets it: its number, and for each place, from 0, whether its cause is there
 pub record Line : Type 0 where
@@ -26,12 +26,12 @@ abbrev pub lineOfTwo : ℕ → Bool → Bool → Line
 lineOfTwo k a b = record { number = k; causes = a ∷ b ∷ [] }
 
 -- number k at the first place, from p, that has a cause; where none has, what the rest says
-unfoldable pub firstOr : {V : Type 0} → ℕ → ℕ → List Bool → Outcome V → Outcome V
+unfoldable pub firstOr : {Value : Type 0} → ℕ → ℕ → List Bool → Outcome Value → Outcome Value
 firstOr k p [] rest = rest
 firstOr k p (b ∷ bs) rest = cond b (refused k p) (firstOr k (suc p) bs rest)
 
 -- the rule, for lines in rising order
-unfoldable pub judged : {V : Type 0} → List Line → V → Outcome V
+unfoldable pub judged : {Value : Type 0} → List Line → Value → Outcome Value
 unfolding firstOr
 judged [] v = accepted v
 judged (l ∷ ls) v = firstOr (l .number) 0 (l .causes) (judged ls v)
@@ -47,7 +47,7 @@ pub record Lowest (ls : List Line) (k p : ℕ) : Type 0 where
   pub no-lower : (j q : ℕ) → j < k → ¬ Applies ls j q
   pub no-earlier : (q : ℕ) → q < p → ¬ Applies ls k q
 
-abbrev pub ExactlyWhen : {V : Type 0} → List Line → Outcome V → Type 0
+abbrev pub ExactlyWhen : {Value : Type 0} → List Line → Outcome Value → Type 0
 ExactlyWhen ls o = (k p : ℕ) → (o ≡ refused k p) ↔ Lowest ls k p
 
 -- the numbers of the lines rise

@@ -26,7 +26,7 @@ pub enum Count {
 }
 
 // The refusal of a line that names no list: its place is 0.
-pub fn refusal(number: u32) -> Refusal
+pub fn refuse(number: u32) -> Refusal
     ensures { λ r. ⌜ (r .number ≡ number) × (r .place ≡ 0) ⌝ }
 {
     Refusal { number, place: 0 }

@@ -1,0 +1,17 @@
+// Mortgages: a loan's payment, its opening, its rows, and draws of them into lent room.
+pub mod draws;
+pub mod opening;
+pub mod payment;
+pub mod rows;
+pub mod savings;
+pub mod terms;
+pub mod totals;
+
+// A loan in hand: passed into each draw by value and handed back.
+pub struct Loan {
+    pub term: u32,
+    pub rate: f64,
+    pub payment: f64,
+    pub done: u32,
+    pub balance: f64,
+}
