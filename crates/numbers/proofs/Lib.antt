@@ -1,2 +1,5 @@
 -- What the proofs of several functions and of later crates use.
 pub mod Zeros
+pub mod Amounts
+pub mod Order
+pub mod Snap
