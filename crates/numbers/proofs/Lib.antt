@@ -3,3 +3,6 @@ pub mod Zeros
 pub mod Amounts
 pub mod Order
 pub mod Snap
+pub mod Differences
+pub mod Clamping
+pub mod Repayment

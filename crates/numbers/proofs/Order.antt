@@ -159,3 +159,24 @@ amount-by-tests f (fin true m e) t u v = and-i (eqb m 0) (fits f (fin true m e))
     nothing : (m u b : ℕ) → 0 < u → m * u * 1 + b ≤ 0 → m ≡ 0
     nothing zero u b h l = refl
     nothing (suc m) u b h l = absurd (omega arith)
+
+-- what is above an amount is an amount or +infinity
+pub above-amount : (f : Format) (x y : Float) → T (amount f y) → T (fits f x) → T (lt y x) → T (amount f x) ⊎ (x ≡ inf false)
+unfolding lt amount
+above-amount f x nan p t l = absurd p
+above-amount f x (inf s) p t l = absurd p
+above-amount f nan (fin s n d) p t l = absurd l
+above-amount f (inf true) (fin s n d) p t l = absurd l
+above-amount f (inf false) (fin s n d) p t l = inr refl
+above-amount f (fin false m e) (fin s n d) p t l = inl t
+above-amount f (fin true m e) (fin false n d) p t l = absurd l
+above-amount f (fin true m e) (fin true n d) p t l = absurd (none (nothing-times n (up d) (down e) (counts f (fin true n d) p .0 tt)) (ltb→lt (m * up e * down d) (n * up d * down e) l))
+  where
+    none : {a b : ℕ} → b ≡ 0 → a < b → ⊥
+    none z g = omega arith
+
+pub none-above-infinity : (x : Float) → T (lt (inf false) x) → ⊥
+unfolding lt
+none-above-infinity nan t = t
+none-above-infinity (inf s) t = t
+none-above-infinity (fin s m e) t = t

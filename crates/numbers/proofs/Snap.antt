@@ -1,18 +1,24 @@
 -- Snapping: rounding a whole number n of units keeps its p leading digits, nearest, ties to even. It misses n by at most n / 2 ^ p, and passes no number of p digits that n does not pass.
 -- Assumes nothing.
 use mathlib.Core.Path.{_≡_, refl, sym, ap, _∙_, subst}
+use mathlib.Core.Logic.{_⊎_, inl, inr}
 use mathlib.Core.Bool.{Bool, true, false, not}
 use Prim.Native.Nat.{ℕ, suc, _+_, _-_, _*_, _/_, _%_, _^_, _≤_, _<_, compare, Ordering, Ordering·lt, Ordering·eq, Ordering·gt}
-use native.Mathlib.Nat.{le-trans, le-of-lt, le-of-eq, lt-irrefl, lt-of-lt-of-le, mod-lt, div-add-mod', mul-assoc, mul-comm, mul-pos, mul-le-mul-right, mul-lt-mul-of-pos-right, mul-div-cancel, pow-suc, zero-lt-suc}
+use native.Mathlib.Nat.{le-trans, le-of-lt, le-of-eq, lt-of-le-of-lt, mod-lt, div-add-mod', mul-assoc, mul-comm, mul-pos, mul-le-mul-right, mul-lt-mul-of-pos-right, mul-div-cancel, pow-suc, zero-lt-suc, eq-zero-or-pos}
 use native.Mathlib.Omega.{arith}
 use lib.Arith.{lt-of-le-ne}
 use lib.Dec.{T, isLe, isEq, leb, eqb, leb→le, nleb→lt, eqb→eq, eqb-refl}
 use lib.Pow.{pow-add, pow-pos}
-use lib.Ieee.{Format, prec, low, size, nearest}
+use lib.IntN.{pos}
+use lib.Ieee.{Float, nan, inf, fin, Format, binary32, binary64, prec, low, size, nearest, round}
 use lib.Ieee.Digits.{size-reaches, back}
 use lib.Ieee.Fits.{nearest-le}
 use lib.Ieee.Nearest.{closest, closest-mono, closest-same, nearest-ge}
-use lib.Ieee.Scale.{grid}
+use lib.Ieee.Exact.{HasValue}
+use lib.Ieee.Scale.{grid, overflow, round-val}
+use Rattle.numbers.specs.Units.{miss}
+use Rattle.numbers.proofs.Zeros.{round-nothing}
+use Rattle.numbers.proofs.Amounts.{Counts, Held}
 
 -- ---- the multiple of u that is nearest to n is at most half of u away
 abbrev Compared : Ordering → ℕ → ℕ → Type 0
@@ -120,3 +126,34 @@ grid-is-snap f n =
     let K = 2 ^ (size n - prec f) in
     ap (λ (z : ℕ). closest (n * L) (L * 2 ^ (size z - prec f)) * 2 ^ (size z - prec f)) (mul-div-cancel n (pow-pos (low f)))
     ∙ ap (λ (z : ℕ). z * K) (closest-same (n * L) (L * K) n K (mul-pos (pow-pos (low f)) (pow-pos (size n - prec f))) (pow-pos (size n - prec f)) (mul-assoc n L K))
+
+-- ---- `round` of n units, for an n that is at most a value that the format holds
+value-counts : (f : Format) (x : Float) (n : ℕ) → HasValue x false n (2 ^ low f) → Counts f x n
+value-counts f nan n h = h
+value-counts f (inf s) n h = h
+value-counts f (fin s m e) n h = (λ (t : T s). absurd (subst T (h .0) t), h .1)
+
+-- its sign is false, or it rounds nothing
+pub round-counts : (f : Format) (u : Bool) (n a : ℕ) → (T u → n ≡ 0) → Held f a → n ≤ a → Counts f (round f u n (2 ^ low f)) (snap (prec f) n) × (snap (prec f) n ≤ a)
+round-counts f false n a z h l =
+    let s : snap (prec f) n ≤ a = rw (h .is) (snap-no-more (prec f) n (h .digits) (h .shift) (h .small) (rw (h .is) at l)) in
+    let g : grid f n (2 ^ low f) < overflow f = rw (grid-is-snap f n) (lt-of-le-of-lt s (h .below)) in
+    (subst (λ (k : ℕ). Counts f (round f false n (2 ^ low f)) k) (grid-is-snap f n) (value-counts f (round f false n (2 ^ low f)) (grid f n (2 ^ low f)) (round-val f n (2 ^ low f) g)), s)
+round-counts f true n a z h l =
+    let s : snap (prec f) n ≤ 0 = rw (z tt) (snap-no-more (prec f) 0 0 0 (pow-pos (prec f)) (omega arith)) in
+    (rw (z tt, round-nothing f true (2 ^ low f) (pow-pos (low f))) (λ (t : T true). refl, nothing (snap (prec f) 0) (2 ^ low f) (rw (z tt) at s)), le-trans s (omega arith))
+  where
+    nothing : (k L : ℕ) → k ≤ 0 → 0 * 1 * L ≡ k * 1
+    nothing k L h = omega arith
+
+-- and it misses n by at most n / 2 ^ prec
+part-miss : (P x n : ℕ) → WithinPart P x n → P * miss x n ≤ n
+part-miss P x n w = go (x - n) (n - x) (omega arith) (elim (eq-zero-or-pos (x - n)) [ inl z ↦ inl z | inr l ↦ inr (omega arith) ])
+  where
+    go : (d e : ℕ) → x + e ≡ n + d → (d ≡ 0) ⊎ (e ≡ 0) → P * (d + e) ≤ n
+    go d e h (inl z) = omega (arith, ap (λ (y : ℕ). P * y) h, ap (λ (y : ℕ). P * y) z)
+    go d e h (inr z) = omega (arith, ap (λ (y : ℕ). P * y) h, ap (λ (y : ℕ). P * y) z)
+
+pub snap-miss : (f : Format) (n : ℕ) → 2 ^ prec f * miss (snap (prec f) n) n ≤ n
+snap-miss binary32 n = part-miss (2 ^ 24) (snap 24 n) n (snap-within 23 n)
+snap-miss binary64 n = part-miss (2 ^ 53) (snap 53 n) n (snap-within 52 n)
