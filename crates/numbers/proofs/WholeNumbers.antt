@@ -65,7 +65,7 @@ halves a L l = ap (λ (k : ℕ). k / 2) (sym (add-mul-div-right a 1 l) ∙ ap (�
     once : (L : ℕ) → 1 * L ≡ L
     once L = omega arith
 
-module _ (x : Float) (u : UpToBound x) where
+module _ {x : Float} (u : UpToBound x) where
   twice-below : (n L c : ℕ) → n ≤ largest * L → 8589934591 ≤ c → 0 < L → n * 2 < c * L
   twice-below n L c h g l = omega (arith, mul-le-mul-right L g)
 
@@ -84,7 +84,7 @@ module _ (x : Float) (u : UpToBound x) where
   pub twice-may-be-cut : T (lt (fin true 1 (pos 0)) (add binary64 x x)) × T (lt (add binary64 x x) (fin false 1 (pos 64)))
   twice-may-be-cut = may-be-cut binary64 (add binary64 x x) twice-amount twice-small
 
-  module _ (k : ℕ) (is : k ≡ toUnsigned 64 (add binary64 x x)) where
+  module _ {k : ℕ} (is : k ≡ toUnsigned 64 (add binary64 x x)) where
     cut-twice : k ≡ units x * 2 / 2 ^ 1074
     cut-twice = is ∙ is-cut binary64 (add binary64 x x) twice-amount twice-small ∙ ap (λ (n : ℕ). n / 2 ^ 1074) twice-units
 
@@ -98,7 +98,7 @@ module _ (x : Float) (u : UpToBound x) where
         capped q e h = omega arith
 
 -- ---- the ceiling
-module _ (x : Float) (u : UpToBound x) where
+module _ {x : Float} (u : UpToBound x) where
   small : units x < 2 ^ 64 * 2 ^ 1074
   small = go (units x) (2 ^ 1074) (u .at-most) (pow-pos 1074)
     where
@@ -108,7 +108,7 @@ module _ (x : Float) (u : UpToBound x) where
   pub it-may-be-cut : T (lt (fin true 1 (pos 0)) x) × T (lt x (fin false 1 (pos 64)))
   it-may-be-cut = may-be-cut binary64 x (u .is-amount) small
 
-  module _ (k : ℕ) (is : k ≡ toUnsigned 64 x) where
+  module _ {k : ℕ} (is : k ≡ toUnsigned 64 x) where
     cut-it : k ≡ units x / 2 ^ 1074
     cut-it = is ∙ is-cut binary64 x (u .is-amount) small
 
