@@ -9,3 +9,4 @@ pub mod WholeNumbers
 pub mod Differences
 pub mod Clamping
 pub mod Repayment
+pub mod Tight
