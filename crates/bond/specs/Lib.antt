@@ -1,0 +1,5 @@
+pub mod Bonds
+pub mod Price
+pub mod Brent
+pub mod Yield
+pub mod Durations
