@@ -1,3 +1,3 @@
 pub mod Portions
 pub mod RowLaws
-pub mod DrawLaws
+pub mod DrawCases

@@ -4,7 +4,7 @@ use Prim.Native.Nat.{_-_}
 use native.Mathlib.Omega.{arith}
 use denote.Ref.{now}
 use Rattle.mortgage.proofs.RowLaws.{next-due}
-use Rattle.mortgage.proofs.DrawLaws.{Underway, begun, a-turn}
+use Rattle.mortgage.proofs.DrawCases.{Underway, begun, a-turn}
 use Rattle.mortgage.proofs.draws.any_rows.Statement.{statement}
 use Rattle.mortgage.proofs.draws.any_rows.Tie as tie
 

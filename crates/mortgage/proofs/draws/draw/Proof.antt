@@ -2,7 +2,7 @@
 use mathlib.Core.Path.{sym, _∙_}
 use native.Mathlib.Omega.{arith}
 use denote.Ref.{now}
-use Rattle.mortgage.proofs.DrawLaws.{drawn-bad-term, drawn-past, drawn-short, refused-draw, finished-draw, rows-draw}
+use Rattle.mortgage.proofs.DrawCases.{drawn-bad-term, drawn-past, drawn-short, refused-draw, finished-draw, rows-draw}
 use borrow.Author.Needs.{needs}
 use Rattle.mortgage.proofs.draws.draw.Statement.{statement}
 use Rattle.mortgage.proofs.draws.draw.Tie as tie

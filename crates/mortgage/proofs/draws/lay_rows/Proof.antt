@@ -7,7 +7,7 @@ use Rattle.mortgage.specs.Row.{width}
 use Rattle.mortgage.specs.RowRule.{nextOf}
 use Rattle.mortgage.proofs.Portions.{room-left, joined}
 use Rattle.mortgage.proofs.RowLaws.{rest-due}
-use Rattle.mortgage.proofs.DrawLaws.{rowPlaces, wide}
+use Rattle.mortgage.proofs.DrawCases.{rowPlaces, wide}
 use Rattle.mortgage.proofs.draws.lay_rows.Statement.{statement}
 use Rattle.mortgage.proofs.draws.lay_rows.Tie as tie
 

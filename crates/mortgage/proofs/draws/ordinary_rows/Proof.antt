@@ -5,7 +5,7 @@ use native.Mathlib.Omega.{arith}
 use denote.Ref.{now}
 use borrow.Author.Needs.{needs}
 use Rattle.mortgage.proofs.RowLaws.{next-not-last, interest-after}
-use Rattle.mortgage.proofs.DrawLaws.{Underway, begun, a-turn}
+use Rattle.mortgage.proofs.DrawCases.{Underway, begun, a-turn}
 use Rattle.mortgage.proofs.draws.ordinary_rows.Statement.{statement}
 use Rattle.mortgage.proofs.draws.ordinary_rows.Tie as tie
 

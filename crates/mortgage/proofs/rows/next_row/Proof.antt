@@ -2,7 +2,7 @@
 use mathlib.Core.Path.{sym, _∙_}
 use native.Mathlib.Omega.{arith}
 use Rattle.refusals.proofs.Verdicts.{refused-as}
-use Rattle.mortgage.proofs.DrawLaws.{next-bad-term, next-past, next-finished, next-due}
+use Rattle.mortgage.proofs.DrawCases.{next-bad-term, next-past, next-finished, next-due}
 use borrow.Author.Needs.{needs}
 use Rattle.mortgage.proofs.rows.next_row.Statement.{statement}
 use Rattle.mortgage.proofs.rows.next_row.Tie as tie
