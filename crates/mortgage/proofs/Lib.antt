@@ -1,1 +1,3 @@
 pub mod Portions
+pub mod RowLaws
+pub mod DrawCases
