@@ -1,1 +1,6 @@
 pub mod Portions
+pub mod Temporary
+pub mod Columns
+pub mod DrawLaws
+pub mod Exactly
+pub mod Sequences
