@@ -4,3 +4,6 @@ pub mod Columns
 pub mod DrawLaws
 pub mod Exactly
 pub mod Sequences
+pub mod RowsRepay
+pub mod Demand3
+pub mod Worked

@@ -1,16 +1,18 @@
 -- Draws one after the other, each handed the loan that the one before handed back: what they filed are the next rows of the loan, refused draws in between change nothing,
 -- portions to the end are the rows of one draw, and as many rooms with a whole row as rows are due finish the loan. Assumes nothing.
 use mathlib.Core.Path.{_≡_, refl, sym, ap, _∙_, subst}
+use mathlib.Core.Logic.{inl, inr}
 use mathlib.Core.Bool.{Bool, true, false, cond, _&&_}
 use mathlib.Core.List.{List, [], _∷_, _++_}
 use Prim.Native.Nat.{ℕ, suc, _+_, _-_, _*_, _/_, _<_, _≤_, min}
+use native.Mathlib.Nat.{eq-zero-or-pos}
 use native.Mathlib.Omega.{arith}
 use lib.Dec.{ltb}
 use lib.ListN.{length}
 use lib.Ieee.{Float}
 use borrow.Author.Tests.{ltb-true, ltb-false, lt-ltb, le-ltb}
 use Rattle.refusals.specs.Outcome.{Outcome, refused, accepted, firstOr, judged}
-use Rattle.refusals.specs.Table.{badTerm, noRoom, pastEnd}
+use Rattle.refusals.specs.Table.{badAmount, badTerm, noRoom, pastEnd}
 use Rattle.records.specs.declared.Terms.{Terms}
 use Rattle.mortgage.specs.declared.Loan.{Loan}
 use Rattle.mortgage.specs.declared.draws.Portion.{Portion}
@@ -67,11 +69,72 @@ unfolding filed left wrote
 refused-draw-changes-nothing l room rooms k p e = (rw e, rw e)
 
 -- ---- a loan of an acceptable term
-module _ (l : Loan) (room : List Float) (good : badTerm (l .term) ≡ false) where
+module _ (l : Loan) (good : badTerm (l .term) ≡ false) where
   due-ahead : 0 < due l → pastEnd (endMonth l) (l .done) ≡ false
   unfolding due pastEnd
   due-ahead h = le-ltb (endMonth l) (l .done) (omega arith)
 
-  drawn-rows : 0 < due l → width ≤ length room → rowsIn (drawn l room) ≡ count l (length room)
-  unfolding drawn judged firstOr noRoom portion
-  drawn-rows h r = rw (good, lt-ltb 0 (due l) h, le-ltb (length room) width r, due-ahead h)
+  with-room : (room : List Float) → 0 < due l → width ≤ length room → drawn l room ≡ accepted (portion l (length room))
+  unfolding drawn judged firstOr noRoom
+  with-room room h r = rw (good, lt-ltb 0 (due l) h, le-ltb (length room) width r, due-ahead h)
+
+  -- a room that holds all that is due gets it all
+  all-in-one : (big : List Float) → due l * width ≤ length big → rowsIn (drawn l big) ≡ due l
+  unfolding portion
+  all-in-one big b = elim (eq-zero-or-pos (due l)) [
+    | inl z ↦ omega (arith, rows-within l big)
+    | inr h ↦ (let e : rowsIn (drawn l big) ≡ count l (length big) = ap rowsIn (with-room big h (omega arith)) in omega arith)
+  ]
+
+  -- where a row is due and there is room for one, fewer are due after the draw
+  fewer-due : (room : List Float) (n : ℕ) → width ≤ length room → due l ≤ suc n → due l - rowsIn (drawn l room) ≤ n
+  unfolding portion
+  fewer-due room n r b = elim (eq-zero-or-pos (due l)) [
+    | inl z ↦ omega arith
+    | inr h ↦ (let e : rowsIn (drawn l room) ≡ count l (length room) = ap rowsIn (with-room room h r) in omega arith)
+  ]
+
+  -- drawing to the end in portions gives the rows of one draw into a room that holds them all
+  pub portions-are-one : (rooms : List (List Float)) (big : List Float) → due (left l rooms) ≡ 0 → due l * width ≤ length big → filed l rooms ≡ wrote l big
+  portions-are-one rooms big z b =
+      let f = filed-rows l rooms in
+      let e : f .many ≡ rowsIn (drawn l big) = omega (arith, all-in-one big b, filed-is-no-longer-due l rooms) in
+      f .numbers ∙ ap (λ (k : ℕ). rows k l) e ∙ sym (wrote-is l big)
+
+handed-back-good : (l : Loan) (room : List Float) → badTerm (l .term) ≡ false → badTerm (handedBack (drawn l room) l .term) ≡ false
+handed-back-good l room good = rw (handed-back l room, term-after (rowsIn (drawn l room)) l) good
+
+due-handed-back : (l : Loan) (room : List Float) → due (handedBack (drawn l room) l) ≡ due l - rowsIn (drawn l room)
+due-handed-back l room = ap due (handed-back l room) ∙ due-after (rowsIn (drawn l room)) l
+
+-- a room too small for a row counts for nothing, and any other takes at least one row off those due
+roomy-step : (l : Loan) (room : List Float) (n : ℕ) → badTerm (l .term) ≡ false → due l ≤ cond (ltb (length room) width) n (suc n) → due l - rowsIn (drawn l room) ≤ n
+roomy-step l room n good = go (ltb (length room) width) (ltb-false (length room) width)
+  where
+    go : (small : Bool) → (small ≡ false → width ≤ length room) → due l ≤ cond small n (suc n) → due l - rowsIn (drawn l room) ≤ n
+    go true r h = omega arith
+    go false r h = fewer-due l good room n (r refl) h
+
+-- as many rooms with a whole row as rows are due finish the loan, whatever rooms are between them
+pub rooms-enough : (rooms : List (List Float)) (l : Loan) → badTerm (l .term) ≡ false → due l ≤ roomy rooms → due (left l rooms) ≡ 0
+unfolding left roomy
+rooms-enough [] l good h = omega arith
+rooms-enough (room ∷ rooms) l good h =
+    rooms-enough rooms (handedBack (drawn l room) l) (handed-back-good l room good) (rw (due-handed-back l room) (roomy-step l room (roomy rooms) good h))
+
+-- ---- from an opening
+term-accepted : (t : Terms) (pay : Float) (l : Loan) → openedWith t pay ≡ accepted l → badTerm (t .term) ≡ false
+unfolding openedWith judged firstOr
+term-accepted t pay l = go (badAmount (t .principal)) (badTerm (t .term))
+  where
+    go : (a b : Bool) → cond a (refused 1 0) (cond b (refused 2 0) (accepted (loanOf t pay))) ≡ accepted l → b ≡ false
+    go true b e = let z : _≡_ {A = ℕ} 0 1 = cc in absurd (omega arith)
+    go false true e = let z : _≡_ {A = ℕ} 0 1 = cc in absurd (omega arith)
+    go false false e = refl
+
+-- "Since a draw with room writes at least one row, n draws are enough."
+pub enough-draws : (t : Terms) (pay : Float) (l : Loan) → openedWith t pay ≡ accepted l → (rooms : List (List Float)) → t .term ≤ roomy rooms → due (left l rooms) ≡ 0
+unfolding openedWith loanOf due endMonth
+enough-draws t pay l e rooms h =
+    let s : l ≡ loanOf t pay = accepted-value (termsLines t) (loanOf t pay) l e in
+    rw s (rooms-enough rooms (loanOf t pay) (term-accepted t pay l e) (omega arith))
