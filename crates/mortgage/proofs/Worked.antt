@@ -1,5 +1,5 @@
 -- Document 01's loan of three months, drawn as one row, then into a room that is refused, then as two rows: what was filed repays it, and is the paper's listing. Assumes nothing.
-use mathlib.Core.Path.{_≡_, refl}
+use mathlib.Core.Path.{_≡_, refl, subst}
 use mathlib.Core.List.{List, [], _∷_, _++_, map}
 use Prim.Native.Nat.{ℕ, _*_, _<_, _≤_}
 use native.Mathlib.Omega.{arith}
@@ -14,7 +14,7 @@ use Rattle.mortgage.specs.Payment.{monthlyRate, growth, levelPayment, pa
 use Rattle.mortgage.specs.RowRule.{endMonth, due, last, interestOf, principalOf, paymentOf, newBalance, rowOf, nextOf}
 use Rattle.mortgage.specs.Steps.{stepped, written}
 use Rattle.mortgage.specs.Draws.{portion, drawn, filled}
-use Rattle.mortgage.specs.Demand3.{wrote, filed, left, Repaid, Repays}
+use Rattle.mortgage.specs.Demand3.{wrote, filed, left, Repaid, Repays, OpensAndRepays}
 use Rattle.mortgage.proofs.Demand3.{demand3-worked-out}
 
 abbrev number : ℕ → Float
@@ -35,9 +35,19 @@ pub opens : opened terms ≡ accepted loan
 unfolding opened openedWith judged firstOr badAmount badTerm loanOf payment monthlyRate eq div lt ofInt ofBits
 opens = refl
 
-pub draw-to-the-end : due (left loan rooms) ≡ 0
+-- the theorem, of this loan
+repays : Repays terms loan
+unfolding fits lt ofBits
+repays = subst (OpensAndRepays terms) opens (demand3-worked-out terms tt tt tt (omega arith) (omega arith))
+
+pub drawn-to-the-end : due (left loan rooms) ≡ 0
 unfolding left drawn judged firstOr badTerm noRoom pastEnd portion due endMonth stepped nextOf
-draw-to-the-end = refl
+drawn-to-the-end = refl
+
+pub repaid-in-portions : Repaid (terms .principal) 3 (filed loan rooms)
+repaid-in-portions = repays rooms drawn-to-the-end .1
+
+-- "1 4079000000000000 4079000000000000 0000000000000000 4089000000000000", and so on, with the month as a number
 
 pub listing : filed loan rooms ≡ map number
     (0x3ff0_0000_0000_0000 ∷ 0x4079_0000_0000_0000 ∷ 0x4079_0000_0000_0000 ∷ 0 ∷ 0x4089_0000_0000_0000
