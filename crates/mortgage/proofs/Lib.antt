@@ -1,3 +1,4 @@
 pub mod Portions
 pub mod RowLaws
 pub mod DrawCases
+pub mod Tight
