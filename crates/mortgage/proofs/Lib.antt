@@ -1,3 +1,4 @@
 pub mod Portions
+pub mod RowLaws
 pub mod PayingDown
 pub mod Columns

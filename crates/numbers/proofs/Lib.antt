@@ -1,2 +1,8 @@
 -- What the proofs of several functions and of later crates use.
 pub mod Zeros
+pub mod Amounts
+pub mod Order
+pub mod Snap
+pub mod Differences
+pub mod Clamping
+pub mod Repayment
