@@ -4,7 +4,7 @@ use mathlib.Core.Path.{_≡_, refl, sym, ap, _∙_, subst}
 use mathlib.Core.Logic.{_⊎_, inl, inr}
 use mathlib.Core.Bool.{Bool, true, false, not}
 use Prim.Native.Nat.{ℕ, suc, _+_, _-_, _*_, _/_, _%_, _^_, _≤_, _<_, compare, Ordering, Ordering·lt, Ordering·eq, Ordering·gt}
-use native.Mathlib.Nat.{le-trans, le-of-lt, le-of-eq, lt-of-le-of-lt, mod-lt, div-add-mod', mul-assoc, mul-comm, mul-pos, mul-le-mul-right, mul-lt-mul-of-pos-right, mul-div-cancel, pow-suc, zero-lt-suc, eq-zero-or-pos}
+use native.Mathlib.Nat.{le-trans, le-of-lt, le-of-eq, lt-of-le-of-lt, mod-lt, div-add-mod', mul-assoc, mul-comm, mul-pos, mul-le-mul-right, mul-lt-mul-of-pos-right, mul-div-cancel, pow-suc, zero-mul, zero-lt-suc, eq-zero-or-pos}
 use native.Mathlib.Omega.{arith}
 use lib.Arith.{lt-of-le-ne}
 use lib.Dec.{T, isLe, isEq, leb, eqb, leb→le, nleb→lt, eqb→eq, eqb-refl}
@@ -14,7 +14,7 @@ use lib.Ieee.{Float, nan, inf, fin, Format, binary32, binary64, prec, low, size,
 use lib.Ieee.Digits.{size-reaches, back}
 use lib.Ieee.Fits.{nearest-le}
 use lib.Ieee.Nearest.{closest, closest-mono, closest-same, nearest-ge}
-use lib.Ieee.Exact.{HasValue}
+use lib.Ieee.Exact.{HasValue, round-exact}
 use lib.Ieee.Scale.{grid, overflow, round-val}
 use Rattle.numbers.specs.Units.{miss}
 use Rattle.numbers.proofs.Zeros.{round-nothing}
@@ -145,6 +145,13 @@ round-counts f true n a z h l =
   where
     nothing : (k L : ℕ) → k ≤ 0 → 0 * 1 * L ≡ k * 1
     nothing k L h = omega arith
+
+-- what the format holds is rounded to itself
+pub round-held : (f : Format) (u : Bool) (n : ℕ) → (T u → n ≡ 0) → Held f n → Counts f (round f u n (2 ^ low f)) n
+round-held f false n z h =
+    value-counts f (round f false n (2 ^ low f)) n
+    (round-exact f false n (2 ^ low f) (h .digits) (h .shift) (pow-pos (low f)) (h .small) (rw (h .is) at (h .below)) (ap (λ (k : ℕ). k * 2 ^ low f) (h .is)))
+round-held f true n z h = rw (z tt, round-nothing f true (2 ^ low f) (pow-pos (low f))) (λ (t : T true). refl, zero-mul (2 ^ low f))
 
 -- and it misses n by at most n / 2 ^ prec
 part-miss : (P x n : ℕ) → WithinPart P x n → P * miss x n ≤ n
