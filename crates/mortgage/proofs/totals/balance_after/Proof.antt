@@ -5,7 +5,8 @@ use native.Mathlib.Omega.{arith}
 use Rattle.mortgage.specs.Steps.{stepped}
 use Rattle.mortgage.specs.Rows.{after}
 use Rattle.mortgage.specs.Totals.{balanceAfter}
-use Rattle.mortgage.proofs.Columns.{still-due, next-reached, balance-shown}
+use Rattle.mortgage.proofs.RowLaws.{next-due}
+use Rattle.mortgage.proofs.Columns.{next-reached, balance-shown}
 use Rattle.mortgage.proofs.totals.balance_after.Statement.{statement}
 use Rattle.mortgage.proofs.totals.balance_after.Tie as tie
 
@@ -20,7 +21,7 @@ unfolding stepped balanceAfter
 loop-holds c = (refl, refl, omega arith)
 
 any-month-requires : tie.Need-any-month-requires Inv-loop μ-loop
-any-month-requires c κs = still-due _ _ _ (c .before .loop .inv .0) _ (c .before .before .pre) (c .loop-test .taken)
+any-month-requires c κs = next-due _ _ _ _ (c .before .loop .inv .0) (c .loop-test .taken) (c .before .before .pre)
 
 add-k : tie.Need-add-k Inv-loop μ-loop
 add-k c = omega arith

@@ -6,7 +6,8 @@ use Rattle.numbers.specs.Sums.{addedUp}
 use Rattle.mortgage.specs.Steps.{stepped}
 use Rattle.mortgage.specs.Rows.{after}
 use Rattle.mortgage.specs.Totals.{interestAt}
-use Rattle.mortgage.proofs.Columns.{still-due, next-reached, interest-added}
+use Rattle.mortgage.proofs.RowLaws.{next-due}
+use Rattle.mortgage.proofs.Columns.{next-reached, interest-added}
 use Rattle.mortgage.proofs.totals.interest_over.Statement.{statement}
 use Rattle.mortgage.proofs.totals.interest_over.Tie as tie
 
@@ -21,9 +22,7 @@ unfolding stepped addedUp
 loop-holds c = (refl, refl, omega arith)
 
 any-month-requires : tie.Need-any-month-requires Inv-loop μ-loop
-any-month-requires c κs =
-    let head = c .before .loop in
-    still-due _ _ _ (head .inv .0) _ (c .before .before .pre) (c .loop-test .taken)
+any-month-requires c κs = next-due _ _ _ _ (c .before .loop .inv .0) (c .loop-test .taken) (c .before .before .pre)
 
 add-k : tie.Need-add-k Inv-loop μ-loop
 add-k c = omega arith
