@@ -2,3 +2,4 @@ pub mod Portions
 pub mod RowLaws
 pub mod PayingDown
 pub mod Columns
+pub mod BreakEvens
