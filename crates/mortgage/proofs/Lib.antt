@@ -1,5 +1,6 @@
 pub mod Portions
 pub mod RowLaws
+pub mod DrawCases
 pub mod PayingDown
 pub mod Columns
 pub mod BreakEvens

@@ -3,9 +3,10 @@ use mathlib.Core.Path.{_≡_, refl, sym, ap, _∙_}
 use mathlib.Core.Bool.{true}
 use Prim.Native.Nat.{ℕ, zero, suc, _+_, _-_, _<_, _≤_}
 use native.Mathlib.Omega.{arith}
-use lib.Ieee.{Float, binary64, add, sub, mul, lt}
+use lib.Ieee.{Float, binary64, add, sub, mul, lt, fits}
 use borrow.Author.Tests.{eq-eqb, ne-eqb}
 use Rattle.numbers.specs.Clamps.{plusZero, raised, lowered}
+use Rattle.numbers.proofs.Differences.{left-above}
 use Rattle.records.specs.declared.Row.{Row}
 use Rattle.mortgage.specs.declared.Loan.{Loan}
 use Rattle.mortgage.specs.Payment.{monthlyRate}
@@ -77,3 +78,7 @@ other-month l p i s row next h ei ep es er en = (er ∙ rw (ne-eqb _ _ h, es, ep
 -- neither bound changes a principal between 0 and the balance
 pub within : (p b : Float) → lt plusZero p ≡ true → lt p b ≡ true → p ≡ lowered (raised p) b
 within p b h g = rw (h, g)
+
+-- and what it leaves is above 0, so that the column needs no raising
+pub left-as-it-is : (b p : Float) → fits binary64 b ≡ true → fits binary64 p ≡ true → lt plusZero p ≡ true → lt p b ≡ true → sub binary64 b p ≡ raised (sub binary64 b p)
+left-as-it-is b p fb fp h g = rw (left-above binary64 b p fb fp h g)

@@ -45,3 +45,7 @@ refused-by ls v x r h e = refused-alike ls v (r .number) (r .place) (sym (ap ver
 pub accepted-by : {Value : Type 0} (ls : List Line) (v : Value) (x : Verdict) → x ≡ verdict-is.Accepted → verdictOutcome x ≡ verdict ls
     → accepted v ≡ judged ls v
 accepted-by ls v x h e = accepted-alike ls v (sym (ap verdictOutcome h) ∙ e)
+
+-- a refusal of a line that names no list
+pub refused-as : {Value : Type 0} (k : ℕ) (r : Refusal) (o : Outcome Value) → (r .number ≡ k) × (r .place ≡ 0) → refused k 0 ≡ o → refused (r .number) (r .place) ≡ o
+refused-as k r o h e = rw (h .0, h .1) e
