@@ -1,5 +1,6 @@
 pub mod Portions
-pub mod Temporary
+pub mod RowLaws
+pub mod DrawCases
 pub mod Columns
 pub mod DrawLaws
 pub mod Exactly
