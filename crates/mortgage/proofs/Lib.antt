@@ -3,11 +3,11 @@ pub mod Columns
 pub mod RowLaws
 pub mod DrawCases
 pub mod DrawLaws
-pub mod Temporary
 pub mod Sequences
 pub mod RowsRepay
 pub mod Demand3
 pub mod Worked
+pub mod RowColumns
 pub mod PayingDown
 pub mod BreakEvens
 pub mod Exactly

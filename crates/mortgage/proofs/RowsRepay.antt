@@ -20,13 +20,15 @@ use Rattle.numbers.proofs.Order.{le-amount, zero-amount, zero-count}
 use Rattle.numbers.proofs.Clamping.{raised-amount}
 use Rattle.numbers.proofs.Repayment as repayment
 use Rattle.mortgage.specs.declared.Loan.{Loan}
-use Rattle.mortgage.specs.Row.{width, places, principalPlace, balancePlace}
+use Rattle.mortgage.specs.Row.{width, principalPlace, balancePlace}
 use Rattle.mortgage.specs.RowRule.{endMonth, due, last, interestOf, principalOf, newBalance, rowOf, nextOf}
 use Rattle.mortgage.specs.Steps.{stepped}
 use Rattle.mortgage.specs.Rows.{after, rows}
 use Rattle.mortgage.specs.Demand3.{Repaid, principalAt, balanceAt, balanceBefore}
 use Rattle.mortgage.proofs.Columns.{column}
-use Rattle.mortgage.proofs.Temporary.{done-after, end-after, length-rows}
+use Rattle.mortgage.proofs.RowLaws.{done-after, end-after}
+use Rattle.mortgage.proofs.DrawCases.{rowPlaces, wide}
+use Rattle.mortgage.proofs.DrawLaws.{length-rows}
 
 -- ---- a row's numbers, and what the next month starts from
 abbrev balance : Loan → ℕ → Float
@@ -49,8 +51,8 @@ raised-zero = go (lt plusZero plusZero)
     go true = refl
     go false = refl
 
-place : (n : ℕ) (l : Loan) (i j : ℕ) → i < n → j < width → getD (rows n l) (i * width + j) nan ≡ getD (places (rowOf (after i l))) j nan
-place n l i j h w = column nextOf (λ (m : Loan). places (rowOf m)) width (λ (m : Loan). refl) n l i j nan h w
+place : (n : ℕ) (l : Loan) (i j : ℕ) → i < n → j < width → getD (rows n l) (i * width + j) nan ≡ getD (rowPlaces (after i l)) j nan
+place n l i j h w = column nextOf rowPlaces width wide n l i j nan h w
 
 principal-column : (n : ℕ) (l : Loan) (i : ℕ) → i < n → principalAt (rows n l) i ≡ part l i
 unfolding rowOf
