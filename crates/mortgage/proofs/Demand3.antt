@@ -2,7 +2,6 @@
 -- given or worked out, a NaN included; and the numbers that any sequence of draws to its end wrote into its rooms are its rows, and repay it. Assumes nothing.
 use mathlib.Core.Path.{_≡_, ap, _∙_}
 use mathlib.Core.Bool.{false, not}
-use mathlib.Core.List.{List}
 use Prim.Native.Nat.{ℕ, zero, suc, _<_, _≤_}
 use native.Mathlib.Omega.{arith}
 use lib.Dec.{T}
@@ -20,7 +19,7 @@ use Rattle.mortgage.specs.declared.Loan.{Loan}
 use Rattle.mortgage.specs.Payment.{payment, loanOf, openedWith, opened}
 use Rattle.mortgage.specs.RowRule.{endMonth, due}
 use Rattle.mortgage.specs.Rows.{rows}
-use Rattle.mortgage.specs.Demand3.{filed, left, Repaid, Repays, OpensAndRepays}
+use Rattle.mortgage.specs.Demand3.{filed, Repaid, Repays, OpensAndRepays}
 use Rattle.mortgage.proofs.Sequences.{filed-to-the-end}
 use Rattle.mortgage.proofs.RowsRepay.{repaid}
 
