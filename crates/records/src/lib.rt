@@ -1,4 +1,8 @@
 // Records for a host: bytes to values and back, little-endian, one byte of kind and then a fixed body.
+mod fields;
+pub mod row_record;
+pub mod terms_record;
+
 // Kind 1, a loan's terms.
 pub struct Terms {
     pub principal: f64,

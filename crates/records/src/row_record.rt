@@ -1,0 +1,29 @@
+// Kind 3, a row of a schedule: 37 bytes.
+ghost use mathlib.Core.Path.{_≡_};
+ghost use Rattle.records.specs.Kinds.{readRow, rowOutcome};
+use crate::Row;
+use crate::RowRead;
+use crate::fields;
+
+pub const ROW_KIND: u8 = 3;
+
+pub const ROW_SIZE: usize = 37;
+
+// The row that the bytes hold, or refusal 11 for another kind or length.
+pub fn read_row(bytes: &[u8]) -> RowRead
+    ensures { λ r. ⌜ rowOutcome r ≡ readRow (now (bytes .entry)) ⌝ }
+{
+    if bytes.len() != ROW_SIZE {
+        return RowRead::Refused(refusals::refuse(11));
+    }
+    if bytes[0] != ROW_KIND {
+        return RowRead::Refused(refusals::refuse(11));
+    }
+    RowRead::Given(Row {
+        month: fields::whole_at(bytes, 1),
+        payment: fields::float_at(bytes, 5),
+        principal: fields::float_at(bytes, 13),
+        interest: fields::float_at(bytes, 21),
+        balance: fields::float_at(bytes, 29),
+    })
+}
