@@ -1,8 +1,10 @@
 // Kind 3, a row of a schedule: 37 bytes.
 ghost use mathlib.Core.Path.{_≡_};
-ghost use Rattle.records.specs.Kinds.{readRow, rowOutcome};
+ghost use lib.ListN.{length};
+ghost use Rattle.records.specs.Kinds.{rowIn, readRow, rowOutcome};
 use crate::Row;
 use crate::RowRead;
+use crate::bad_record;
 use crate::fields;
 
 pub const ROW_KIND: u8 = 3;
@@ -13,17 +15,21 @@ pub const ROW_SIZE: usize = 37;
 pub fn read_row(bytes: &[u8]) -> RowRead
     ensures { λ r. ⌜ rowOutcome r ≡ readRow (now (bytes .entry)) ⌝ }
 {
-    if bytes.len() != ROW_SIZE {
+    if bad_record(ROW_KIND, ROW_SIZE, bytes) {
         return RowRead::Refused(refusals::refuse(11));
     }
-    if bytes[0] != ROW_KIND {
-        return RowRead::Refused(refusals::refuse(11));
-    }
-    RowRead::Given(Row {
+    RowRead::Given(row_in(bytes))
+}
+
+fn row_in(bytes: &[u8]) -> Row
+    requires { ⌜ length (now bytes) ≡ 37 ⌝ }
+    ensures { λ r. ⌜ r ≡ rowIn (now (bytes .entry)) ⌝ }
+{
+    Row {
         month: fields::whole_at(bytes, 1),
         payment: fields::float_at(bytes, 5),
         principal: fields::float_at(bytes, 13),
         interest: fields::float_at(bytes, 21),
         balance: fields::float_at(bytes, 29),
-    })
+    }
 }
