@@ -2,7 +2,8 @@
 use mathlib.Core.Path.{_≡_}
 use mathlib.Core.List.{List, [], _∷_, _++_}
 use Prim.Native.Nat.{ℕ, zero, suc, _+_, _-_, _*_, _^_, _≤_, _<_}
-use lib.Dec.{T}
+use mathlib.Core.Bool.{cond}
+use lib.Dec.{T, ltb}
 use lib.ListN.{length, take, getD}
 use lib.Ieee.{Float, nan, le}
 use Rattle.numbers.specs.Clamps.{plusZero}
@@ -71,3 +72,8 @@ Repays t l = (rooms : List (List Float)) → due (left l rooms) ≡ 0 → (filed
 abbrev pub OpensAndRepays : Terms → Outcome Loan → Type 0
 OpensAndRepays t (refused k p) = ⊥
 OpensAndRepays t (accepted l) = Repays t l
+
+-- how many of the rooms hold a whole row
+unfoldable pub roomy : List (List Float) → ℕ
+roomy [] = 0
+roomy (room ∷ rooms) = cond (ltb (length room) width) (roomy rooms) (suc (roomy rooms))

@@ -1,2 +1,12 @@
 -- What the proofs of several functions and of later crates use.
 pub mod Zeros
+pub mod Amounts
+pub mod Order
+pub mod Snap
+pub mod Ratios
+pub mod Truncation
+pub mod WholeNumbers
+pub mod Differences
+pub mod Clamping
+pub mod Repayment
+pub mod Tight

@@ -11,11 +11,9 @@ use lib.Ieee.Fits.{and-l, and-i, eq→eqb}
 use lib.Ieee.Back.{whole-unique}
 use Rattle.numbers.specs.Clamps.{plusZero}
 use Rattle.numbers.specs.Sizes.{absolute}
+use Rattle.numbers.proofs.Amounts.{passes}
 use Rattle.numbers.proofs.sizes.absolute_value.Statement.{statement}
 use Rattle.numbers.proofs.sizes.absolute_value.Tie as tie
-
-passes : {b : Bool} → b ≡ true → T b
-passes e = subst T (sym e) tt
 
 below : (x : Float) → lt x plusZero ≡ true → neg x ≡ absolute x
 unfolding lt neg absolute ofBits

@@ -1,0 +1,108 @@
+-- Document 01's 'Figures to hold it to', as far as loans go, proved together as a single table: each is what the definitions compute. Assumes nothing.
+use mathlib.Core.Path.{_≡_, refl}
+use mathlib.Core.Bool.{true, false}
+use mathlib.Core.List.{List, [], _∷_, _++_}
+use Prim.Native.Nat.{ℕ}
+use lib.IntN.{pos}
+use lib.Ieee.{Float, nan, inf, fin, binary64, add, sub, mul, div, neg, lt, le, eq, ofInt, ofBits, toBits}
+use Rattle.numbers.specs.Whole.{nearestWhole, ceiling}
+use Rattle.numbers.specs.Sums.{addedUp}
+use Rattle.refusals.specs.Outcome.{Outcome, refused, accepted, firstOr, judged}
+use Rattle.refusals.specs.Table.{badAmount, badTerm, badNumber, badRecord, noBreakEven}
+use Rattle.elementary.specs.WholePower.{turns, wholePower}
+use Rattle.records.specs.declared.Terms.{Terms}
+use Rattle.records.specs.declared.Row.{Row}
+use Rattle.records.specs.Bytes.{valueOf, wholeAt, floatAt}
+use Rattle.records.specs.Kinds.{readTerms, termsIn}
+use Rattle.mortgage.specs.declared.Loan.{Loan}
+use Rattle.mortgage.specs.Payment.{monthlyRate, growth, levelPayment, payment, monthlyPayment, loanOf, openedWith, opened}
+use Rattle.mortgage.specs.RowRule.{endMonth, due, last, interestOf, principalOf, paymentOf, newBalance, rowOf, nextOf}
+use Rattle.mortgage.specs.Steps.{stepped, written}
+use Rattle.listing.specs.Digits.{hexDigits, decimalDigits, decimal}
+use Rattle.listing.specs.Listing.{spaced, rowLine, footer, refusedLine, loanLines, termsLines, listing}
+
+-- a whole number as a float, and any by its pattern
+abbrev number : ℕ → Float
+number n = ofInt binary64 (pos n)
+
+abbrev pattern : ℕ → Float
+pattern = ofBits binary64
+
+-- a column of a loan's next k rows
+abbrev column : (Row → Float) → ℕ → Loan → List Float
+column of k l = written nextOf (λ (m : Loan). of (rowOf m) ∷ []) k l
+
+abbrev principals : ℕ → Loan → List Float
+principals k l = column (λ (r : Row). r .principal) k l
+
+abbrev payments : ℕ → Loan → List Float
+payments k l = column (λ (r : Row). r .payment) k l
+
+-- ---- the loans of the figures
+abbrev terms : Float → Float → ℕ → Terms
+terms P rate n = record { principal = P; rate = rate; term = n }
+
+abbrev a-thousand : Float → ℕ → Terms
+a-thousand rate n = terms (number 1000) rate n
+
+-- ---- the listing that document 01 prints whole, and the record of it: principal 1200, rate 0, term 3
+abbrev the-record : List ℕ
+the-record = 1 ∷ 0 ∷ 0 ∷ 0 ∷ 0 ∷ 0 ∷ 192 ∷ 146 ∷ 64 ∷ 0 ∷ 0 ∷ 0 ∷ 0 ∷ 0 ∷ 0 ∷ 0 ∷ 0 ∷ 3 ∷ 0 ∷ 0 ∷ 0 ∷ []
+
+-- month payment principal interest balance
+abbrev line0 : List ℕ
+line0 = 109 ∷ 111 ∷ 110 ∷ 116 ∷ 104 ∷ 32 ∷ 112 ∷ 97 ∷ 121 ∷ 109 ∷ 101 ∷ 110 ∷ 116 ∷ 32 ∷ 112 ∷ 114 ∷ 105 ∷ 110 ∷ 99 ∷ 105 ∷ 112 ∷ 97 ∷ 108 ∷ 32 ∷ 105 ∷ 110 ∷ 116 ∷ 101 ∷ 114 ∷ 101 ∷ 115 ∷ 116 ∷ 32 ∷ 98 ∷ 97 ∷ 108 ∷ 97 ∷ 110 ∷ 99 ∷ 101 ∷ 10 ∷ []
+
+-- 1 4079000000000000 4079000000000000 0000000000000000 4089000000000000
+abbrev line1 : List ℕ
+line1 = 49 ∷ 32 ∷ 52 ∷ 48 ∷ 55 ∷ 57 ∷ 48 ∷ 48 ∷ 48 ∷ 48 ∷ 48 ∷ 48 ∷ 48 ∷ 48 ∷ 48 ∷ 48 ∷ 48 ∷ 48 ∷ 32 ∷ 52 ∷ 48 ∷ 55 ∷ 57 ∷ 48 ∷ 48 ∷ 48 ∷ 48 ∷ 48 ∷ 48 ∷ 48 ∷ 48 ∷ 48 ∷ 48 ∷ 48 ∷ 48 ∷ 32 ∷ 48 ∷ 48 ∷ 48 ∷ 48 ∷ 48 ∷ 48 ∷ 48 ∷ 48 ∷ 48 ∷ 48 ∷ 48 ∷ 48 ∷ 48 ∷ 48 ∷ 48 ∷ 48 ∷ 32 ∷ 52 ∷ 48 ∷ 56 ∷ 57 ∷ 48 ∷ 48 ∷ 48 ∷ 48 ∷ 48 ∷ 48 ∷ 48 ∷ 48 ∷ 48 ∷ 48 ∷ 48 ∷ 48 ∷ 10 ∷ []
+
+-- 2 4079000000000000 4079000000000000 0000000000000000 4079000000000000
+abbrev line2 : List ℕ
+line2 = 50 ∷ 32 ∷ 52 ∷ 48 ∷ 55 ∷ 57 ∷ 48 ∷ 48 ∷ 48 ∷ 48 ∷ 48 ∷ 48 ∷ 48 ∷ 48 ∷ 48 ∷ 48 ∷ 48 ∷ 48 ∷ 32 ∷ 52 ∷ 48 ∷ 55 ∷ 57 ∷ 48 ∷ 48 ∷ 48 ∷ 48 ∷ 48 ∷ 48 ∷ 48 ∷ 48 ∷ 48 ∷ 48 ∷ 48 ∷ 48 ∷ 32 ∷ 48 ∷ 48 ∷ 48 ∷ 48 ∷ 48 ∷ 48 ∷ 48 ∷ 48 ∷ 48 ∷ 48 ∷ 48 ∷ 48 ∷ 48 ∷ 48 ∷ 48 ∷ 48 ∷ 32 ∷ 52 ∷ 48 ∷ 55 ∷ 57 ∷ 48 ∷ 48 ∷ 48 ∷ 48 ∷ 48 ∷ 48 ∷ 48 ∷ 48 ∷ 48 ∷ 48 ∷ 48 ∷ 48 ∷ 10 ∷ []
+
+-- 3 4079000000000000 4079000000000000 0000000000000000 0000000000000000
+abbrev line3 : List ℕ
+line3 = 51 ∷ 32 ∷ 52 ∷ 48 ∷ 55 ∷ 57 ∷ 48 ∷ 48 ∷ 48 ∷ 48 ∷ 48 ∷ 48 ∷ 48 ∷ 48 ∷ 48 ∷ 48 ∷ 48 ∷ 48 ∷ 32 ∷ 52 ∷ 48 ∷ 55 ∷ 57 ∷ 48 ∷ 48 ∷ 48 ∷ 48 ∷ 48 ∷ 48 ∷ 48 ∷ 48 ∷ 48 ∷ 48 ∷ 48 ∷ 48 ∷ 32 ∷ 48 ∷ 48 ∷ 48 ∷ 48 ∷ 48 ∷ 48 ∷ 48 ∷ 48 ∷ 48 ∷ 48 ∷ 48 ∷ 48 ∷ 48 ∷ 48 ∷ 48 ∷ 48 ∷ 32 ∷ 48 ∷ 48 ∷ 48 ∷ 48 ∷ 48 ∷ 48 ∷ 48 ∷ 48 ∷ 48 ∷ 48 ∷ 48 ∷ 48 ∷ 48 ∷ 48 ∷ 48 ∷ 48 ∷ 10 ∷ []
+
+-- rows 3 left 0
+abbrev line4 : List ℕ
+line4 = 114 ∷ 111 ∷ 119 ∷ 115 ∷ 32 ∷ 51 ∷ 32 ∷ 108 ∷ 101 ∷ 102 ∷ 116 ∷ 32 ∷ 48 ∷ 10 ∷ []
+
+pub record LoanFigures : Type 0 where
+  -- the period count of 2.5 is 3, of 0.49999999999999994, NaN and -3 it is 0
+  pub two-and-a-half : nearestWhole (pattern 0x4004_0000_0000_0000) ≡ 3
+  pub nearly-a-half : nearestWhole (pattern 0x3fdf_ffff_ffff_ffff) ≡ 0
+  pub no-number : nearestWhole nan ≡ 0
+  pub below-zero : nearestWhole (pattern 0xc008_0000_0000_0000) ≡ 0
+  -- principal 1200, rate 0, term 3, whole
+  pub listed : listing the-record ≡ line0 ++ line1 ++ line2 ++ line3 ++ line4
+  -- P 1000, rate 6, n 1: payment 1500
+  pub one-month : monthlyPayment (a-thousand (number 6) 1) ≡ accepted (number 1500)
+  -- n 2: payment 900, principals 400, 600
+  pub two-months : monthlyPayment (a-thousand (number 6) 2) ≡ accepted (number 900)
+  pub two-principals : principals 2 (loanOf (a-thousand (number 6) 2) (payment (a-thousand (number 6) 2))) ≡ number 400 ∷ number 600 ∷ []
+  -- NaN rate, n 2: principals 0, 1000
+  pub unknown-rate : principals 2 (loanOf (a-thousand nan 2) (payment (a-thousand nan 2))) ≡ number 0 ∷ number 1000 ∷ []
+  -- given payment 100, rate 6, n 2: principals 0, 1000, last payment 1500
+  pub too-small : principals 2 (loanOf (a-thousand (number 6) 2) (number 100)) ≡ number 0 ∷ number 1000 ∷ []
+  pub last-payment : payments 2 (loanOf (a-thousand (number 6) 2) (number 100)) ≡ number 100 ∷ number 1500 ∷ []
+  -- given 2000, rate 0, n 3: payments 2000, 2000, 0
+  pub too-large : payments 3 (loanOf (a-thousand (number 0) 3) (number 2000)) ≡ number 2000 ∷ number 2000 ∷ number 0 ∷ []
+
+pub figures : LoanFigures
+unfolding nearestWhole badAmount badTerm badRecord firstOr judged turns wholePower valueOf wholeAt floatAt readTerms termsIn monthlyRate growth levelPayment payment monthlyPayment loanOf openedWith opened endMonth due last interestOf principalOf paymentOf newBalance rowOf nextOf stepped written hexDigits decimalDigits decimal spaced rowLine footer refusedLine loanLines termsLines listing add sub mul div lt le eq ofInt ofBits toBits
+figures = record {
+  two-and-a-half = refl;
+  nearly-a-half = refl;
+  no-number = refl;
+  below-zero = refl;
+  listed = refl;
+  one-month = refl;
+  two-months = refl;
+  two-principals = refl;
+  unknown-rate = refl;
+  too-small = refl;
+  last-payment = refl;
+  too-large = refl;
+}

@@ -1,0 +1,1 @@
+// The listing of a schedule, from the bytes of a loan's record.
