@@ -1,2 +1,4 @@
 pub mod Bytes
 pub mod Judged
+pub mod Slots
+pub mod Layouts

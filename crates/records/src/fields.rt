@@ -2,7 +2,8 @@
 ghost use mathlib.Core.Path.{_≡_};
 ghost use Prim.Native.Nat.{_+_, _≤_};
 ghost use lib.ListN.{length};
-ghost use Rattle.records.specs.Bytes.{valueOf, field, wholeAt, floatAt};
+ghost use lib.Seq.{sets};
+ghost use Rattle.records.specs.Bytes.{valueOf, bytesOf, field, wholeAt, floatAt, wholeBytes, floatBytes};
 
 fn pair_at(bytes: &[u8], at: usize) -> u16
     requires { ⌜ at + 2 ≤ length (now bytes) ⌝ }
@@ -30,4 +31,35 @@ pub(crate) fn float_at(bytes: &[u8], at: usize) -> f64
     ensures { λ r. ⌜ r ≡ floatAt at (now (bytes .entry)) ⌝ }
 {
     numbers::patterns::float_of(pattern_at(bytes, at))
+}
+
+fn put_pair(out: &mut [u8], at: usize, n: u16)
+    requires { ⌜ at + 2 ≤ length (now out) ⌝ }
+    ensures { λ _. ⌜ now (out .exit) ≡ sets (now (out .entry)) at (bytesOf 2 n) ⌝ }
+{
+    out[at] = (n % 0x100) as u8;
+    out[at + 1] = (n / 0x100) as u8;
+}
+
+pub(crate) fn put_whole(out: &mut [u8], at: usize, n: u32)
+    requires { ⌜ at + 4 ≤ length (now out) ⌝ }
+    ensures { λ _. ⌜ now (out .exit) ≡ sets (now (out .entry)) at (wholeBytes n) ⌝ }
+{
+    put_pair(out, at, (n % 0x1_0000) as u16);
+    put_pair(out, at + 2, (n / 0x1_0000) as u16);
+}
+
+fn put_pattern(out: &mut [u8], at: usize, n: u64)
+    requires { ⌜ at + 8 ≤ length (now out) ⌝ }
+    ensures { λ _. ⌜ now (out .exit) ≡ sets (now (out .entry)) at (bytesOf 8 n) ⌝ }
+{
+    put_whole(out, at, (n % 0x1_0000_0000) as u32);
+    put_whole(out, at + 4, (n / 0x1_0000_0000) as u32);
+}
+
+pub(crate) fn put_float(out: &mut [u8], at: usize, x: f64)
+    requires { ⌜ at + 8 ≤ length (now out) ⌝ }
+    ensures { λ _. ⌜ now (out .exit) ≡ sets (now (out .entry)) at (floatBytes x) ⌝ }
+{
+    put_pattern(out, at, numbers::patterns::pattern_of(x));
 }

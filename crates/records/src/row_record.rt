@@ -1,7 +1,7 @@
 // Kind 3, a row of a schedule: 37 bytes.
 ghost use mathlib.Core.Path.{_≡_};
 ghost use lib.ListN.{length};
-ghost use Rattle.records.specs.Kinds.{rowIn, readRow, rowOutcome};
+ghost use Rattle.records.specs.Kinds.{rowIn, readRow, rowOutcome, rowBytes};
 use crate::Row;
 use crate::RowRead;
 use crate::bad_record;
@@ -32,4 +32,16 @@ fn row_in(bytes: &[u8]) -> Row
         interest: fields::float_at(bytes, 21),
         balance: fields::float_at(bytes, 29),
     }
+}
+
+// The record of the row, in an array of its own length: nothing is refused.
+pub fn write_row(row: Row, out: &mut [u8; 37])
+    ensures { λ _. ⌜ now (out .exit) ≡ rowBytes row ⌝ }
+{
+    out[0] = ROW_KIND;
+    fields::put_whole(out, 1, row.month);
+    fields::put_float(out, 5, row.payment);
+    fields::put_float(out, 13, row.principal);
+    fields::put_float(out, 21, row.interest);
+    fields::put_float(out, 29, row.balance);
 }

@@ -1,7 +1,7 @@
 // Kind 1, a loan's terms: 21 bytes.
 ghost use mathlib.Core.Path.{_≡_};
 ghost use lib.ListN.{length};
-ghost use Rattle.records.specs.Kinds.{termsIn, readTerms, termsOutcome};
+ghost use Rattle.records.specs.Kinds.{termsIn, readTerms, termsOutcome, termsBytes};
 use crate::Terms;
 use crate::TermsRead;
 use crate::bad_record;
@@ -30,4 +30,14 @@ fn terms_in(bytes: &[u8]) -> Terms
         rate: fields::float_at(bytes, 9),
         term: fields::whole_at(bytes, 17),
     }
+}
+
+// The record of the terms, in an array of its own length: nothing is refused.
+pub fn write_terms(terms: Terms, out: &mut [u8; 21])
+    ensures { λ _. ⌜ now (out .exit) ≡ termsBytes terms ⌝ }
+{
+    out[0] = TERMS_KIND;
+    fields::put_float(out, 1, terms.principal);
+    fields::put_float(out, 9, terms.rate);
+    fields::put_whole(out, 17, terms.term);
 }

@@ -2,7 +2,7 @@
 use Prim.Native.Nat.{_+_}
 use native.Mathlib.Omega.{arith}
 use denote.Ref.{now}
-use Rattle.records.proofs.Bytes.{halves, byte-is}
+use Rattle.records.proofs.Bytes.{read-halves, read-byte}
 use borrow.Author.Needs.{needs}
 use Rattle.records.proofs.fields.pair_at.Statement.{statement}
 use Rattle.records.proofs.fields.pair_at.Tie as tie
@@ -34,7 +34,7 @@ returns : tie.Need-returns
 returns c =
     let at = c .before .before .args .at in
     let bytes = now (c .before .before .args .bytes) in
-    halves 1 1 at bytes (omega arith) (byte-is at bytes (omega arith)) (byte-is (at + 1) bytes (omega arith))
+    read-halves 1 1 at bytes (omega arith) (read-byte at bytes (omega arith)) (read-byte (at + 1) bytes (omega arith))
 
 pub pair-at-spec : {M : Type 1} → statement M
 pair-at-spec =

@@ -2,7 +2,7 @@
 use native.Mathlib.Omega.{arith}
 use denote.Ref.{now}
 use Rattle.records.specs.Bytes.{wholeAt}
-use Rattle.records.proofs.Bytes.{halves}
+use Rattle.records.proofs.Bytes.{read-halves}
 use borrow.Author.Needs.{needs}
 use Rattle.records.proofs.fields.whole_at.Statement.{statement}
 use Rattle.records.proofs.fields.whole_at.Tie as tie
@@ -32,7 +32,7 @@ returns : tie.Need-returns
 unfolding wholeAt
 returns c =
     let start = c .before .before .before in
-    halves 2 2 (start .args .at) (now (start .args .bytes)) (omega arith) (c .before .pair-at .ensures) (c .pair-at2 .ensures)
+    read-halves 2 2 (start .args .at) (now (start .args .bytes)) (omega arith) (c .before .pair-at .ensures) (c .pair-at2 .ensures)
 
 pub whole-at-spec : {M : Type 1} → statement M
 whole-at-spec =
