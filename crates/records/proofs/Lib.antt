@@ -1,4 +1,6 @@
 pub mod Bytes
-pub mod Judged
 pub mod Slots
 pub mod Layouts
+pub mod Judged
+pub mod RoundTrip
+pub mod Exactly

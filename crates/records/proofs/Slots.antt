@@ -116,24 +116,24 @@ unfolding written
 length-written [] = refl
 length-written (s ∷ ss) = rw (length-append, length-slot, length-written ss)
 
-pub data AllHeld : List Slot → Type 0 where
-  none : AllHeld []
-  one : {s : Slot} {ss : List Slot} → Held s → AllHeld ss → AllHeld (s ∷ ss)
+abbrev pub Every : (Slot → Type 0) → List Slot → Type 0
+Every P [] = Unit
+Every P (s ∷ ss) = P s × Every P ss
 
 -- reading what was written gives the values
-pub values-again : {ss : List Slot} → AllHeld ss → slotsIn (map fieldOf ss) (written ss) ≡ ss
+pub values-again : (ss : List Slot) → Every Held ss → slotsIn (map fieldOf ss) (written ss) ≡ ss
 unfolding written slotsIn
-values-again none = refl
-values-again (one {s} {ss} h hs) =
+values-again [] held = refl
+values-again (s ∷ ss) held =
     let here : take (sizeOf (fieldOf s)) (slotBytes s ++ written ss) ≡ slotBytes s = take-at (slotBytes s) (written ss) _ (length-slot s) in
     let next : drop (sizeOf (fieldOf s)) (slotBytes s ++ written ss) ≡ written ss = drop-at (slotBytes s) (written ss) _ (length-slot s) in
-    rw (here, next, slot-again s h, values-again hs)
+    rw (here, next, slot-again s (held .0), values-again ss (held .1))
 
-getD-take-below : (n : ℕ) (bytes : List ℕ) → AreBytes bytes → AreBytes (take n bytes)
-getD-take-below zero bytes small i = omega arith
-getD-take-below (suc n) [] small i = omega arith
-getD-take-below (suc n) (b ∷ bytes) small zero = small 0
-getD-take-below (suc n) (b ∷ bytes) small (suc i) = getD-take-below n bytes (λ j. small (suc j)) i
+front-are-bytes : (n : ℕ) (bytes : List ℕ) → AreBytes bytes → AreBytes (take n bytes)
+front-are-bytes zero bytes small i = omega arith
+front-are-bytes (suc n) [] small i = omega arith
+front-are-bytes (suc n) (b ∷ bytes) small zero = small 0
+front-are-bytes (suc n) (b ∷ bytes) small (suc i) = front-are-bytes n bytes (λ j. small (suc j)) i
 
 -- writing what was read gives the bytes, with the one NaN for any NaN
 pub bytes-again : (fs : List Field) (bytes : List ℕ) → AreBytes bytes → length bytes ≡ size fs → written (slotsIn fs bytes) ≡ oneNan fs bytes
@@ -144,9 +144,27 @@ bytes-again (f ∷ fs) bytes small l =
     let here : length (take (sizeOf f) bytes) ≡ sizeOf f = length-take-le (sizeOf f) bytes (omega arith) in
     let next : length (drop (sizeOf f) bytes) ≡ size fs = simp length-drop (omega arith) in
     rw (
-      field-again f (take (sizeOf f) bytes) (getD-take-below (sizeOf f) bytes small) here,
+      field-again f (take (sizeOf f) bytes) (front-are-bytes (sizeOf f) bytes small) here,
       bytes-again fs (drop (sizeOf f) bytes) (λ i. rw getD-drop (small (sizeOf f + i))) next,
     )
+
+-- where no float field holds a NaN, that is the bytes themselves
+abbrev pub NoNan : Slot → Type 0
+NoNan (byte n) = Unit
+NoNan (whole n) = Unit
+NoNan (float x) = isNan x ≡ false
+
+field-stays : (f : Field) (bytes : List ℕ) → NoNan (slotIn f bytes) → oneNanIn f bytes ≡ bytes
+unfolding slotIn oneNanIn
+field-stays byte-field bytes h = refl
+field-stays whole-field bytes h = refl
+field-stays float-field bytes h = rw h
+
+pub bytes-stay : (fs : List Field) (bytes : List ℕ) → Every NoNan (slotsIn fs bytes) → oneNan fs bytes ≡ bytes
+unfolding slotsIn oneNan
+bytes-stay [] bytes h = refl
+bytes-stay (f ∷ fs) bytes h =
+    rw (field-stays f (take (sizeOf f) bytes) (h .0), bytes-stay fs (drop (sizeOf f) bytes) (h .1)) (take-append-drop (sizeOf f) bytes)
 
 -- ---- fields put one after the other
 
