@@ -4,3 +4,4 @@ pub mod Layouts
 pub mod Judged
 pub mod RoundTrip
 pub mod Exactly
+pub mod Tight
