@@ -1,10 +1,10 @@
 -- Numbers and their little-endian bytes: each gives the other back, and a field of j + k bytes is its low j and its high k. Assumes nothing.
-use mathlib.Core.Path.{_≡_, refl, sym, ap, _∙_}
+use mathlib.Core.Path.{_≡_, refl, ap, _∙_}
 use mathlib.Core.List.{List, [], _∷_, _++_}
 use Prim.Native.Nat.{ℕ, zero, suc, _+_, _*_, _/_, _%_, _^_, _≤_, _<_}
 use native.Mathlib.Omega.{arith}
 use native.Mathlib.Nat.{pow-succ', mul-assoc, zero-add, suc-add}
-use lib.ListN.{length, take, drop, getD, set, length-drop}
+use lib.ListN.{length, drop, getD, set, length-drop}
 use lib.Seq.{length-take-le, take-add, drop-drop, drop-cons, sets}
 use Rattle.records.specs.Bytes.{valueOf, bytesOf, field}
 use Rattle.records.specs.OneNan.{AreBytes}

@@ -7,7 +7,7 @@ use native.Mathlib.Omega.{arith}
 use borrow.Author.Tests.{eq-eqb, ne-eqb, eqb-true}
 use lib.Dec.{eqb}
 use lib.ListN.{length, getD}
-use Rattle.refusals.specs.Outcome.{Outcome, refused, accepted, line, firstOr, judged}
+use Rattle.refusals.specs.Outcome.{refused, accepted, line, firstOr, judged}
 use Rattle.refusals.specs.Table.{badRecord}
 
 both : (a b : Bool) → not (a && b) ≡ false → (a ≡ true) × (b ≡ true)

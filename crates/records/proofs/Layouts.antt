@@ -1,13 +1,13 @@
 -- A kind of record as a list of fields with their values, and kinds 1 and 3 so. Assumes nothing.
 use mathlib.Core.Path.{_≡_, refl}
-use mathlib.Core.List.{List, [], _∷_, _++_, map, append-nil, append-assoc}
+use mathlib.Core.List.{List, [], _∷_, map, append-nil, append-assoc}
 use Prim.Native.Nat.{ℕ}
 use lib.ListN.{getD}
 use lib.Seq.{drop-drop, getD-take}
 use native.Mathlib.Omega.{arith}
 use Rattle.records.specs.declared.Terms.{Terms}
 use Rattle.records.specs.declared.Row.{Row}
-use Rattle.records.specs.Bytes.{wholeAt, floatAt, wholeBytes, floatBytes}
+use Rattle.records.specs.Bytes.{wholeAt, floatAt}
 use Rattle.records.specs.Kinds.{termsKind, termsBytes, termsIn, rowKind, rowBytes, rowIn}
 use Rattle.records.specs.OneNan.{Field, termsFields, rowFields}
 use Rattle.records.proofs.Slots.{Slot, byte, whole, float, fieldOf, written, slotIn, slotsIn}

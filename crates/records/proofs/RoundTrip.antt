@@ -2,7 +2,7 @@
 -- kinds 1 and 3 by it. Assumes nothing.
 use mathlib.Core.Path.{_≡_, sym, ap, _∙_, subst}
 use mathlib.Core.Bool.{false}
-use mathlib.Core.List.{List, [], _∷_, map}
+use mathlib.Core.List.{List, [], _∷_}
 use Prim.Native.Nat.{ℕ, _^_, _<_}
 use native.Mathlib.Omega.{arith}
 use lib.Dec.{T}
@@ -13,8 +13,8 @@ use Rattle.refusals.specs.Table.{badRecord}
 use Rattle.records.specs.declared.Terms.{Terms}
 use Rattle.records.specs.declared.Row.{Row}
 use Rattle.records.specs.Kinds.{termsBytes, readTerms, rowBytes, readRow}
-use Rattle.records.specs.OneNan.{AreBytes, Field, oneNan, termsFields, rowFields}
-use Rattle.records.proofs.Slots.{Slot, fieldOf, Held, NoNan, Every, size, written, slotsIn, length-written, values-again, bytes-again, bytes-stay}
+use Rattle.records.specs.OneNan.{AreBytes, oneNan, termsFields, rowFields}
+use Rattle.records.proofs.Slots.{Held, NoNan, Every, size, written, slotsIn, length-written, values-again, bytes-again, bytes-stay}
 use Rattle.records.proofs.Layouts.{Layout, termsLayout, rowLayout}
 use Rattle.records.proofs.Judged.{given, given-only}
 

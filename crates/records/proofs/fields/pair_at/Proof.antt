@@ -1,4 +1,4 @@
--- `records::fields::pair_at` meets its contract. Assumes nothing.
+-- `records::fields::pair_at` meets its contract: a byte is below 256. Assumes nothing.
 use Prim.Native.Nat.{_+_}
 use native.Mathlib.Omega.{arith}
 use denote.Ref.{now}
@@ -7,28 +7,26 @@ use borrow.Author.Needs.{needs}
 use Rattle.records.proofs.fields.pair_at.Statement.{statement}
 use Rattle.records.proofs.fields.pair_at.Tie as tie
 
-shared-slice-read-result : tie.Need-shared-slice-read-result
-shared-slice-read-result c = search needs
+shared-slice-read-low : tie.Need-shared-slice-read-low
+shared-slice-read-low c = search needs
+
+add-high : tie.Need-add-high
+add-high c = search needs
+
+shared-slice-read-high : tie.Need-shared-slice-read-high
+shared-slice-read-high c = search needs
 
 cast-result : tie.Need-cast-result
-cast-result c = omega (arith, c .shared-slice-known .given (c .before .args .at))
-
-add-result : tie.Need-add-result
-add-result c = search needs
-
-shared-slice-read-result-2 : tie.Need-shared-slice-read-result-2
-shared-slice-read-result-2 c = search needs
+cast-result c = let at = c .before .before .args .at in omega (arith, c .shared-slice-known2 .given at, c .shared-slice-known2 .given (at + 1))
 
 cast-result-2 : tie.Need-cast-result-2
-cast-result-2 c = omega (arith, c .shared-slice-known2 .given (c .before .before .args .at + 1))
+cast-result-2 c = let at = c .before .before .args .at in omega (arith, c .shared-slice-known2 .given at, c .shared-slice-known2 .given (at + 1))
 
 mul-result : tie.Need-mul-result
-mul-result c = omega (arith, c .shared-slice-known2 .given (c .before .before .args .at + 1))
+mul-result c = let at = c .before .before .args .at in omega (arith, c .shared-slice-known2 .given at, c .shared-slice-known2 .given (at + 1))
 
-add-result-2 : tie.Need-add-result-2
-add-result-2 c =
-    let at = c .before .before .args .at in
-    omega (arith, c .shared-slice-known2 .given at, c .shared-slice-known2 .given (at + 1))
+add-result : tie.Need-add-result
+add-result c = let at = c .before .before .args .at in omega (arith, c .shared-slice-known2 .given at, c .shared-slice-known2 .given (at + 1))
 
 returns : tie.Need-returns
 returns c =
@@ -40,11 +38,11 @@ pub pair-at-spec : {M : Type 1} → statement M
 pair-at-spec =
     tie.close
     (tie.spec
-    shared-slice-read-result
+    shared-slice-read-low
+    add-high
+    shared-slice-read-high
     cast-result
-    add-result
-    shared-slice-read-result-2
     cast-result-2
     mul-result
-    add-result-2
+    add-result
     returns)

@@ -10,14 +10,14 @@ use Rattle.records.proofs.fields.pattern_at.Tie as tie
 whole-at-requires : tie.Need-whole-at-requires
 whole-at-requires c κs = search needs
 
-cast-result : tie.Need-cast-result
-cast-result c = search needs
-
 add-whole-at : tie.Need-add-whole-at
 add-whole-at c = search needs
 
 whole-at-requires-2 : tie.Need-whole-at-requires-2
 whole-at-requires-2 c κs = search needs
+
+cast-result : tie.Need-cast-result
+cast-result c = search needs
 
 cast-result-2 : tie.Need-cast-result-2
 cast-result-2 c = search needs
@@ -39,9 +39,9 @@ pattern-at-spec =
     tie.close
     (tie.spec
     whole-at-requires
-    cast-result
     add-whole-at
     whole-at-requires-2
+    cast-result
     cast-result-2
     mul-result
     add-result

@@ -7,14 +7,14 @@ use borrow.Author.Needs.{needs}
 use Rattle.records.proofs.fields.put_pair.Statement.{statement}
 use Rattle.records.proofs.fields.put_pair.Tie as tie
 
-cast-out : tie.Need-cast-out
-cast-out c = search needs
+cast-low : tie.Need-cast-low
+cast-low c = search needs
+
+cast-high : tie.Need-cast-high
+cast-high c = search needs
 
 slice-write-out : tie.Need-slice-write-out
 slice-write-out c = search needs
-
-cast-out-2 : tie.Need-cast-out-2
-cast-out-2 c = search needs
 
 add-out : tie.Need-add-out
 add-out c = search needs
@@ -31,4 +31,4 @@ returns c = write-pair (c .args .at) (c .args .n) (now (c .args .out)) (omega ar
 pub put-pair-spec : {M : Type 1} → statement M
 put-pair-spec =
     tie.close
-    (tie.spec cast-out slice-write-out cast-out-2 add-out slice-write-out-2 same-length returns)
+    (tie.spec cast-low cast-high slice-write-out add-out slice-write-out-2 same-length returns)

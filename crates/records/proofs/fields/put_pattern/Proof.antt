@@ -8,17 +8,17 @@ use borrow.Author.Needs.{needs}
 use Rattle.records.proofs.fields.put_pattern.Statement.{statement}
 use Rattle.records.proofs.fields.put_pattern.Tie as tie
 
-cast-put-whole : tie.Need-cast-put-whole
-cast-put-whole c = search needs
+cast-low : tie.Need-cast-low
+cast-low c = search needs
+
+cast-high : tie.Need-cast-high
+cast-high c = search needs
 
 put-whole-requires : tie.Need-put-whole-requires
 put-whole-requires c κs = search needs
 
 add-put-whole : tie.Need-add-put-whole
 add-put-whole c = search needs
-
-cast-put-whole-2 : tie.Need-cast-put-whole-2
-cast-put-whole-2 c = search needs
 
 put-whole-requires-2 : tie.Need-put-whole-requires-2
 put-whole-requires-2 c κs = search needs
@@ -34,16 +34,17 @@ returns c =
     let start = first .before .before .before in
     let n = start .args .n in
     write-halves 4 4 (start .args .at) n (n % 0x1_0000_0000) (n / 0x1_0000_0000) (now (start .args .out)) (omega arith) (omega arith)
-    (first .put-whole .ensures) (second .put-whole2 .ensures)
+    (first .put-whole .ensures)
+    (second .put-whole2 .ensures)
 
 pub put-pattern-spec : {M : Type 1} → statement M
 put-pattern-spec =
     tie.close
     (tie.spec
-    cast-put-whole
+    cast-low
+    cast-high
     put-whole-requires
     add-put-whole
-    cast-put-whole-2
     put-whole-requires-2
     same-length
     returns)

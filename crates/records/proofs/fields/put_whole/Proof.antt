@@ -8,17 +8,17 @@ use borrow.Author.Needs.{needs}
 use Rattle.records.proofs.fields.put_whole.Statement.{statement}
 use Rattle.records.proofs.fields.put_whole.Tie as tie
 
-cast-put-pair : tie.Need-cast-put-pair
-cast-put-pair c = search needs
+cast-low : tie.Need-cast-low
+cast-low c = search needs
+
+cast-high : tie.Need-cast-high
+cast-high c = search needs
 
 put-pair-requires : tie.Need-put-pair-requires
 put-pair-requires c κs = search needs
 
 add-put-pair : tie.Need-add-put-pair
 add-put-pair c = search needs
-
-cast-put-pair-2 : tie.Need-cast-put-pair-2
-cast-put-pair-2 c = search needs
 
 put-pair-requires-2 : tie.Need-put-pair-requires-2
 put-pair-requires-2 c κs = search needs
@@ -34,16 +34,17 @@ returns c =
     let start = first .before .before .before in
     let n = start .args .n in
     write-halves 2 2 (start .args .at) n (n % 0x1_0000) (n / 0x1_0000) (now (start .args .out)) (omega arith) (omega arith)
-    (first .put-pair .ensures) (second .put-pair2 .ensures)
+    (first .put-pair .ensures)
+    (second .put-pair2 .ensures)
 
 pub put-whole-spec : {M : Type 1} → statement M
 put-whole-spec =
     tie.close
     (tie.spec
-    cast-put-pair
+    cast-low
+    cast-high
     put-pair-requires
     add-put-pair
-    cast-put-pair-2
     put-pair-requires-2
     same-length
     returns)

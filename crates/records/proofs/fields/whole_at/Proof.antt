@@ -10,14 +10,14 @@ use Rattle.records.proofs.fields.whole_at.Tie as tie
 pair-at-requires : tie.Need-pair-at-requires
 pair-at-requires c κs = search needs
 
-cast-result : tie.Need-cast-result
-cast-result c = search needs
-
 add-pair-at : tie.Need-add-pair-at
 add-pair-at c = search needs
 
 pair-at-requires-2 : tie.Need-pair-at-requires-2
 pair-at-requires-2 c κs = search needs
+
+cast-result : tie.Need-cast-result
+cast-result c = search needs
 
 cast-result-2 : tie.Need-cast-result-2
 cast-result-2 c = search needs
@@ -39,9 +39,9 @@ whole-at-spec =
     tie.close
     (tie.spec
     pair-at-requires
-    cast-result
     add-pair-at
     pair-at-requires-2
+    cast-result
     cast-result-2
     mul-result
     add-result
