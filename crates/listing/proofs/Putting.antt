@@ -32,6 +32,9 @@ put-behind o at x t = sets-append o at t (x ∷ [])
 pub nothing : (at : ℕ) (o : List ℕ) → Put [] at o at o
 nothing at o = record { place = sym (add-zero at); bytes = refl }
 
+pub same-text : {t u : List ℕ} {at n : ℕ} {o p : List ℕ} → t ≡ u → Put t at o n p → Put u at o n p
+same-text {t} {u} {at} {n} {o} {p} e h = rw e at h
+
 -- one text behind another
 pub then : {t u : List ℕ} {at m n : ℕ} {o p q : List ℕ} → Put t at o m p → Put u m p n q → Put (t ++ u) at o n q
 then {t} {u} {at} {m} {n} {o} {p} {q} a b = record {
