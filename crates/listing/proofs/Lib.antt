@@ -1,2 +1,3 @@
 pub mod Putting
 pub mod DigitLaws
+pub mod Lengths

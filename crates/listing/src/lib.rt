@@ -1,2 +1,3 @@
 // The listing of a loan's schedule, from the bytes of its record.
+mod lines;
 mod text;
