@@ -3,7 +3,7 @@
 use mathlib.Core.Path.{_≡_, refl, sym, ap, _∙_, subst}
 use mathlib.Core.Bool.{Bool, true, false, not, _&&_, _||_}
 use Prim.Native.Nat.{ℕ, zero, suc, _+_, _-_, _*_, _/_, _%_, _^_, _≤_, _<_}
-use native.Mathlib.Nat.{le-trans, le-of-suc-le-suc, lt-of-not-le, not-le-of-lt, mul-div-cancel, mul-le-mul-right, mul-pos, mul-lt-mul-of-pos-right, lt-of-mul-lt-mul-right}
+use native.Mathlib.Nat.{le-trans, le-of-suc-le-suc, lt-of-not-le, not-le-of-lt, mul-div-cancel, mul-le-mul-right, mul-pos, mul-lt-mul-of-pos-right, lt-of-mul-lt-mul-right, eq-of-mul-eq-mul-right}
 use native.Mathlib.Omega.{arith}
 use lib.IntN.{ℤ, pos, negsuc}
 use lib.Dec.{T, leb, ltb, eqb, leb→le, ltb→lt, eqb→eq}
@@ -118,6 +118,13 @@ pub one-count : (f : Format) (x : Float) (n : ℕ) → Counts f x n → count f 
 one-count f nan n c = absurd c
 one-count f (inf s) n c = absurd c
 one-count f (fin s m e) n c = count-is f s m e n (c .1)
+
+-- of the negative ones only -0 is an amount
+pub negative-counts-nothing : (f : Format) (s : Bool) (m : ℕ) (e : ℤ) (n : ℕ) → Counts f (fin s m e) n → T s → n ≡ 0
+negative-counts-nothing f s m e n c t = eq-of-mul-eq-mul-right (down e) (down-pos e) n 0 (none (up e) (2 ^ low f) (down e) (c .0 t) (c .1))
+  where
+    none : (u L d : ℕ) → m ≡ 0 → m * u * L ≡ n * d → n * d ≡ 0 * d
+    none u L d z h = sym h ∙ rw z (omega arith)
 
 -- ---- an amount fits, is finite, and is held
 pub amount-fits : (f : Format) (x : Float) → T (amount f x) → T (fits f x)

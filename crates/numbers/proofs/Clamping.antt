@@ -1,5 +1,5 @@
 -- Clamping: what is raised to zero is an amount or +infinity, and raised to zero and then lowered to a balance it is an amount no more than the balance. Assumes nothing.
-use mathlib.Core.Path.{_≡_, refl, subst}
+use mathlib.Core.Path.{_≡_, refl}
 use mathlib.Core.Logic.{_⊎_, inl, inr}
 use mathlib.Core.Bool.{Bool, true, false, cond}
 use Prim.Native.Nat.{ℕ, _≤_, _<_}

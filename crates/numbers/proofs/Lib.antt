@@ -3,6 +3,10 @@ pub mod Zeros
 pub mod Amounts
 pub mod Order
 pub mod Snap
+pub mod Ratios
+pub mod Truncation
+pub mod WholeNumbers
 pub mod Differences
 pub mod Clamping
 pub mod Repayment
+pub mod Tight

@@ -1,6 +1,6 @@
 -- Repayment: whatever parts are asked of a balance, each raised to 0 and lowered to the balance, the last one the balance itself, every balance and part is an amount,
 -- no balance rises, the last is +0, and the exact sum of the parts misses the opening balance by at most one part in 2 ^ 53 of it for each part but the last. Assumes nothing.
-use mathlib.Core.Path.{_≡_, refl, sym, _∙_}
+use mathlib.Core.Path.{_≡_, sym, _∙_}
 use mathlib.Core.Logic.{inl, inr}
 use Prim.Native.Nat.{ℕ, zero, suc, _+_, _-_, _*_, _^_, _≤_, _<_}
 use native.Mathlib.Nat.{le-refl, le-trans, le-of-lt, eq-or-lt-of-le, add-sub-of-le, mul-le-mul-left}

@@ -2,3 +2,4 @@
 pub mod clamps;
 pub mod patterns;
 pub mod sizes;
+pub mod whole;
