@@ -2,14 +2,14 @@
 -- portions to the end are the rows of one draw, and as many rooms with a whole row as rows are due finish the loan. Assumes nothing.
 use mathlib.Core.Path.{_≡_, refl, sym, ap, _∙_}
 use mathlib.Core.Bool.{Bool, true, false, cond}
-use mathlib.Core.List.{List, [], _∷_, _++_}
-use Prim.Native.Nat.{ℕ, zero, suc, _+_, _-_, _*_, _/_, _<_, _≤_, min}
+use mathlib.Core.List.{List, [], _∷_}
+use Prim.Native.Nat.{ℕ, zero, suc, _+_, _-_, _*_, _≤_}
 use native.Mathlib.Omega.{arith}
 use lib.Dec.{ltb}
 use lib.ListN.{length}
 use lib.Ieee.{Float}
 use borrow.Author.Tests.{ltb-false}
-use Rattle.refusals.specs.Outcome.{Outcome, refused, accepted, firstOr, judged}
+use Rattle.refusals.specs.Outcome.{refused, accepted, firstOr, judged}
 use Rattle.refusals.specs.Table.{badAmount, badTerm}
 use Rattle.records.specs.declared.Terms.{Terms}
 use Rattle.mortgage.specs.declared.Loan.{Loan}
@@ -67,13 +67,19 @@ pub refused-draw-changes-nothing : (l : Loan) (room : List Float) (rooms : List 
 unfolding filed left wrote
 refused-draw-changes-nothing l room rooms k p e = (rw e, rw e)
 
--- ---- a loan of an acceptable term, drawn in portions to the end: the rows of one draw into a room that holds them all
+-- ---- whatever rooms a loan in hand is drawn into to its end, its rows from here to the end are filed
+pub filed-to-the-end : (l : Loan) (rooms : List (List Float)) → due (left l rooms) ≡ 0 → filed l rooms ≡ rows (due l) l
+filed-to-the-end l rooms z =
+    let f = filed-rows l rooms in
+    let e : f .many ≡ due l = omega (arith, filed-is-no-longer-due l rooms) in
+    f .numbers ∙ ap (λ (k : ℕ). rows k l) e
+
+-- for an acceptable term, those of one draw into a room that holds them all
 pub portions-are-one : (l : Loan) (rooms : List (List Float)) (big : List Float) → badTerm (l .term) ≡ false → due (left l rooms) ≡ 0 → due l * width ≤ length big
     → filed l rooms ≡ wrote l big
 portions-are-one l rooms big good z b =
-    let f = filed-rows l rooms in
-    let e : f .many ≡ rowsIn (drawn l big) = omega (arith, rows-drawn l big good, filed-is-no-longer-due l rooms) in
-    f .numbers ∙ ap (λ (k : ℕ). rows k l) e ∙ sym (wrote-is l big)
+    let e : due l ≡ rowsIn (drawn l big) = omega (arith, rows-drawn l big good) in
+    filed-to-the-end l rooms z ∙ ap (λ (k : ℕ). rows k l) e ∙ sym (wrote-is l big)
 
 -- ---- how many draws are enough: the rows due after one
 term-after : (k : ℕ) (l : Loan) → after k l .term ≡ l .term
