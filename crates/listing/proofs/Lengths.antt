@@ -7,6 +7,7 @@ use lib.ListN.{length, length-append}
 use Rattle.records.specs.declared.Row.{Row}
 use Rattle.listing.specs.Digits.{decimal}
 use Rattle.listing.specs.Listing.{lineEnd, spaced, rowLine, footer, refusedLine}
+use Rattle.listing.specs.Portions.{lineRoom}
 use Rattle.listing.proofs.DigitLaws.{length-decimal, length-spaced}
 
 -- ---- a row's line and its parts
@@ -39,3 +40,6 @@ length-footer rows left = omega (arith, length-numbers (114 ∷ 111 ∷ 119 ∷ 
 pub length-refused : (number place : ℕ) → length (refusedLine number place) ≤ 33
 unfolding refusedLine
 length-refused number place = omega (arith, length-numbers (114 ∷ 101 ∷ 102 ∷ 117 ∷ 115 ∷ 101 ∷ 100 ∷ 32 ∷ []) number (32 ∷ 97 ∷ 116 ∷ 32 ∷ []) place, length-decimal number, length-decimal place)
+
+pub length-row : (r : Row) → length (rowLine r) ≤ lineRoom
+length-row r = omega (arith, row-lengths r, length-decimal (r .month))

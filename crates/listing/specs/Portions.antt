@@ -3,8 +3,7 @@ use mathlib.Core.Path.{_≡_}
 use mathlib.Core.List.{List, [], _++_}
 use Prim.Native.Nat.{ℕ, zero, suc, _+_, _*_}
 use lib.ListN.{getD}
-use lib.Ieee.{Float}
-use Rattle.numbers.specs.Clamps.{plusZero}
+use lib.Ieee.{Float, nan}
 use Rattle.records.specs.declared.Row.{Row}
 use Rattle.mortgage.specs.Row.{width}
 use Rattle.listing.specs.Listing.{rowLine}
@@ -13,10 +12,10 @@ use Rattle.listing.specs.Listing.{rowLine}
 unfoldable pub rowAt : ℕ → List Float → ℕ → Row
 rowAt month room place = record {
   month = month;
-  payment = getD room (place + 1) plusZero;
-  principal = getD room (place + 2) plusZero;
-  interest = getD room (place + 3) plusZero;
-  balance = getD room (place + 4) plusZero;
+  payment = getD room (place + 1) nan;
+  principal = getD room (place + 2) nan;
+  interest = getD room (place + 3) nan;
+  balance = getD room (place + 4) nan;
 }
 
 -- the lines of the first k rows of a room, the first of them for the month after those done

@@ -1,63 +1,64 @@
+-- `listing::portions::put_rows` meets its contract. The loop's invariant: the lines of the first k rows are put, each no longer than a line's room. The measure is how many rows are left. Assumes nothing.
+use mathlib.Core.Path.{_≡_, _∙_}
+use Prim.Native.Nat.{_+_, _-_, _*_, _≤_}
+use native.Mathlib.Omega.{arith}
+use lib.ListN.{length}
+use Rattle.listing.specs.Putting.{Put}
+use Rattle.listing.specs.Portions.{roomLines, lineRoom}
+use Rattle.listing.proofs.Putting.{same-room}
+use Rattle.listing.proofs.Lengths.{length-row}
+use Rattle.listing.proofs.RoomLaws.{no-row, next-row}
 use Rattle.listing.proofs.portions.put_rows.Statement.{statement}
 use Rattle.listing.proofs.portions.put_rows.Tie as tie
-use Rattle.listing.proofs.portions.put_rows.Reads as reads
-use Rattle.listing.proofs.portions.put_rows.Lts as lts
-use Rattle.listing.proofs.lines.put_row.Reads as put-row-reads
-use Rattle.listing.proofs.portions.row_at.Reads as row-at-reads
 
 abbrev Inv-loop : tie.InvT-loop
-Inv-loop out₀ at done room count next₀ k₀ out next k = ?
+Inv-loop out₀ at done room count next₀ k₀ out next k =
+    (k ≤ count) × (next ≤ at + k * lineRoom) × Put (roomLines done room k) at out₀ next out
 
 abbrev μ-loop : tie.MeasureT-loop
-μ-loop out₀ at done room count next₀ k₀ out next k = ?
+μ-loop out₀ at done room count next₀ k₀ out next k = count - k
 
--- src/portions.rt:33:5
 loop-holds : tie.Need-loop-holds Inv-loop μ-loop
-loop-holds c = ?
+loop-holds c = (omega arith, omega arith, no-row _ _ _ _)
 
--- src/portions.rt:34:26
 add-row-at : tie.Need-add-row-at Inv-loop μ-loop
-add-row-at c = ?
+add-row-at c = omega arith
 
--- src/portions.rt:34:26
 add-row-at-2 : tie.Need-add-row-at-2 Inv-loop μ-loop
-add-row-at-2 c = ?
+add-row-at-2 c = omega arith
 
--- src/portions.rt:34:46
 cast-row-at : tie.Need-cast-row-at Inv-loop μ-loop
-cast-row-at c = ?
+cast-row-at c = omega arith
 
--- src/portions.rt:34:46
 mul-row-at : tie.Need-mul-row-at Inv-loop μ-loop
-mul-row-at c = ?
+mul-row-at c = omega arith
 
--- src/portions.rt:34:13
 row-at-requires : tie.Need-row-at-requires Inv-loop μ-loop
-row-at-requires c κs = ?
+row-at-requires c κs = omega arith
 
--- src/portions.rt:35:9
 put-row-requires : tie.Need-put-row-requires Inv-loop μ-loop
-put-row-requires c κs = ?
+put-row-requires c κs = omega (arith, length-row (c .before .row-at .result), same-room (c .before .before .before .loop .inv .2))
 
--- src/portions.rt:36:9
 add-k : tie.Need-add-k Inv-loop μ-loop
-add-k c = ?
+add-k c = omega arith
 
--- src/portions.rt:33:5
 loop-less : tie.Need-loop-less Inv-loop μ-loop
-loop-less c = ?
+loop-less c = omega arith
 
--- src/portions.rt:33:5
 loop-again : tie.Need-loop-again Inv-loop μ-loop
-loop-again c = ?
+loop-again c =
+    let p = c .before .before in
+    let r = p .before .before in
+    (omega arith, omega (arith, p .put-row .ensures .place, length-row (r .row-at .result)), next-row _ _ _ (r .row-at .ensures) (r .before .before .loop .inv .2) (p .put-row .ensures))
 
--- src/portions.rt:27:1
 same-length : tie.Need-same-length Inv-loop μ-loop
-same-length c = ?
+same-length c = same-room (c .before .loop .inv .2)
 
--- src/portions.rt:27:1
 returns : tie.Need-returns Inv-loop μ-loop
-returns c = ?
+returns c =
+    let i = c .before .loop .inv in
+    let e : c .before .loop .k ≡ c .before .before .before .before .args .count = omega arith in
+    rw e at (i .2)
 
 pub put-rows-spec : {M : Type 1} → statement M
 put-rows-spec =

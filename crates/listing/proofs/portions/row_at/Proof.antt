@@ -1,60 +1,49 @@
+-- `listing::portions::row_at` meets its contract. Assumes nothing.
+use mathlib.Core.Path.{refl}
 use borrow.Author.Needs.{needs}
+use Rattle.listing.specs.Portions.{rowAt}
 use Rattle.listing.proofs.portions.row_at.Statement.{statement}
 use Rattle.listing.proofs.portions.row_at.Tie as tie
-use Rattle.listing.proofs.portions.row_at.Reads as reads
-use Rattle.listing.proofs.portions.row_at.Lts as lts
 
--- src/portions.rt:19:23
 add-t4 : tie.Need-add-t4
 add-t4 c = search needs
 
--- src/portions.rt:19:18
 mul-t5 : tie.Need-mul-t5
 mul-t5 c = search needs
 
--- src/portions.rt:19:18
 shared-slice-read-t7 : tie.Need-shared-slice-read-t7
 shared-slice-read-t7 c = search needs
 
--- src/portions.rt:20:25
 add-t8 : tie.Need-add-t8
 add-t8 c = search needs
 
--- src/portions.rt:20:20
 mul-t9 : tie.Need-mul-t9
 mul-t9 c = search needs
 
--- src/portions.rt:20:20
 shared-slice-read-t11 : tie.Need-shared-slice-read-t11
 shared-slice-read-t11 c = search needs
 
--- src/portions.rt:21:24
 add-t12 : tie.Need-add-t12
 add-t12 c = search needs
 
--- src/portions.rt:21:19
 mul-t13 : tie.Need-mul-t13
 mul-t13 c = search needs
 
--- src/portions.rt:21:19
 shared-slice-read-t15 : tie.Need-shared-slice-read-t15
 shared-slice-read-t15 c = search needs
 
--- src/portions.rt:22:23
 add-t16 : tie.Need-add-t16
 add-t16 c = search needs
 
--- src/portions.rt:22:18
 mul-t17 : tie.Need-mul-t17
 mul-t17 c = search needs
 
--- src/portions.rt:22:18
 shared-slice-read-t19 : tie.Need-shared-slice-read-t19
 shared-slice-read-t19 c = search needs
 
--- src/portions.rt:13:1
 returns : tie.Need-returns
-returns c = ?
+unfolding rowAt
+returns c = refl
 
 pub row-at-spec : {M : Type 1} → statement M
 row-at-spec =
