@@ -1,1 +1,4 @@
-// The listing of a schedule, from the bytes of a loan's record.
+// The listing of a loan's schedule, from the bytes of its record.
+mod lines;
+mod portions;
+mod text;

@@ -1,0 +1,4 @@
+pub mod Putting
+pub mod DigitLaws
+pub mod Lengths
+pub mod RoomLaws
