@@ -6,3 +6,8 @@ pub mod Patterns
 pub mod Roundings
 pub mod Halvings
 pub mod ExpSteps
+pub mod Sizes
+pub mod Leading
+pub mod Wholes
+pub mod LnSteps
+pub mod LnCases

@@ -18,6 +18,12 @@ opened : (f : Format) (b : ℕ) → ofBits f b ≡ ofFields f (leb (top f) b) (b
 unfolding ofBits
 opened f b = refl
 
+no-nan : (z : Float) (a c : ℕ) → HasValue z false a c → T (not (isNan z))
+unfolding isNan
+no-nan nan a c v = absurd v
+no-nan (inf s) a c v = absurd v
+no-nan (fin s m e) a c v = tt
+
 -- a field above 0 and below the one of the infinities, with digits t
 module _ (f : Format) (x t : ℕ) (X : suc x < ones f) (H : t < hid f) where
   small : suc x * hid f + t < top f
@@ -46,13 +52,13 @@ module _ (f : Format) (x t : ℕ) (X : suc x < ones f) (H : t < hid f) where
   pub pattern-value : HasValue (ofBits f (suc x * hid f + t)) false ((hid f + t) * 2 ^ x) (2 ^ low f)
   pattern-value = subst (λ (z : Float). HasValue z false ((hid f + t) * 2 ^ x) (2 ^ low f)) (sym fields) read
 
-no-nan : (z : Float) (a c : ℕ) → HasValue z false a c → T (not (isNan z))
-unfolding isNan
-no-nan nan a c v = absurd v
-no-nan (inf s) a c v = absurd v
-no-nan (fin s m e) a c v = tt
+  pub pattern-is-no-nan : T (not (nanBits f (suc x * hid f + t)))
+  pattern-is-no-nan = rw (nanBits-is f (suc x * hid f + t)) (no-nan (ofBits f (suc x * hid f + t)) ((hid f + t) * 2 ^ x) (2 ^ low f) pattern-value)
 
 -- ---- binary64: a field alone, shifted to its place
+less : (x : ℕ) → 0 < x → x < 2047 → suc (x - 1) < 2047
+less x h l = omega arith
+
 module _ (x : ℕ) (X : 0 < x) (S : x < 2047) where
   field-shifted : x * 2 ^ 52 % 2 ^ 64 ≡ suc (x - 1) * 2 ^ 52 + 0
   field-shifted = mod-eq-of-lt (wide x S) ∙ whole x X
@@ -65,12 +71,9 @@ module _ (x : ℕ) (X : 0 < x) (S : x < 2047) where
 
   field-value : HasValue (ofBits binary64 (x * 2 ^ 52 % 2 ^ 64)) false (2 ^ 52 * 2 ^ (x - 1)) (2 ^ 1074)
   field-value = rw field-shifted (pattern-value binary64 (x - 1) 0 (less x X S) (pow-pos 52))
-    where
-      less : (x : ℕ) → 0 < x → x < 2047 → suc (x - 1) < 2047
-      less x h l = omega arith
 
   pub field-is-no-nan : T (not (nanBits binary64 (x * 2 ^ 52 % 2 ^ 64)))
-  field-is-no-nan = rw (nanBits-is binary64 (x * 2 ^ 52 % 2 ^ 64)) (no-nan (ofBits binary64 (x * 2 ^ 52 % 2 ^ 64)) (2 ^ 52 * 2 ^ (x - 1)) (2 ^ 1074) field-value)
+  field-is-no-nan = rw field-shifted (pattern-is-no-nan binary64 (x - 1) 0 (less x X S) (pow-pos 52))
 
 -- ---- 2 to the power k and -k
 pub two-to-up : (k : ℕ) → k ≤ 1023 → ofBits binary64 ((1023 + k) * 2 ^ 52 % 2 ^ 64) ≡ twoTo false k
