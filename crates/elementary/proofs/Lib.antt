@@ -11,3 +11,4 @@ pub mod Leading
 pub mod Wholes
 pub mod LnSteps
 pub mod LnCases
+pub mod WholeExponents
