@@ -1,1 +1,14 @@
 pub mod Turns
+pub mod Tables
+pub mod Horners
+pub mod Values
+pub mod Patterns
+pub mod Roundings
+pub mod Halvings
+pub mod ExpSteps
+pub mod Sizes
+pub mod Leading
+pub mod Wholes
+pub mod LnSteps
+pub mod LnCases
+pub mod WholeExponents
