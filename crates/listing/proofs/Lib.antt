@@ -2,3 +2,4 @@ pub mod Putting
 pub mod DigitLaws
 pub mod Lengths
 pub mod RoomLaws
+pub mod PortionLaws
