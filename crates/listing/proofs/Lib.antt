@@ -3,3 +3,4 @@ pub mod DigitLaws
 pub mod Lengths
 pub mod RoomLaws
 pub mod PortionLaws
+pub mod Whole

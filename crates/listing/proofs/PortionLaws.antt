@@ -66,14 +66,14 @@ short l h = ltb-false 1200 (l .term) (second-false (eqb (l .term) 0) (ltb 1200 (
 -- ---- the portion that is drawn into a room of twelve rows and put as lines
 module _ (s : Listed) (space : ℕ) (ok : Listable s space) (room : List Float) (twelve : length room ≡ 60) (d : Portion) (e : drawn (s .loan) room ≡ accepted d) where
   many : d .written ≡ min (due (s .loan)) 12
-  many = as-many (s .loan) room (ok .term) d e ∙ rw twelve
+  many = as-many (s .loan) room (ok .drawable .term) d e ∙ rw twelve
 
   pub portion-fits : (room′ : List Float) → length room′ ≡ length room
       → (d .written * width ≤ length room′) × (s .loan .done + d .written < 2 ^ 32) × (s .at + d .written * lineRoom ≤ space)
   unfolding due
   portion-fits room′ n =
-      let b : endMonth (s .loan) ≤ 1200 = short (s .loan) (ok .term) in
-      (omega (arith, many), omega (arith, many, ok .done), omega (arith, many, ok .lines))
+      let b : endMonth (s .loan) ≤ 1200 = short (s .loan) (ok .drawable .term) in
+      (omega (arith, many), omega (arith, many, ok .drawable .done), omega (arith, many, ok .lines))
 
   pub portion-counts : s .rows + d .written < 2 ^ 32
   portion-counts = omega (arith, many, ok .count)
@@ -85,9 +85,9 @@ module _ (s : Listed) (space : ℕ) (ok : Listable s space) (room : List Float) 
     rw (← many) record {
       rows = refl;
       loan = hands-on (s .loan) room d e;
-      text = same-text (rw f (its-lines (s .loan) room (ok .term) d e)) t;
+      text = same-text (rw f (its-lines (s .loan) room (ok .drawable .term) d e)) t;
     },
-    still-owed (s .loan) room (ok .term) d e,
+    still-owed (s .loan) room (ok .drawable .term) d e,
   )
 
 -- ---- portions that follow one another
@@ -117,8 +117,10 @@ unfolding due
 still-listable {k} {s} {t} {o} {p} ok a h =
     let l = ap due (a .loan) ∙ due-after k (s .loan) in
     record {
-      term = rw (a .loan, term-after k (s .loan)) (ok .term);
-      done = rw (a .loan) (omega (arith, ok .done, end-after k (s .loan), done-after k (s .loan)));
+      drawable = record {
+        term = rw (a .loan, term-after k (s .loan)) (ok .drawable .term);
+        done = rw (a .loan) (omega (arith, ok .drawable .done, end-after k (s .loan), done-after k (s .loan)));
+      };
       count = omega (arith, ok .count, a .rows, l);
       lines = omega (arith, ok .lines, a .text .place, same-room (a .text), l, length-lines k (s .loan));
     }

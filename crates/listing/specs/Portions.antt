@@ -34,10 +34,14 @@ roomLines done room (suc k) = roomLines done room k ++ rowLine (rowAt (done + k 
 abbrev pub lineRoom : ℕ
 lineRoom = 79
 
--- a loan that no draw with room refuses, whose rows due can be counted on and have room for their lines
+-- a loan that no draw with room refuses
+pub record InHand (l : Loan) : Type 0 where
+  pub term : badTerm (l .term) ≡ false
+  pub done : l .done ≤ endMonth l
+
+-- such a loan whose rows due can be counted and have room for their lines
 pub record Listable (s : Listed) (room : ℕ) : Type 0 where
-  pub term : badTerm (s .loan .term) ≡ false
-  pub done : s .loan .done ≤ endMonth (s .loan)
+  pub drawable : InHand (s .loan)
   pub count : s .rows + due (s .loan) < 2 ^ 32
   pub lines : s .at + due (s .loan) * lineRoom ≤ room
 

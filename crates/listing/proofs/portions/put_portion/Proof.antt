@@ -23,7 +23,7 @@ returns : tie.Need-returns
 returns c =
     let d = c .before .before .before in
     let s = d .before .before .before .before in
-    absurd (never-refused (s .args .listed .loan) _ (s .pre .term) (s .pre .done) (omega arith) _ _ (sym (d .draw .ensures .0) ∙ ap drawingOutcome (c .enum-told .given .1)))
+    absurd (never-refused (s .args .listed .loan) _ (s .pre .drawable .term) (s .pre .drawable .done) (omega arith) _ _ (sym (d .draw .ensures .0) ∙ ap drawingOutcome (c .enum-told .given .1)))
 
 slice-aggregate-put-rows : tie.Need-slice-aggregate-put-rows
 slice-aggregate-put-rows c = search needs
