@@ -4,3 +4,4 @@ pub mod DrawCases
 pub mod PayingDown
 pub mod Columns
 pub mod BreakEvens
+pub mod TightTotals
