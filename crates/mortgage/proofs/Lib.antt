@@ -4,4 +4,5 @@ pub mod DrawCases
 pub mod PayingDown
 pub mod Columns
 pub mod BreakEvens
+pub mod Tight
 pub mod TightTotals
