@@ -6,7 +6,7 @@ use Rattle.mortgage.specs.Steps.{stepped}
 use Rattle.mortgage.specs.Rows.{after}
 use Rattle.mortgage.specs.Totals.{balanceAfter}
 use Rattle.mortgage.proofs.RowLaws.{next-due}
-use Rattle.mortgage.proofs.Columns.{next-reached, balance-shown}
+use Rattle.mortgage.proofs.RowColumns.{next-reached, balance-shown}
 use Rattle.mortgage.proofs.totals.balance_after.Statement.{statement}
 use Rattle.mortgage.proofs.totals.balance_after.Tie as tie
 

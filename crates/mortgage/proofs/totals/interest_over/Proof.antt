@@ -7,7 +7,7 @@ use Rattle.mortgage.specs.Steps.{stepped}
 use Rattle.mortgage.specs.Rows.{after}
 use Rattle.mortgage.specs.Totals.{interestAt}
 use Rattle.mortgage.proofs.RowLaws.{next-due}
-use Rattle.mortgage.proofs.Columns.{next-reached, interest-added}
+use Rattle.mortgage.proofs.RowColumns.{next-reached, interest-added}
 use Rattle.mortgage.proofs.totals.interest_over.Statement.{statement}
 use Rattle.mortgage.proofs.totals.interest_over.Tie as tie
 
