@@ -1,5 +1,5 @@
 -- Clamping: what is raised to zero is an amount or +infinity, and raised to zero and then lowered to a balance it is an amount no more than the balance. Assumes nothing.
-use mathlib.Core.Path.{_≡_, refl, subst}
+use mathlib.Core.Path.{_≡_, refl}
 use mathlib.Core.Logic.{_⊎_, inl, inr}
 use mathlib.Core.Bool.{Bool, true, false, cond}
 use Prim.Native.Nat.{ℕ, _≤_, _<_}
@@ -18,6 +18,13 @@ raised-fits f x t = go (lt plusZero x) (above-amount f x plusZero (zero-amount f
     go : (b : Bool) → (T b → T (amount f x) ⊎ (x ≡ inf false)) → T (amount f (cond b x plusZero)) ⊎ (cond b x plusZero ≡ inf false)
     go true h = h tt
     go false h = inl (zero-amount f)
+
+pub raised-zero : raised plusZero ≡ plusZero
+raised-zero = go (lt plusZero plusZero)
+  where
+    go : (b : Bool) → cond b plusZero plusZero ≡ plusZero
+    go true = refl
+    go false = refl
 
 -- raising an amount changes nothing but the sign of -0
 pub raised-amount : (f : Format) (x : Float) → T (amount f x) → T (amount f (raised x)) × (count f (raised x) ≡ count f x)

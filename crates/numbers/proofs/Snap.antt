@@ -4,12 +4,11 @@ use mathlib.Core.Path.{_≡_, refl, sym, ap, _∙_, subst}
 use mathlib.Core.Logic.{_⊎_, inl, inr}
 use mathlib.Core.Bool.{Bool, true, false, not}
 use Prim.Native.Nat.{ℕ, suc, _+_, _-_, _*_, _/_, _%_, _^_, _≤_, _<_, compare, Ordering, Ordering·lt, Ordering·eq, Ordering·gt}
-use native.Mathlib.Nat.{le-trans, le-of-lt, le-of-eq, lt-of-le-of-lt, mod-lt, div-add-mod', mul-assoc, mul-comm, mul-pos, mul-le-mul-right, mul-lt-mul-of-pos-right, mul-div-cancel, pow-suc, zero-mul, zero-lt-suc, eq-zero-or-pos}
+use native.Mathlib.Nat.{le-trans, lt-of-le-of-lt, mod-lt, div-add-mod', mul-assoc, mul-pos, mul-le-mul-right, mul-lt-mul-of-pos-right, mul-div-cancel, pow-suc, zero-mul, zero-lt-suc, eq-zero-or-pos}
 use native.Mathlib.Omega.{arith}
 use lib.Arith.{lt-of-le-ne}
 use lib.Dec.{T, isLe, isEq, leb, eqb, leb→le, nleb→lt, eqb→eq, eqb-refl}
 use lib.Pow.{pow-add, pow-pos}
-use lib.IntN.{pos}
 use lib.Ieee.{Float, nan, inf, fin, Format, binary32, binary64, prec, low, size, nearest, round}
 use lib.Ieee.Digits.{size-reaches, back}
 use lib.Ieee.Fits.{nearest-le}
@@ -90,6 +89,17 @@ snap-within p n = go (leb (size n) (suc p)) (leb→le (size n) (suc p)) (nleb→
         let reached : 2 ^ p * 2 ^ j ≤ n = rw (← pow-add 2 p j) (size-reaches n (p + j) (kept (size n) (k tt))) in
         grown (closest n (2 ^ j) * 2 ^ j) (2 ^ j) (2 ^ p) (2 ^ suc p) (closest-within-half n (2 ^ j) (pow-pos j)) reached (pow-suc 2 p)
 
+part-miss : (P x n : ℕ) → WithinPart P x n → P * miss x n ≤ n
+part-miss P x n w = go (x - n) (n - x) (omega arith) (elim (eq-zero-or-pos (x - n)) [ inl z ↦ inl z | inr l ↦ inr (omega arith) ])
+  where
+    go : (d e : ℕ) → x + e ≡ n + d → (d ≡ 0) ⊎ (e ≡ 0) → P * (d + e) ≤ n
+    go d e h (inl z) = omega (arith, ap (λ (y : ℕ). P * y) h, ap (λ (y : ℕ). P * y) z)
+    go d e h (inr z) = omega (arith, ap (λ (y : ℕ). P * y) h, ap (λ (y : ℕ). P * y) z)
+
+pub snap-miss : (f : Format) (n : ℕ) → 2 ^ prec f * miss (snap (prec f) n) n ≤ n
+snap-miss binary32 n = part-miss (2 ^ 24) (snap 24 n) n (snap-within 23 n)
+snap-miss binary64 n = part-miss (2 ^ 53) (snap 53 n) n (snap-within 52 n)
+
 -- ---- where n is at most q * 2 ^ j, with a q of p digits, so is `snap p n`
 pub snap-no-more : (p n q j : ℕ) → q < 2 ^ p → n ≤ q * 2 ^ j → snap p n ≤ q * 2 ^ j
 unfolding snap
@@ -138,7 +148,8 @@ pub round-counts : (f : Format) (u : Bool) (n a : ℕ) → (T u → n ≡ 0) →
 round-counts f false n a z h l =
     let s : snap (prec f) n ≤ a = rw (h .is) (snap-no-more (prec f) n (h .digits) (h .shift) (h .small) (rw (h .is) at l)) in
     let g : grid f n (2 ^ low f) < overflow f = rw (grid-is-snap f n) (lt-of-le-of-lt s (h .below)) in
-    (subst (λ (k : ℕ). Counts f (round f false n (2 ^ low f)) k) (grid-is-snap f n) (value-counts f (round f false n (2 ^ low f)) (grid f n (2 ^ low f)) (round-val f n (2 ^ low f) g)), s)
+    let c : Counts f (round f false n (2 ^ low f)) (grid f n (2 ^ low f)) = value-counts f (round f false n (2 ^ low f)) (grid f n (2 ^ low f)) (round-val f n (2 ^ low f) g) in
+    (subst (λ (k : ℕ). Counts f (round f false n (2 ^ low f)) k) (grid-is-snap f n) c, s)
 round-counts f true n a z h l =
     let s : snap (prec f) n ≤ 0 = rw (z tt) (snap-no-more (prec f) 0 0 0 (pow-pos (prec f)) (omega arith)) in
     (rw (z tt, round-nothing f true (2 ^ low f) (pow-pos (low f))) (λ (t : T true). refl, nothing (snap (prec f) 0) (2 ^ low f) (rw (z tt) at s)), le-trans s (omega arith))
@@ -152,15 +163,3 @@ round-held f false n z h =
     value-counts f (round f false n (2 ^ low f)) n
     (round-exact f false n (2 ^ low f) (h .digits) (h .shift) (pow-pos (low f)) (h .small) (rw (h .is) at (h .below)) (ap (λ (k : ℕ). k * 2 ^ low f) (h .is)))
 round-held f true n z h = rw (z tt, round-nothing f true (2 ^ low f) (pow-pos (low f))) (λ (t : T true). refl, zero-mul (2 ^ low f))
-
--- and it misses n by at most n / 2 ^ prec
-part-miss : (P x n : ℕ) → WithinPart P x n → P * miss x n ≤ n
-part-miss P x n w = go (x - n) (n - x) (omega arith) (elim (eq-zero-or-pos (x - n)) [ inl z ↦ inl z | inr l ↦ inr (omega arith) ])
-  where
-    go : (d e : ℕ) → x + e ≡ n + d → (d ≡ 0) ⊎ (e ≡ 0) → P * (d + e) ≤ n
-    go d e h (inl z) = omega (arith, ap (λ (y : ℕ). P * y) h, ap (λ (y : ℕ). P * y) z)
-    go d e h (inr z) = omega (arith, ap (λ (y : ℕ). P * y) h, ap (λ (y : ℕ). P * y) z)
-
-pub snap-miss : (f : Format) (n : ℕ) → 2 ^ prec f * miss (snap (prec f) n) n ≤ n
-snap-miss binary32 n = part-miss (2 ^ 24) (snap 24 n) n (snap-within 23 n)
-snap-miss binary64 n = part-miss (2 ^ 53) (snap 53 n) n (snap-within 52 n)

@@ -33,7 +33,10 @@ bound-units = refl
 
 pub too-large : (g : ℕ → ℕ → ℕ) → OfRatio g → (x : Float) → fits binary64 x ≡ true → lt bound x ≡ true → wholeBy g largest x ≡ largest
 too-large g r x t l = elim (above-amount binary64 x bound bound-amount (passes t) (passes l)) [
-  | inl p ↦ by-count g largest r binary64 x (units x) (counts binary64 x p) ∙ capped (le-trans (le-div-iff-mul-le (pow-pos 1074) .1 (le-of-lt (rw bound-units at (lt-amount binary64 bound x bound-amount p .0 (passes l))))) (r .no-less (units x) (2 ^ 1074) (pow-pos 1074)))
+  | inl p ↦
+      let above : largest * 2 ^ 1074 < units x = rw bound-units at (lt-amount binary64 bound x bound-amount p .0 (passes l)) in
+      let cut-above : largest ≤ units x / 2 ^ 1074 = le-div-iff-mul-le (pow-pos 1074) .1 (le-of-lt above) in
+      by-count g largest r binary64 x (units x) (counts binary64 x p) ∙ capped (le-trans cut-above (r .no-less (units x) (2 ^ 1074) (pow-pos 1074)))
   | inr e ↦ rw e
 ]
   where
@@ -66,6 +69,7 @@ halves a L l = ap (λ (k : ℕ). k / 2) (sym (add-mul-div-right a 1 l) ∙ ap (�
     once L = omega arith
 
 module _ {x : Float} (u : UpToBound x) where
+  -- 8,589,934,591 is one more than twice the largest
   twice-below : (n L c : ℕ) → n ≤ largest * L → 8589934591 ≤ c → 0 < L → n * 2 < c * L
   twice-below n L c h g l = omega (arith, mul-le-mul-right L g)
 
@@ -92,7 +96,10 @@ module _ {x : Float} (u : UpToBound x) where
     cut-twice-small = rw cut-twice (div-lt-iff-lt-mul (pow-pos 1074) .1 (twice-below (units x) (2 ^ 1074) 8589934591 (u .at-most) (lit≤ tt) (pow-pos 1074)))
 
     pub nearest-by-twice : (k + 1) / 2 ≡ nearestWhole x
-    nearest-by-twice = capped (nearestTo (units x) (2 ^ 1074)) (ap (λ (q : ℕ). (q + 1) / 2) cut-twice ∙ halves (units x * 2) (2 ^ 1074) (pow-pos 1074)) cut-twice-small ∙ sym (nearest-is x ∙ by-count nearestTo largest nearest-of-ratio binary64 x (units x) (counts binary64 x (u .is-amount)))
+    nearest-by-twice =
+        let e : (k + 1) / 2 ≡ nearestTo (units x) (2 ^ 1074) = ap (λ (q : ℕ). (q + 1) / 2) cut-twice ∙ halves (units x * 2) (2 ^ 1074) (pow-pos 1074) in
+        capped (nearestTo (units x) (2 ^ 1074)) e cut-twice-small
+        ∙ sym (nearest-is x ∙ by-count nearestTo largest nearest-of-ratio binary64 x (units x) (counts binary64 x (u .is-amount)))
       where
         capped : (q : ℕ) → (k + 1) / 2 ≡ q → k < 8589934591 → (k + 1) / 2 ≡ min q largest
         capped q e h = omega arith

@@ -3,7 +3,7 @@ use mathlib.Core.Path.{_≡_, refl, sym, ap, _∙_}
 use mathlib.Core.Bool.{Bool, true, false, not, _&&_, cond}
 use Prim.Native.Nat.{ℕ, _*_, _-_, _<_}
 use native.Mathlib.Nat.{zero-mul, mul-pos, lt-irrefl, sub-self, zero-lt-suc}
-use lib.IntN.{ℤ, pos}
+use lib.IntN.{pos}
 use lib.Dec.{T, ltb, ltb→lt}
 use lib.Ieee.{Float, nan, inf, fin, Format, binary32, binary64, up, down, round, sum, sub, ofBits}
 use lib.Ieee.Fits.{down-pos}
