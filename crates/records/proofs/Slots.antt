@@ -85,7 +85,7 @@ pattern-of-nan : toBits binary64 nan ≡ 0x7ff8_0000_0000_0000
 unfolding toBits
 pattern-of-nan = refl
 
--- the pattern n is written as itself or as the one NaN's
+-- a float's bytes, read and written again, are the same, or the one NaN's
 float-again : (bytes : List ℕ) → AreBytes bytes → length bytes ≡ 8
     → bytesOf 8 (toBits binary64 (ofBits binary64 (valueOf bytes))) ≡ oneNanIn float-field bytes
 unfolding oneNanIn
