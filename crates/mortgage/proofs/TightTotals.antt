@@ -1,6 +1,6 @@
 -- How tight the promises of totals, savings and break-even are: whatever a function is given, any two results that its contract allows are equal. Assumes nothing.
 use mathlib.Core.Path.{_≡_, sym, ap, _∙_}
-use Rattle.numbers.proofs.Tight.{Determined}
+use Rattle.numbers.proofs.Determined.{Determined}
 use Rattle.refusals.proofs.OneToOne.{same-refusal, number-one-to-one, count-one-to-one}
 use Rattle.mortgage.specs.declared.savings.SavingsAnswer.{SavingsAnswer}
 use Rattle.mortgage.specs.declared.savings.SavingsAnswer.the-variants as savings-is
