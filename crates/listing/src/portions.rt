@@ -8,7 +8,6 @@ ghost use Rattle.refusals.specs.Outcome.{accepted};
 ghost use Rattle.listing.specs.Listing.{loanLines};
 ghost use Rattle.listing.specs.Putting.{Put};
 ghost use Rattle.listing.specs.Portions.{rowAt, roomLines, lineRoom, InHand, Listable, Lists};
-
 use mortgage::Loan;
 use mortgage::draws::Drawing;
 use mortgage::draws::WIDTH;
