@@ -1,4 +1,6 @@
 // Yield curves: interpolation, discount factors, forwards, par yields, Nelson-Siegel.
+pub mod curve;
 pub mod fitting;
 pub mod nelson_siegel;
+pub mod segments;
 pub mod solve;

@@ -1,0 +1,3 @@
+pub mod Serving
+pub mod KnotLine
+pub mod CurveLines
