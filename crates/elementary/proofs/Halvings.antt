@@ -69,6 +69,10 @@ not-beneath m e h = plain (m * up e) (down e) (ltb-false (177 * 4 * down e) (m *
     plain : (a d : ℕ) → a * 1 ≤ 177 * 4 * d → a ≤ 708 * d
     plain a d h = omega arith
 
+pub in-range : (s : Bool) (m : ℕ) (e : ℤ) → lt highest (fin s m e) ≡ false → lt (fin s m e) lowest ≡ false → m * up e ≤ 709 * down e
+in-range false m e a b = not-above m e a
+in-range true m e a b = le-trans (not-beneath m e b) (mul-le-mul-right (down e) (lit≤ tt))
+
 plus-not-below : (m : ℕ) (e : ℤ) → below (fin false m e) ≡ false
 unfolding below
 plus-not-below m e =
@@ -86,5 +90,12 @@ few-halvings (fin false m e) a b = rw (plus-not-below m e) (le-trans (halvings-a
 few-halvings (fin true m e) a b = either (below (fin true m e)) (le-trans (halvings-at-most 708 true m e (not-beneath m e b)) (le-of-eq at-708))
   where
     either : (b : Bool) {n : ℕ} → n ≤ 1021 → n ≤ cond b 1022 1023
+    either true h = omega arith
+    either false h = omega arith
+
+pub at-most-1023 : (x : Float) → lt highest x ≡ false → lt x lowest ≡ false → halvings x ≤ 1023
+at-most-1023 x a b = either (below x) (few-halvings x a b)
+  where
+    either : (b : Bool) {n : ℕ} → n ≤ cond b 1022 1023 → n ≤ 1023
     either true h = omega arith
     either false h = omega arith

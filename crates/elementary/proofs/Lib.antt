@@ -12,3 +12,6 @@ pub mod Wholes
 pub mod LnSteps
 pub mod LnCases
 pub mod WholeExponents
+pub mod Bounds
+pub mod ExpFinite
+pub mod Laws
