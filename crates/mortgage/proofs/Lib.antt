@@ -1,1 +1,11 @@
 pub mod Portions
+pub mod RowLaws
+pub mod DrawCases
+pub mod Temporary
+pub mod Columns
+pub mod DrawLaws
+pub mod Exactly
+pub mod Sequences
+pub mod RowsRepay
+pub mod Demand3
+pub mod Worked
