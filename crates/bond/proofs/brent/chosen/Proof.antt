@@ -1,45 +1,43 @@
+-- `bond::brent::chosen` meets its contract: the fraction is taken where it is tried and safe. Assumes nothing.
+use mathlib.Core.Path.{_≡_, sym, _∙_}
+use mathlib.Core.Logic.{⊎-elim}
+use mathlib.Core.Bool.{false, _&&_}
+use Rattle.bond.specs.Brent.{safe, tried, chosen}
 use borrow.Author.Needs.{needs}
 use Rattle.bond.proofs.brent.chosen.Statement.{statement}
 use Rattle.bond.proofs.brent.chosen.Tie as tie
-use Rattle.bond.proofs.brent.chosen.Reads as reads
-use Rattle.bond.proofs.brent.chosen.Lts as lts
-use Rattle.bond.proofs.brent.fraction_up.Reads as fraction-up-reads
-use Rattle.bond.proofs.brent.midway.Reads as midway-reads
-use Rattle.bond.proofs.brent.safe.Reads as safe-reads
-use Rattle.bond.proofs.brent.tried.Reads as tried-reads
-use Rattle.bond.proofs.brent.with_steps.Reads as with-steps-reads
 
--- src/brent.rt:178:8
+-- where the arms meet, the fraction is not tried or not safe
+not-taken : (c : tie.Joined1) → (tried (c .before .before .args .search) && safe (c .before .before .args .search)) ≡ false
+not-taken c =
+    ⊎-elim (λ w. rw (sym (c .before .tried .ensures), w .0 .taken, sym (w .2 .ensures), w .3 .left)) (λ w. rw (sym (c .before .tried .ensures), w .left))
+    (c .if1 .came)
+
 tried-requires : tie.Need-tried-requires
 tried-requires c κs = search needs
 
--- src/brent.rt:179:13
 fraction-up-requires : tie.Need-fraction-up-requires
 fraction-up-requires c κs = search needs
 
--- src/brent.rt:180:12
 safe-requires : tie.Need-safe-requires
-safe-requires c κs = search needs
+safe-requires c κs = c .fraction-up .ensures
 
--- src/brent.rt:181:13
 with-steps-requires : tie.Need-with-steps-requires
 with-steps-requires c κs = search needs
 
--- src/brent.rt:181:13
 returns : tie.Need-returns
-returns c = ?
+unfolding chosen
+returns c = let e = c .before .before .before in c .with-steps .ensures ∙ rw (e .before .fraction-up .ensures, sym (e .before .before .before .tried .ensures), e .before .before .if1 .taken, sym (e .safe .ensures), c .before .before .if2 .taken)
 
--- src/brent.rt:184:9
 midway-requires : tie.Need-midway-requires
 midway-requires c κs = search needs
 
--- src/brent.rt:185:5
 with-steps-requires-2 : tie.Need-with-steps-requires-2
 with-steps-requires-2 c κs = search needs
 
--- src/brent.rt:175:1
 returns-2 : tie.Need-returns-2
-returns-2 c = ?
+unfolding chosen
+returns-2 c = c .with-steps2 .ensures ∙ rw (c .before .midway .ensures, not-taken (c .before .before))
 
 pub chosen-spec : {M : Type 1} → statement M
 chosen-spec =

@@ -1,21 +1,19 @@
+-- `bond::brent::fraction_up` meets its contract: the test picks the signs. Assumes nothing.
+use Rattle.bond.specs.Brent.{riseUp, runUp}
 use borrow.Author.Needs.{needs}
 use Rattle.bond.proofs.brent.fraction_up.Statement.{statement}
 use Rattle.bond.proofs.brent.fraction_up.Tie as tie
-use Rattle.bond.proofs.brent.fraction_up.Reads as reads
-use Rattle.bond.proofs.brent.fraction_up.Lts as lts
-use Rattle.bond.proofs.brent.fraction_of.Reads as fraction-of-reads
 
--- src/brent.rt:125:9
 fraction-of-requires : tie.Need-fraction-of-requires
 fraction-of-requires c κs = search needs
 
--- src/brent.rt:127:9
 returns : tie.Need-returns
-returns c = ?
+unfolding riseUp runUp
+returns c = let e = c .before .before .before .fraction-of .ensures in rw (e, rw e at (c .before .if1 .taken))
 
--- src/brent.rt:122:1
 returns-2 : tie.Need-returns-2
-returns-2 c = ?
+unfolding riseUp runUp
+returns-2 c = let e = c .before .before .before .fraction-of .ensures in rw (e, rw e at (c .before .if1 .left))
 
 pub fraction-up-spec : {M : Type 1} → statement M
 fraction-up-spec = tie.close (tie.spec fraction-of-requires returns returns-2)

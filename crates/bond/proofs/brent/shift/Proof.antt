@@ -1,35 +1,30 @@
+-- `bond::brent::shift` meets its contract: the tests pick the case. Assumes nothing.
+use mathlib.Core.Path.{sym}
+use Rattle.bond.specs.Brent.{shift}
 use borrow.Author.Needs.{needs}
 use Rattle.bond.proofs.brent.shift.Statement.{statement}
 use Rattle.bond.proofs.brent.shift.Tie as tie
-use Rattle.bond.proofs.brent.shift.Reads as reads
-use Rattle.bond.proofs.brent.shift.Lts as lts
-use Rattle.bond.proofs.brent.midway.Reads as midway-reads
-use Rattle.bond.proofs.brent.width.Reads as width-reads
-use Rattle.numbers.proofs.sizes.absolute_value.Reads as absolute-value-reads
 
--- src/brent.rt:192:9
 width-requires : tie.Need-width-requires
 width-requires c κs = search needs
 
--- src/brent.rt:193:8
 absolute-value-requires : tie.Need-absolute-value-requires
 absolute-value-requires c κs = search needs
 
--- src/brent.rt:194:9
 returns : tie.Need-returns
-returns c = ?
+unfolding shift
+returns c = rw (sym (c .before .before .width .ensures), sym (c .before .absolute-value .ensures), c .if1 .taken)
 
--- src/brent.rt:196:8
 midway-requires : tie.Need-midway-requires
 midway-requires c κs = search needs
 
--- src/brent.rt:197:9
 returns-2 : tie.Need-returns-2
-returns-2 c = ?
+unfolding shift
+returns-2 c = let e = c .before .before in rw (sym (e .before .before .width .ensures), sym (e .before .absolute-value .ensures), e .if1 .left, sym (c .before .midway .ensures), c .if2 .taken)
 
--- src/brent.rt:189:1
 returns-3 : tie.Need-returns-3
-returns-3 c = ?
+unfolding shift
+returns-3 c = let e = c .before .before in rw (sym (e .before .before .width .ensures), sym (e .before .absolute-value .ensures), e .if1 .left, sym (c .before .midway .ensures), c .if2 .left)
 
 pub shift-spec : {M : Type 1} → statement M
 shift-spec =

@@ -1,21 +1,18 @@
+-- `bond::durations::flow_worth` meets its contract: the test picks the flow. Assumes nothing.
+use mathlib.Core.Path.{refl}
+use borrow.Author.Tests.{eq-eqb, ne-eqb}
 use borrow.Author.Needs.{needs}
 use Rattle.bond.proofs.durations.flow_worth.Statement.{statement}
 use Rattle.bond.proofs.durations.flow_worth.Tie as tie
-use Rattle.bond.proofs.durations.flow_worth.Reads as reads
-use Rattle.bond.proofs.durations.flow_worth.Lts as lts
-use Rattle.elementary.proofs.whole_power.whole_power.Reads as whole-power-reads
 
--- src/durations.rt:25:9
 whole-power-requires : tie.Need-whole-power-requires
 whole-power-requires c κs = search needs
 
--- src/durations.rt:27:9
 returns : tie.Need-returns
-returns c = ?
+returns c = rw (c .before .whole-power .ensures, eq-eqb _ _ (c .if1 .taken))
 
--- src/durations.rt:22:1
 returns-2 : tie.Need-returns-2
-returns-2 c = ?
+returns-2 c = rw (c .before .whole-power .ensures, ne-eqb _ _ (c .if1 .left))
 
 pub flow-worth-spec : {M : Type 1} → statement M
 flow-worth-spec = tie.close (tie.spec whole-power-requires returns returns-2)

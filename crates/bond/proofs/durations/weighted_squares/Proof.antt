@@ -1,52 +1,46 @@
+-- `bond::durations::weighted_squares` meets its contract: each turn of the loop adds one term. Assumes nothing.
+use mathlib.Core.Path.{_≡_, refl, _∙_}
+use Prim.Native.Nat.{ℕ, _-_, _≤_}
+use native.Mathlib.Omega.{arith}
+use Rattle.numbers.specs.Sums.{addedUp}
+use Rattle.bond.proofs.FlowSums.{added-next, squareTerm, square-term, squares-are}
+use borrow.Author.Needs.{needs}
 use Rattle.bond.proofs.durations.weighted_squares.Statement.{statement}
 use Rattle.bond.proofs.durations.weighted_squares.Tie as tie
-use Rattle.bond.proofs.durations.weighted_squares.Reads as reads
-use Rattle.bond.proofs.durations.weighted_squares.Lts as lts
-use Rattle.bond.proofs.bonds.period_coupon.Reads as period-coupon-reads
-use Rattle.bond.proofs.bonds.periods.Reads as periods-reads
-use Rattle.bond.proofs.durations.flow_worth.Reads as flow-worth-reads
 
 abbrev Inv-loop : tie.InvT-loop
-Inv-loop r coupon count growth face sum₀ t₀ sum t = ?
+Inv-loop r coupon count growth face sum₀ t₀ sum t = (sum ≡ addedUp (squareTerm face coupon count growth) t) × (t ≤ count)
 
 abbrev μ-loop : tie.MeasureT-loop
-μ-loop r coupon count growth face sum₀ t₀ sum t = ?
+μ-loop r coupon count growth face sum₀ t₀ sum t = count - t
 
--- src/durations.rt:54:9
 period-coupon-requires : tie.Need-period-coupon-requires Inv-loop μ-loop
-period-coupon-requires c κs = ?
+period-coupon-requires c κs = search needs
 
--- src/durations.rt:55:9
 periods-requires : tie.Need-periods-requires Inv-loop μ-loop
-periods-requires c κs = ?
+periods-requires c κs = search needs
 
--- src/durations.rt:60:5
 loop-holds : tie.Need-loop-holds Inv-loop μ-loop
-loop-holds c = ?
+unfolding addedUp
+loop-holds c = (refl, omega arith)
 
--- src/durations.rt:61:9
 add-t : tie.Need-add-t Inv-loop μ-loop
-add-t c = ?
+add-t c = record { fits = omega arith }
 
--- src/durations.rt:62:20
 int-to-float-time : tie.Need-int-to-float-time Inv-loop μ-loop
-int-to-float-time c = ?
+int-to-float-time c = search needs
 
--- src/durations.rt:63:43
 flow-worth-requires : tie.Need-flow-worth-requires Inv-loop μ-loop
-flow-worth-requires c κs = ?
+flow-worth-requires c κs = search needs
 
--- src/durations.rt:60:5
 loop-less : tie.Need-loop-less Inv-loop μ-loop
-loop-less c = ?
+loop-less c = omega arith
 
--- src/durations.rt:60:5
 loop-again : tie.Need-loop-again Inv-loop μ-loop
-loop-again c = ?
+loop-again c = let n = c .before .before in let l = n .before .loop in (added-next _ _ _ (l .t) (l .inv .0) (square-term _ _ _ _ _ (l .t) (c .flow-worth .ensures)), omega arith)
 
--- src/durations.rt:51:1
 returns : tie.Need-returns Inv-loop μ-loop
-returns c = ?
+returns c = let l = c .before .loop in let e = c .before .before in let end : l .t ≡ e .periods .result = omega arith in l .inv .0 ∙ rw end (squares-are _ _ _ _ (e .before .period-coupon .ensures) (e .periods .ensures))
 
 pub weighted-squares-spec : {M : Type 1} → statement M
 weighted-squares-spec =

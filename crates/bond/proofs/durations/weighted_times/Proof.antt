@@ -1,57 +1,49 @@
+-- `bond::durations::weighted_times` meets its contract: each turn of the loop adds one term. Assumes nothing.
+use mathlib.Core.Path.{_≡_, refl, _∙_}
+use Prim.Native.Nat.{ℕ, _-_, _≤_}
+use native.Mathlib.Omega.{arith}
+use Rattle.numbers.specs.Sums.{addedUp}
+use Rattle.bond.proofs.FlowSums.{added-next, timeTerm, time-term, times-are}
+use borrow.Author.Needs.{needs}
 use Rattle.bond.proofs.durations.weighted_times.Statement.{statement}
 use Rattle.bond.proofs.durations.weighted_times.Tie as tie
-use Rattle.bond.proofs.durations.weighted_times.Reads as reads
-use Rattle.bond.proofs.durations.weighted_times.Lts as lts
-use Rattle.bond.proofs.bonds.coupons_a_year.Reads as coupons-a-year-reads
-use Rattle.bond.proofs.bonds.period_coupon.Reads as period-coupon-reads
-use Rattle.bond.proofs.bonds.periods.Reads as periods-reads
-use Rattle.bond.proofs.durations.flow_worth.Reads as flow-worth-reads
 
 abbrev Inv-loop : tie.InvT-loop
-Inv-loop r coupon count m growth face sum₀ t₀ sum t = ?
+Inv-loop r coupon count m growth face sum₀ t₀ sum t = (sum ≡ addedUp (timeTerm face coupon count m growth) t) × (t ≤ count)
 
 abbrev μ-loop : tie.MeasureT-loop
-μ-loop r coupon count m growth face sum₀ t₀ sum t = ?
+μ-loop r coupon count m growth face sum₀ t₀ sum t = count - t
 
--- src/durations.rt:36:9
 period-coupon-requires : tie.Need-period-coupon-requires Inv-loop μ-loop
-period-coupon-requires c κs = ?
+period-coupon-requires c κs = search needs
 
--- src/durations.rt:37:9
 periods-requires : tie.Need-periods-requires Inv-loop μ-loop
-periods-requires c κs = ?
+periods-requires c κs = search needs
 
--- src/durations.rt:38:9
 coupons-a-year-requires : tie.Need-coupons-a-year-requires Inv-loop μ-loop
-coupons-a-year-requires c κs = ?
+coupons-a-year-requires c κs = search needs
 
--- src/durations.rt:43:5
 loop-holds : tie.Need-loop-holds Inv-loop μ-loop
-loop-holds c = ?
+unfolding addedUp
+loop-holds c = (refl, omega arith)
 
--- src/durations.rt:44:9
 add-t : tie.Need-add-t Inv-loop μ-loop
-add-t c = ?
+add-t c = record { fits = omega arith }
 
--- src/durations.rt:45:21
 int-to-float-sum : tie.Need-int-to-float-sum Inv-loop μ-loop
-int-to-float-sum c = ?
+int-to-float-sum c = search needs
 
--- src/durations.rt:45:36
 flow-worth-requires : tie.Need-flow-worth-requires Inv-loop μ-loop
-flow-worth-requires c κs = ?
+flow-worth-requires c κs = search needs
 
--- src/durations.rt:43:5
 loop-less : tie.Need-loop-less Inv-loop μ-loop
-loop-less c = ?
+loop-less c = omega arith
 
--- src/durations.rt:43:5
 loop-again : tie.Need-loop-again Inv-loop μ-loop
-loop-again c = ?
+loop-again c = let n = c .before .before in let l = n .before .loop in (added-next _ _ _ (l .t) (l .inv .0) (time-term _ _ _ _ _ _ (l .t) (c .flow-worth .ensures)), omega arith)
 
--- src/durations.rt:33:1
 returns : tie.Need-returns Inv-loop μ-loop
-returns c = ?
+returns c = let l = c .before .loop in let e = c .before .before in let end : l .t ≡ e .before .periods .result = omega arith in l .inv .0 ∙ rw end (times-are _ _ _ _ (e .before .before .period-coupon .ensures) (e .before .periods .ensures) _ (e .coupons-a-year .ensures))
 
 pub weighted-times-spec : {M : Type 1} → statement M
 weighted-times-spec =

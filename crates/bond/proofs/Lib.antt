@@ -1,0 +1,2 @@
+pub mod FlowSums
+pub mod Passes

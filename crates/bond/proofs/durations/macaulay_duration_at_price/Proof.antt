@@ -1,0 +1,42 @@
+use borrow.Author.Needs.{needs}
+use Rattle.bond.proofs.durations.macaulay_duration_at_price.Statement.{statement}
+use Rattle.bond.proofs.durations.macaulay_duration_at_price.Tie as tie
+use Rattle.bond.proofs.durations.macaulay_duration_at_price.Reads as reads
+use Rattle.bond.proofs.durations.macaulay_duration_at_price.Lts as lts
+use Rattle.bond.proofs.durations.macaulay_duration.Reads as macaulay-duration-reads
+use Rattle.bond.proofs.yields.yield_to_maturity.Reads as yield-to-maturity-reads
+
+-- src/durations.rt:151:9
+yield-to-maturity-requires : tie.Need-yield-to-maturity-requires
+yield-to-maturity-requires c κs = search needs
+
+-- src/durations.rt:152:23
+enum-known-found : tie.Need-enum-known-found
+enum-known-found c = search needs
+
+-- src/durations.rt:153:9
+enum-told : tie.Need-enum-told
+enum-told c = search needs
+
+-- src/durations.rt:153:9
+returns : tie.Need-returns
+returns c = ?
+
+-- src/durations.rt:155:5
+macaulay-duration-requires : tie.Need-macaulay-duration-requires
+macaulay-duration-requires c κs = search needs
+
+-- src/durations.rt:148:1
+returns-2 : tie.Need-returns-2
+returns-2 c = ?
+
+pub macaulay-duration-at-price-spec : {M : Type 1} → statement M
+macaulay-duration-at-price-spec =
+    tie.close
+    (tie.spec
+    yield-to-maturity-requires
+    enum-known-found
+    enum-told
+    returns
+    macaulay-duration-requires
+    returns-2)
