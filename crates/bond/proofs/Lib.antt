@@ -1,2 +1,5 @@
 pub mod FlowSums
 pub mod Passes
+pub mod BracketTests
+pub mod MoreLines
+pub mod AtPrice

@@ -85,19 +85,19 @@ fn one_sided(search: Search) -> bool
     search.fa * search.fb > 0.0
 }
 
-// The yield in the first bracket that its ends do not refuse, or line 12.
+// The yield in the first bracket whose ends err to both sides; where neither has such ends, line 12.
 fn yield_in_bracket(bond: Bond, market: f64) -> Number
     ensures { λ r. ⌜ numberOutcome r ≡ judged (line 12 (noBracket bond market) ∷ []) (yieldOf bond market) ⌝ }
 {
     let narrow = start_in(bond, market, 0.001, 0.999);
-    if !one_sided(narrow) {
-        return Number::Given(searched(bond, market, narrow));
+    if one_sided(narrow) {
+        let wide = start_in(bond, market, 1e-6, 50.0);
+        if one_sided(wide) {
+            return Number::Refused(refusals::refuse(12));
+        }
+        return Number::Given(searched(bond, market, wide));
     }
-    let wide = start_in(bond, market, 1e-6, 50.0);
-    if one_sided(wide) {
-        return Number::Refused(refusals::refuse(12));
-    }
-    Number::Given(searched(bond, market, wide))
+    Number::Given(searched(bond, market, narrow))
 }
 
 pub fn yield_to_maturity(market: f64, bond: Bond) -> Number

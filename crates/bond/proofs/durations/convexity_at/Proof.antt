@@ -1,46 +1,35 @@
+-- `bond::durations::convexity_at` meets its contract: the test picks the case. Assumes nothing.
+use mathlib.Core.Path.{sym}
+use Rattle.bond.specs.Durations.{worthless, convexityOf}
 use borrow.Author.Needs.{needs}
 use Rattle.bond.proofs.durations.convexity_at.Statement.{statement}
 use Rattle.bond.proofs.durations.convexity_at.Tie as tie
-use Rattle.bond.proofs.durations.convexity_at.Reads as reads
-use Rattle.bond.proofs.durations.convexity_at.Lts as lts
-use Rattle.bond.proofs.bonds.coupons_a_year.Reads as coupons-a-year-reads
-use Rattle.bond.proofs.durations.next_to_nothing.Reads as next-to-nothing-reads
-use Rattle.bond.proofs.durations.weighted_squares.Reads as weighted-squares-reads
-use Rattle.bond.proofs.price.period_rate.Reads as period-rate-reads
-use Rattle.bond.proofs.price.price_at.Reads as price-at-reads
-use Rattle.elementary.proofs.whole_power.whole_power.Reads as whole-power-reads
 
--- src/durations.rt:95:9
 price-at-requires : tie.Need-price-at-requires
 price-at-requires c κs = search needs
 
--- src/durations.rt:96:8
 next-to-nothing-requires : tie.Need-next-to-nothing-requires
 next-to-nothing-requires c κs = search needs
 
--- src/durations.rt:97:9
 returns : tie.Need-returns
-returns c = ?
+unfolding convexityOf worthless
+returns c = rw (sym (c .before .before .price-at .ensures), sym (c .before .next-to-nothing .ensures), c .if1 .taken)
 
--- src/durations.rt:99:9
 period-rate-requires : tie.Need-period-rate-requires
 period-rate-requires c κs = search needs
 
--- src/durations.rt:100:9
 coupons-a-year-requires : tie.Need-coupons-a-year-requires
 coupons-a-year-requires c κs = search needs
 
--- src/durations.rt:101:5
 weighted-squares-requires : tie.Need-weighted-squares-requires
 weighted-squares-requires c κs = search needs
 
--- src/durations.rt:101:42
 whole-power-requires : tie.Need-whole-power-requires
 whole-power-requires c κs = search needs
 
--- src/durations.rt:92:1
 returns-2 : tie.Need-returns-2
-returns-2 c = ?
+unfolding convexityOf worthless
+returns-2 c = let e = c .before .before .before .before in rw (c .whole-power .ensures, c .before .weighted-squares .ensures, c .before .before .coupons-a-year .ensures, c .before .before .before .period-rate .ensures, sym (e .before .before .price-at .ensures), sym (e .before .next-to-nothing .ensures), e .if1 .left)
 
 pub convexity-at-spec : {M : Type 1} → statement M
 convexity-at-spec =

@@ -1,36 +1,29 @@
+-- `bond::durations::macaulay_at` meets its contract: the test picks the case. Assumes nothing.
+use mathlib.Core.Path.{sym}
+use Rattle.bond.specs.Durations.{worthless, macaulayOf}
 use borrow.Author.Needs.{needs}
 use Rattle.bond.proofs.durations.macaulay_at.Statement.{statement}
 use Rattle.bond.proofs.durations.macaulay_at.Tie as tie
-use Rattle.bond.proofs.durations.macaulay_at.Reads as reads
-use Rattle.bond.proofs.durations.macaulay_at.Lts as lts
-use Rattle.bond.proofs.durations.next_to_nothing.Reads as next-to-nothing-reads
-use Rattle.bond.proofs.durations.weighted_times.Reads as weighted-times-reads
-use Rattle.bond.proofs.price.period_rate.Reads as period-rate-reads
-use Rattle.bond.proofs.price.price_at.Reads as price-at-reads
 
--- src/durations.rt:79:9
 price-at-requires : tie.Need-price-at-requires
 price-at-requires c κs = search needs
 
--- src/durations.rt:80:8
 next-to-nothing-requires : tie.Need-next-to-nothing-requires
 next-to-nothing-requires c κs = search needs
 
--- src/durations.rt:81:9
 returns : tie.Need-returns
-returns c = ?
+unfolding macaulayOf worthless
+returns c = rw (sym (c .before .before .price-at .ensures), sym (c .before .next-to-nothing .ensures), c .if1 .taken)
 
--- src/durations.rt:83:26
 period-rate-requires : tie.Need-period-rate-requires
 period-rate-requires c κs = search needs
 
--- src/durations.rt:83:5
 weighted-times-requires : tie.Need-weighted-times-requires
 weighted-times-requires c κs = search needs
 
--- src/durations.rt:76:1
 returns-2 : tie.Need-returns-2
-returns-2 c = ?
+unfolding macaulayOf worthless
+returns-2 c = let e = c .before .before in rw (c .weighted-times .ensures, c .before .period-rate .ensures, sym (e .before .before .price-at .ensures), sym (e .before .next-to-nothing .ensures), e .if1 .left)
 
 pub macaulay-at-spec : {M : Type 1} → statement M
 macaulay-at-spec =

@@ -1,34 +1,32 @@
+-- `bond::durations::macaulay_duration` meets its contract: the verdict on the bond is its answer's. Assumes nothing.
+use mathlib.Core.Path.{ap, _∙_}
+use Rattle.refusals.specs.Outcome.{accepted}
+use Rattle.refusals.proofs.Verdicts.{refused-by, accepted-by}
+use Rattle.bond.specs.Bonds.{bondLines}
+use Rattle.bond.specs.Durations.{macaulayOf, macaulayDuration}
 use borrow.Author.Needs.{needs}
 use Rattle.bond.proofs.durations.macaulay_duration.Statement.{statement}
 use Rattle.bond.proofs.durations.macaulay_duration.Tie as tie
-use Rattle.bond.proofs.durations.macaulay_duration.Reads as reads
-use Rattle.bond.proofs.durations.macaulay_duration.Lts as lts
-use Rattle.bond.proofs.bonds.judge_bond.Reads as judge-bond-reads
-use Rattle.bond.proofs.durations.macaulay_at.Reads as macaulay-at-reads
 
--- src/durations.rt:113:11
 judge-bond-requires : tie.Need-judge-bond-requires
 judge-bond-requires c κs = search needs
 
--- src/durations.rt:114:26
 enum-known-refusal : tie.Need-enum-known-refusal
 enum-known-refusal c = search needs
 
--- src/durations.rt:115:44
 enum-told : tie.Need-enum-told
 enum-told c = search needs
 
--- src/durations.rt:115:44
 macaulay-at-requires : tie.Need-macaulay-at-requires
 macaulay-at-requires c κs = search needs
 
--- src/durations.rt:110:1
 returns : tie.Need-returns
-returns c = ?
+unfolding macaulayDuration
+returns c = let a = c .before .before .before .before .args in refused-by (bondLines (a .bond) (a .ytm)) (macaulayOf (a .bond) (a .ytm)) _ _ (c .before .refusal .given .1) (c .before .before .before .judge-bond .ensures)
 
--- src/durations.rt:110:1
 returns-2 : tie.Need-returns-2
-returns-2 c = ?
+unfolding macaulayDuration
+returns-2 c = let e = c .before in let a = e .before .before .before .args in ap accepted (c .macaulay-at .ensures) ∙ accepted-by (bondLines (a .bond) (a .ytm)) (macaulayOf (a .bond) (a .ytm)) _ (e .enum-told .given .1) (e .before .before .judge-bond .ensures)
 
 pub macaulay-duration-spec : {M : Type 1} → statement M
 macaulay-duration-spec =

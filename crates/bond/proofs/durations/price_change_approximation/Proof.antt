@@ -1,34 +1,32 @@
+-- `bond::durations::price_change_approximation` meets its contract: the verdict on the bond is its answer's. Assumes nothing.
+use mathlib.Core.Path.{ap, _∙_}
+use Rattle.refusals.specs.Outcome.{accepted}
+use Rattle.refusals.proofs.Verdicts.{refused-by, accepted-by}
+use Rattle.bond.specs.Bonds.{bondLines}
+use Rattle.bond.specs.Durations.{changeOf, priceChange}
 use borrow.Author.Needs.{needs}
 use Rattle.bond.proofs.durations.price_change_approximation.Statement.{statement}
 use Rattle.bond.proofs.durations.price_change_approximation.Tie as tie
-use Rattle.bond.proofs.durations.price_change_approximation.Reads as reads
-use Rattle.bond.proofs.durations.price_change_approximation.Lts as lts
-use Rattle.bond.proofs.bonds.judge_bond.Reads as judge-bond-reads
-use Rattle.bond.proofs.durations.change_at.Reads as change-at-reads
 
--- src/durations.rt:141:11
 judge-bond-requires : tie.Need-judge-bond-requires
 judge-bond-requires c κs = search needs
 
--- src/durations.rt:142:26
 enum-known-refusal : tie.Need-enum-known-refusal
 enum-known-refusal c = search needs
 
--- src/durations.rt:143:44
 enum-told : tie.Need-enum-told
 enum-told c = search needs
 
--- src/durations.rt:143:44
 change-at-requires : tie.Need-change-at-requires
 change-at-requires c κs = search needs
 
--- src/durations.rt:138:1
 returns : tie.Need-returns
-returns c = ?
+unfolding priceChange
+returns c = let a = c .before .before .before .before .args in refused-by (bondLines (a .bond) (a .ytm)) (changeOf (a .bond) (a .ytm) (a .delta)) _ _ (c .before .refusal .given .1) (c .before .before .before .judge-bond .ensures)
 
--- src/durations.rt:138:1
 returns-2 : tie.Need-returns-2
-returns-2 c = ?
+unfolding priceChange
+returns-2 c = let e = c .before in let a = e .before .before .before .args in ap accepted (c .change-at .ensures) ∙ accepted-by (bondLines (a .bond) (a .ytm)) (changeOf (a .bond) (a .ytm) (a .delta)) _ (e .enum-told .given .1) (e .before .before .judge-bond .ensures)
 
 pub price-change-approximation-spec : {M : Type 1} → statement M
 price-change-approximation-spec =

@@ -1,52 +1,39 @@
+-- `bond::yields::yield_in_bracket` meets its contract: the tests pick the bracket. Assumes nothing.
+use mathlib.Core.Path.{refl}
+use Rattle.bond.proofs.BracketTests.{in-narrow, in-wide, in-neither}
 use borrow.Author.Needs.{needs}
 use Rattle.bond.proofs.yields.yield_in_bracket.Statement.{statement}
 use Rattle.bond.proofs.yields.yield_in_bracket.Tie as tie
-use Rattle.bond.proofs.yields.yield_in_bracket.Reads as reads
-use Rattle.bond.proofs.yields.yield_in_bracket.Lts as lts
-use Rattle.bond.proofs.yields.one_sided.Reads as one-sided-reads
-use Rattle.bond.proofs.yields.searched.Reads as searched-reads
-use Rattle.bond.proofs.yields.start_in.Reads as start-in-reads
-use Rattle.refusals.proofs.refuse.Reads as refuse-reads
 
--- src/yields.rt:92:9
 start-in-requires : tie.Need-start-in-requires
 start-in-requires c κs = search needs
 
--- src/yields.rt:93:9
 one-sided-requires : tie.Need-one-sided-requires
 one-sided-requires c κs = search needs
 
--- src/yields.rt:94:30
-searched-requires : tie.Need-searched-requires
-searched-requires c κs = search needs
-
--- src/yields.rt:94:9
-returns : tie.Need-returns
-returns c = ?
-
--- src/yields.rt:96:9
 start-in-requires-2 : tie.Need-start-in-requires-2
 start-in-requires-2 c κs = search needs
 
--- src/yields.rt:97:8
 one-sided-requires-2 : tie.Need-one-sided-requires-2
 one-sided-requires-2 c κs = search needs
 
--- src/yields.rt:98:32
 refuse-requires : tie.Need-refuse-requires
 refuse-requires c κs = search needs
 
--- src/yields.rt:98:9
-returns-2 : tie.Need-returns-2
-returns-2 c = ?
+returns : tie.Need-returns
+returns c = let t = c .before .before in let e = t .before .before in let s = e .before in in-neither _ _ _ _ _ _ (s .before .start-in .ensures) (s .one-sided .ensures) (e .if1 .taken) (t .before .start-in2 .ensures) (t .one-sided2 .ensures) _ (c .before .if2 .taken) (c .refuse .ensures)
 
--- src/yields.rt:100:19
+searched-requires : tie.Need-searched-requires
+searched-requires c κs = search needs
+
+returns-2 : tie.Need-returns-2
+returns-2 c = let t = c .before .before in let e = t .before .before in let s = e .before in in-wide _ _ _ _ _ _ (s .before .start-in .ensures) (s .one-sided .ensures) (e .if1 .taken) (t .before .start-in2 .ensures) (t .one-sided2 .ensures) _ (c .before .if2 .left) (c .searched .ensures)
+
 searched-requires-2 : tie.Need-searched-requires-2
 searched-requires-2 c κs = search needs
 
--- src/yields.rt:89:1
 returns-3 : tie.Need-returns-3
-returns-3 c = ?
+returns-3 c = let s = c .before .before in in-narrow _ _ _ _ _ (s .before .start-in .ensures) (s .one-sided .ensures) (c .before .if1 .left) (c .searched2 .ensures)
 
 pub yield-in-bracket-spec : {M : Type 1} → statement M
 yield-in-bracket-spec =
@@ -54,11 +41,11 @@ yield-in-bracket-spec =
     (tie.spec
     start-in-requires
     one-sided-requires
-    searched-requires
-    returns
     start-in-requires-2
     one-sided-requires-2
     refuse-requires
+    returns
+    searched-requires
     returns-2
     searched-requires-2
     returns-3)
