@@ -1,9 +1,8 @@
 -- Demand 3, proved: every loan whose principal is a finite number of the machine, zero or more, and whose term is from 1 to 1,200, is opened, at any rate and with any payment,
 -- given or worked out, a NaN included; and the numbers that any sequence of draws to its end wrote into its rooms are its rows, and repay it. Assumes nothing.
-use mathlib.Core.Path.{_≡_, refl, sym, ap, _∙_, subst}
-use mathlib.Core.Bool.{Bool, true, false, not, _||_}
-use mathlib.Core.List.{List}
-use Prim.Native.Nat.{ℕ, zero, suc, _+_, _-_, _<_, _≤_}
+use mathlib.Core.Path.{_≡_, ap, _∙_}
+use mathlib.Core.Bool.{false, not}
+use Prim.Native.Nat.{ℕ, zero, suc, _<_, _≤_}
 use native.Mathlib.Omega.{arith}
 use lib.Dec.{T}
 use lib.Ieee.{Float, binary64, fits, lt}
@@ -13,25 +12,18 @@ use borrow.Author.Tests.{le-ltb, ne-eqb}
 use Rattle.numbers.specs.Clamps.{plusZero}
 use Rattle.numbers.proofs.Amounts.{amount}
 use Rattle.numbers.proofs.Order.{amount-by-tests}
-use Rattle.refusals.specs.Outcome.{Outcome, accepted, firstOr, judged}
+use Rattle.refusals.specs.Outcome.{accepted, firstOr, judged}
 use Rattle.refusals.specs.Table.{badAmount, badTerm}
 use Rattle.records.specs.declared.Terms.{Terms}
 use Rattle.mortgage.specs.declared.Loan.{Loan}
 use Rattle.mortgage.specs.Payment.{payment, loanOf, openedWith, opened}
 use Rattle.mortgage.specs.RowRule.{endMonth, due}
 use Rattle.mortgage.specs.Rows.{rows}
-use Rattle.mortgage.specs.Demand3.{filed, left, Repaid, Repays, OpensAndRepays}
-use Rattle.mortgage.proofs.Sequences.{filed-rows, filed-is-no-longer-due}
+use Rattle.mortgage.specs.Demand3.{filed, Repaid, Repays, OpensAndRepays}
+use Rattle.mortgage.proofs.Sequences.{filed-to-the-end}
 use Rattle.mortgage.proofs.RowsRepay.{repaid}
 
--- whatever rooms a loan in hand is drawn into to its end, its rows from here to the end are filed
-pub filed-to-the-end : (l : Loan) (rooms : List (List Float)) → due (left l rooms) ≡ 0 → filed l rooms ≡ rows (due l) l
-filed-to-the-end l rooms z =
-    let f = filed-rows l rooms in
-    let e : f .many ≡ due l = omega (arith, filed-is-no-longer-due l rooms) in
-    f .numbers ∙ ap (λ (k : ℕ). rows k l) e
-
--- and they repay its balance, where that is an amount
+-- the rows of a loan in hand to its end repay its balance, where that is an amount
 rows-repay : (l : Loan) (n : ℕ) → due l ≡ n → 0 < n → T (amount binary64 (l .balance)) → Repaid (l .balance) n (rows n l)
 rows-repay l zero ends h start = absurd (omega arith)
 rows-repay l (suc m) ends h start = repaid l m ends start

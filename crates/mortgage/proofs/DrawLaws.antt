@@ -1,37 +1,34 @@
 -- One draw, of any loan in hand into any room: what is written and what stays owed are the rows due, a finished loan draws nothing, places beyond the rows stay,
 -- a refusal changes nothing, a draw with room writes a row, and the loan handed back stands after the rows written. Assumes nothing.
 use mathlib.Core.Path.{_≡_, refl, sym, ap, _∙_}
+use mathlib.Core.Logic.{inl, inr}
 use mathlib.Core.Bool.{Bool, true, false}
 use mathlib.Core.List.{List, [], _∷_}
-use Prim.Native.Nat.{ℕ, suc, _+_, _-_, _*_, _/_, _<_, _≤_, min}
+use Prim.Native.Nat.{ℕ, suc, _+_, _-_, _*_, _<_, _≤_}
+use native.Mathlib.Nat.{eq-zero-or-pos}
 use native.Mathlib.Omega.{arith}
+use lib.Dec.{ltb}
 use lib.ListN.{length, take, drop}
 use lib.Seq.{take-at, drop-at}
 use lib.Ieee.{Float}
-use borrow.Author.Tests.{le-ltb}
+use borrow.Author.Tests.{ltb-true, ltb-false}
 use Rattle.refusals.specs.Outcome.{Outcome, refused, accepted, Line, firstOr, judged}
-use Rattle.refusals.specs.Table.{badTerm, noRoom, pastEnd}
+use Rattle.refusals.proofs.Verdicts.{accepted-value}
+use Rattle.refusals.specs.Table.{badTerm}
 use Rattle.mortgage.specs.declared.Loan.{Loan}
 use Rattle.mortgage.specs.declared.draws.Portion.{Portion}
 use Rattle.mortgage.specs.Row.{width}
-use Rattle.mortgage.specs.RowRule.{endMonth, due}
+use Rattle.mortgage.specs.RowRule.{endMonth, due, nextOf}
 use Rattle.mortgage.specs.Steps.{stepped, written, laid}
 use Rattle.mortgage.specs.Rows.{after, rows}
 use Rattle.mortgage.specs.Draws.{drawLines, count, portion, drawn, filledBy, filled}
 use Rattle.mortgage.specs.Demand3.{rowsIn, handedBack, wrote}
-use Rattle.mortgage.proofs.Temporary.{length-rows}
+use Rattle.mortgage.proofs.Portions.{length-written}
+use Rattle.mortgage.proofs.DrawCases.{rowPlaces, wide, drawn-short, drawn-rows}
 
--- ---- what is accepted is the value that the lines judge
-first-accepts : {Value : Type 0} (k p : ℕ) (bs : List Bool) (rest : Outcome Value) (d : Value) → firstOr k p bs rest ≡ accepted d → rest ≡ accepted d
-unfolding firstOr
-first-accepts k p [] rest d e = e
-first-accepts k p (true ∷ bs) rest d e = let z : _≡_ {A = ℕ} 0 1 = cc in absurd (omega arith)
-first-accepts k p (false ∷ bs) rest d e = first-accepts k (suc p) bs rest d e
-
-pub accepted-value : {Value : Type 0} (ls : List Line) (v d : Value) → judged ls v ≡ accepted d → d ≡ v
-unfolding judged
-accepted-value [] v d e = cc
-accepted-value (l ∷ ls) v d e = accepted-value ls v d (first-accepts (l .number) 0 (l .causes) (judged ls v) d e)
+-- ---- so many rows are so many times their places
+pub length-rows : (k : ℕ) (l : Loan) → length (rows k l) ≡ k * width
+length-rows = length-written nextOf rowPlaces width wide
 
 -- ---- an accepted draw
 module _ (l : Loan) (room : List Float) (d : Portion) (e : drawn l room ≡ accepted d) where
@@ -101,6 +98,18 @@ module _ (l : Loan) (room : List Float) where
       go : (o : Outcome Portion) → drawn l room ≡ o → rowsIn o ≤ due l
       go (refused k p) e = omega arith
       go (accepted d) e = written-within l room d e
+
+  -- "A draw writes as many rows as the room holds and the term still owes": none where it is refused, past the end or for want of room
+  pub rows-drawn : badTerm (l .term) ≡ false → rowsIn (drawn l room) ≡ count l (length room)
+  unfolding due portion
+  rows-drawn good = elim (eq-zero-or-pos (due l)) [
+    | inl z ↦ omega (arith, rows-within)
+    | inr h ↦ go (ltb (length room) width) (ltb-true (length room) width) (ltb-false (length room) width) (omega arith)
+  ]
+    where
+      go : (small : Bool) → (small ≡ true → length room < width) → (small ≡ false → width ≤ length room) → l .done < endMonth l → rowsIn (drawn l room) ≡ count l (length room)
+      go true s r h = let n = s refl in omega (arith, ap rowsIn (drawn-short l room good h n))
+      go false s r h = sym (ap rowsIn (drawn-rows l room good h (r refl)))
 
   pub handed-back : handedBack (drawn l room) l ≡ after (rowsIn (drawn l room)) l
   unfolding stepped

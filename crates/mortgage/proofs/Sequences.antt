@@ -1,31 +1,31 @@
 -- Draws one after the other, each handed the loan that the one before handed back: what they filed are the next rows of the loan, refused draws in between change nothing,
 -- portions to the end are the rows of one draw, and as many rooms with a whole row as rows are due finish the loan. Assumes nothing.
-use mathlib.Core.Path.{_≡_, refl, sym, ap, _∙_, subst}
-use mathlib.Core.Logic.{inl, inr}
-use mathlib.Core.Bool.{Bool, true, false, cond, _&&_}
-use mathlib.Core.List.{List, [], _∷_, _++_}
-use Prim.Native.Nat.{ℕ, suc, _+_, _-_, _*_, _/_, _<_, _≤_, min}
-use native.Mathlib.Nat.{eq-zero-or-pos}
+use mathlib.Core.Path.{_≡_, refl, sym, ap, _∙_}
+use mathlib.Core.Bool.{Bool, true, false, cond}
+use mathlib.Core.List.{List, [], _∷_}
+use Prim.Native.Nat.{ℕ, zero, suc, _+_, _-_, _*_, _≤_}
 use native.Mathlib.Omega.{arith}
 use lib.Dec.{ltb}
 use lib.ListN.{length}
 use lib.Ieee.{Float}
-use borrow.Author.Tests.{ltb-true, ltb-false, lt-ltb, le-ltb}
-use Rattle.refusals.specs.Outcome.{Outcome, refused, accepted, firstOr, judged}
-use Rattle.refusals.specs.Table.{badAmount, badTerm, noRoom, pastEnd}
+use borrow.Author.Tests.{ltb-false}
+use Rattle.refusals.specs.Outcome.{refused, accepted, firstOr, judged}
+use Rattle.refusals.proofs.Verdicts.{accepted-value}
+use Rattle.refusals.specs.Table.{badAmount, badTerm}
 use Rattle.records.specs.declared.Terms.{Terms}
 use Rattle.mortgage.specs.declared.Loan.{Loan}
-use Rattle.mortgage.specs.declared.draws.Portion.{Portion}
 use Rattle.mortgage.specs.Row.{width}
 use Rattle.mortgage.specs.Terms.{termsLines}
 use Rattle.mortgage.specs.Payment.{loanOf, openedWith}
-use Rattle.mortgage.specs.RowRule.{endMonth, due}
+use Rattle.mortgage.specs.RowRule.{endMonth, due, nextOf}
 use Rattle.mortgage.specs.Steps.{stepped, written}
 use Rattle.mortgage.specs.Rows.{after, rows}
-use Rattle.mortgage.specs.Draws.{drawLines, count, portion, drawn}
+use Rattle.mortgage.specs.Draws.{count, drawn}
 use Rattle.mortgage.specs.Demand3.{rowsIn, handedBack, wrote, filed, left, roomy}
-use Rattle.mortgage.proofs.Temporary.{term-after, due-after, after-sum, rows-sum}
-use Rattle.mortgage.proofs.DrawLaws.{accepted-value, wrote-is, rows-within, handed-back}
+use Rattle.mortgage.proofs.Portions.{stepped-sum, written-sum}
+use Rattle.mortgage.proofs.RowLaws.{due-after}
+use Rattle.mortgage.proofs.DrawCases.{rowPlaces, wide}
+use Rattle.mortgage.proofs.DrawLaws.{wrote-is, rows-within, rows-drawn, handed-back}
 
 -- ---- the draws of a loan in hand filed so many of its rows, and left it after them
 pub record Filed (l : Loan) (rooms : List (List Float)) : Type 0 where
@@ -47,8 +47,8 @@ filed-more l room rooms f =
     let h : handedBack (drawn l room) l ≡ after k l = handed-back l room in
     record {
       many = n + k;
-      numbers = rw (wrote-is l room, f .numbers, h) (sym (rows-sum k n l));
-      state = f .state ∙ rw h (sym (after-sum k n l));
+      numbers = rw (wrote-is l room, f .numbers, h) (sym (written-sum nextOf rowPlaces width wide k n l));
+      state = f .state ∙ rw h (sym (stepped-sum nextOf rowPlaces width wide k n l));
       within = omega (arith, rows-within l room, f .within, due-after k l, ap due h);
     }
 
@@ -68,59 +68,47 @@ pub refused-draw-changes-nothing : (l : Loan) (room : List Float) (rooms : List 
 unfolding filed left wrote
 refused-draw-changes-nothing l room rooms k p e = (rw e, rw e)
 
--- ---- a loan of an acceptable term
-module _ (l : Loan) (good : badTerm (l .term) ≡ false) where
-  due-ahead : 0 < due l → pastEnd (endMonth l) (l .done) ≡ false
-  unfolding due pastEnd
-  due-ahead h = le-ltb (endMonth l) (l .done) (omega arith)
+-- ---- whatever rooms a loan in hand is drawn into to its end, its rows from here to the end are filed
+pub filed-to-the-end : (l : Loan) (rooms : List (List Float)) → due (left l rooms) ≡ 0 → filed l rooms ≡ rows (due l) l
+filed-to-the-end l rooms z =
+    let f = filed-rows l rooms in
+    let e : f .many ≡ due l = omega (arith, filed-is-no-longer-due l rooms) in
+    f .numbers ∙ ap (λ (k : ℕ). rows k l) e
 
-  with-room : (room : List Float) → 0 < due l → width ≤ length room → drawn l room ≡ accepted (portion l (length room))
-  unfolding drawn judged firstOr noRoom
-  with-room room h r = rw (good, lt-ltb 0 (due l) h, le-ltb (length room) width r, due-ahead h)
+-- for an acceptable term, those of one draw into a room that holds them all
+pub portions-are-one : (l : Loan) (rooms : List (List Float)) (big : List Float) → badTerm (l .term) ≡ false → due (left l rooms) ≡ 0 → due l * width ≤ length big
+    → filed l rooms ≡ wrote l big
+portions-are-one l rooms big good z b =
+    let e : due l ≡ rowsIn (drawn l big) = omega (arith, rows-drawn l big good) in
+    filed-to-the-end l rooms z ∙ ap (λ (k : ℕ). rows k l) e ∙ sym (wrote-is l big)
 
-  -- a room that holds all that is due gets it all
-  all-in-one : (big : List Float) → due l * width ≤ length big → rowsIn (drawn l big) ≡ due l
-  unfolding portion
-  all-in-one big b = elim (eq-zero-or-pos (due l)) [
-    | inl z ↦ omega (arith, rows-within l big)
-    | inr h ↦ (let e : rowsIn (drawn l big) ≡ count l (length big) = ap rowsIn (with-room big h (omega arith)) in omega arith)
-  ]
+-- ---- how many draws are enough: the rows due after one
+term-after : (k : ℕ) (l : Loan) → after k l .term ≡ l .term
+unfolding stepped nextOf
+term-after zero l = refl
+term-after (suc k) l = term-after k l
 
-  -- where a row is due and there is room for one, fewer are due after the draw
-  fewer-due : (room : List Float) (n : ℕ) → width ≤ length room → due l ≤ suc n → due l - rowsIn (drawn l room) ≤ n
-  unfolding portion
-  fewer-due room n r b = elim (eq-zero-or-pos (due l)) [
-    | inl z ↦ omega arith
-    | inr h ↦ (let e : rowsIn (drawn l room) ≡ count l (length room) = ap rowsIn (with-room room h r) in omega arith)
-  ]
+module _ (l : Loan) (room : List Float) (good : badTerm (l .term) ≡ false) where
+  still-good : badTerm (handedBack (drawn l room) l .term) ≡ false
+  still-good = rw (handed-back l room, term-after (rowsIn (drawn l room)) l) good
 
-  -- drawing to the end in portions gives the rows of one draw into a room that holds them all
-  pub portions-are-one : (rooms : List (List Float)) (big : List Float) → due (left l rooms) ≡ 0 → due l * width ≤ length big → filed l rooms ≡ wrote l big
-  portions-are-one rooms big z b =
-      let f = filed-rows l rooms in
-      let e : f .many ≡ rowsIn (drawn l big) = omega (arith, all-in-one big b, filed-is-no-longer-due l rooms) in
-      f .numbers ∙ ap (λ (k : ℕ). rows k l) e ∙ sym (wrote-is l big)
+  -- a room too small for a row counts for nothing, and any other takes at least one row off those due
+  due-after-draw : (n : ℕ) → due l ≤ cond (ltb (length room) width) n (suc n) → due (handedBack (drawn l room) l) ≤ n
+  due-after-draw n = go (ltb (length room) width) (ltb-false (length room) width)
+    where
+      is : due (handedBack (drawn l room) l) ≡ due l - count l (length room)
+      is = ap due (handed-back l room) ∙ due-after (rowsIn (drawn l room)) l ∙ ap (λ (k : ℕ). due l - k) (rows-drawn l room good)
 
-handed-back-good : (l : Loan) (room : List Float) → badTerm (l .term) ≡ false → badTerm (handedBack (drawn l room) l .term) ≡ false
-handed-back-good l room good = rw (handed-back l room, term-after (rowsIn (drawn l room)) l) good
-
-due-handed-back : (l : Loan) (room : List Float) → due (handedBack (drawn l room) l) ≡ due l - rowsIn (drawn l room)
-due-handed-back l room = ap due (handed-back l room) ∙ due-after (rowsIn (drawn l room)) l
-
--- a room too small for a row counts for nothing, and any other takes at least one row off those due
-roomy-step : (l : Loan) (room : List Float) (n : ℕ) → badTerm (l .term) ≡ false → due l ≤ cond (ltb (length room) width) n (suc n) → due l - rowsIn (drawn l room) ≤ n
-roomy-step l room n good = go (ltb (length room) width) (ltb-false (length room) width)
-  where
-    go : (small : Bool) → (small ≡ false → width ≤ length room) → due l ≤ cond small n (suc n) → due l - rowsIn (drawn l room) ≤ n
-    go true r h = omega arith
-    go false r h = fewer-due l good room n (r refl) h
+      go : (small : Bool) → (small ≡ false → width ≤ length room) → due l ≤ cond small n (suc n) → due (handedBack (drawn l room) l) ≤ n
+      go true r h = omega (arith, is)
+      go false r h = let w = r refl in omega (arith, is)
 
 -- as many rooms with a whole row as rows are due finish the loan, whatever rooms are between them
 pub rooms-enough : (rooms : List (List Float)) (l : Loan) → badTerm (l .term) ≡ false → due l ≤ roomy rooms → due (left l rooms) ≡ 0
 unfolding left roomy
 rooms-enough [] l good h = omega arith
 rooms-enough (room ∷ rooms) l good h =
-    rooms-enough rooms (handedBack (drawn l room) l) (handed-back-good l room good) (rw (due-handed-back l room) (roomy-step l room (roomy rooms) good h))
+    rooms-enough rooms (handedBack (drawn l room) l) (still-good l room good) (due-after-draw l room good (roomy rooms) h)
 
 -- ---- from an opening
 term-accepted : (t : Terms) (pay : Float) (l : Loan) → openedWith t pay ≡ accepted l → badTerm (t .term) ≡ false

@@ -8,5 +8,6 @@ pub mod Truncation
 pub mod WholeNumbers
 pub mod Differences
 pub mod Clamping
+pub mod Sums
 pub mod Repayment
 pub mod Tight

@@ -1,0 +1,6 @@
+pub mod Putting
+pub mod DigitLaws
+pub mod Lengths
+pub mod RoomLaws
+pub mod PortionLaws
+pub mod Whole
