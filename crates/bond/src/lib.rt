@@ -1,6 +1,7 @@
 // Bonds: price, yield, durations and convexity.
 pub mod bonds;
 pub mod brent;
+pub mod codes;
 pub mod durations;
 pub mod price;
 pub mod yields;
