@@ -1,5 +1,6 @@
--- What is asked at a market price needs the yield first: where that is refused, the refusal is the answer, and where it is given, what is asked at that yield. Assumes nothing.
-use mathlib.Core.Path.{_≡_, refl, sym}
+-- What is asked at a market price needs the yield first: where that is refused, the refusal is the answer,
+-- and where it is given, what is asked at that yield. Assumes nothing.
+use mathlib.Core.Path.{_≡_, sym}
 use lib.Ieee.{Float}
 use Rattle.refusals.specs.declared.Refusal.{Refusal}
 use Rattle.refusals.specs.declared.Number.{Number}

@@ -1,11 +1,12 @@
--- Which bracket the search starts in, as the code tests it: the first where its ends err to both sides or a NaN hides it, else the second, else line 12. Assumes nothing.
-use mathlib.Core.Path.{_≡_, refl, sym, ap, _∙_}
+-- Which bracket the search starts in, as the code tests it: the first unless both its ends err to one side, then the second unless its do too,
+-- and where both do, line 12. Assumes nothing.
+use mathlib.Core.Path.{_≡_, sym, _∙_}
 use mathlib.Core.Bool.{Bool, true, false}
-use mathlib.Core.List.{List, [], _∷_}
+use mathlib.Core.List.{[], _∷_}
 use lib.Ieee.{Float, binary64, mul, lt}
 use Rattle.numbers.specs.Clamps.{plusZero}
 use Rattle.refusals.specs.declared.Refusal.{Refusal}
-use Rattle.refusals.specs.Outcome.{Outcome, refused, accepted, Line, line, firstOr, judged}
+use Rattle.refusals.specs.Outcome.{Outcome, refused, accepted, line, firstOr, judged}
 use Rattle.refusals.proofs.Verdicts.{refused-as}
 use Rattle.bond.specs.declared.Bond.{Bond}
 use Rattle.bond.specs.declared.brent.Search.{Search}
@@ -30,7 +31,7 @@ module _ (b : Bond) (market : Float) where
       rw (one, g, e)
 
   module _ (s₁ s₂ : Search) (t₁ t₂ : Bool) (e₁ : s₁ ≡ startIn b market low high) (h₁ : t₁ ≡ above s₁) (f₁ : t₁ ≡ true)
-    (e₂ : s₂ ≡ startIn b market wideLow wideHigh) (h₂ : t₂ ≡ above s₂) where
+      (e₂ : s₂ ≡ startIn b market wideLow wideHigh) (h₂ : t₂ ≡ above s₂) where
     pub in-wide : (y : Float) → t₂ ≡ false → y ≡ searched b market 200 s₂ → accepted y ≡ asked
     unfolding judged firstOr noBracket yieldOf start
     in-wide y f₂ g =

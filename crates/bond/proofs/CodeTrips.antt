@@ -1,4 +1,5 @@
--- A frequency is written as a code and read again, both ways: every frequency comes back from its code, and every code that is read is the code of what it gives. Assumes nothing.
+-- A frequency is written as a code and read again, both ways: every frequency comes back from its code,
+-- and every code that is read is the code of what it gives. Assumes nothing.
 use mathlib.Core.Path.{_≡_, refl, ap}
 use mathlib.Core.Bool.{true}
 use Prim.Native.Nat.{ℕ, zero, suc}

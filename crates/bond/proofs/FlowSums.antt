@@ -1,5 +1,6 @@
--- The sums over a bond's flows as a loop adds them, term by term left to right, over plain numbers; and that they are the definition's at a bond's own numbers. Assumes nothing.
-use mathlib.Core.Path.{_≡_, refl, _∙_}
+-- The sums over a bond's flows as a loop adds them, term by term left to right, over plain numbers;
+-- and that they are the definition's at a bond's own numbers. Assumes nothing.
+use mathlib.Core.Path.{_≡_}
 use mathlib.Core.Bool.{cond}
 use Prim.Native.Nat.{ℕ, suc, _+_}
 use native.Mathlib.Numerals.{add-one}

@@ -15,7 +15,8 @@ abbrev followed : {Value : Type 0} → Outcome Unit → Outcome Value → Outcom
 followed (refused k p) later = refused k p
 followed (accepted u) later = later
 
-followed-first : {Value : Type 0} (k p : ℕ) (bs : List Bool) (o : Outcome Unit) (later : Outcome Value) → firstOr k p bs (followed o later) ≡ followed (firstOr k p bs o) later
+followed-first : {Value : Type 0} (k p : ℕ) (bs : List Bool) (o : Outcome Unit) (later : Outcome Value)
+    → firstOr k p bs (followed o later) ≡ followed (firstOr k p bs o) later
 unfolding firstOr
 followed-first k p [] o later = refl
 followed-first k p (true ∷ bs) o later = refl

@@ -1,5 +1,5 @@
 -- How tight the promises are: whatever a public function is given, any two results that its contract allows are equal. Assumes nothing.
-use mathlib.Core.Path.{_≡_, refl, sym, ap, _∙_}
+use mathlib.Core.Path.{_≡_, sym, ap, _∙_}
 use Rattle.numbers.proofs.Tight.{Determined}
 use Rattle.refusals.proofs.OneToOne.{same-refusal, number-one-to-one}
 use Rattle.bond.specs.declared.codes.FrequencyRead.{FrequencyRead}

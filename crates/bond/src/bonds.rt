@@ -5,7 +5,6 @@ ghost use Rattle.refusals.specs.Outcome.{judged};
 ghost use Rattle.refusals.specs.Answers.{verdictOutcome};
 ghost use Rattle.refusals.specs.Table.{badNumber};
 ghost use Rattle.bond.specs.Bonds.{perYear, couponsAYear, periodCoupon, periods, badMaturity, bondLines};
-
 use crate::Bond;
 use crate::Frequency;
 use refusals::Verdict;

@@ -2,7 +2,6 @@
 ghost use mathlib.Core.Path.{_≡_};
 ghost use Rattle.bond.specs.Brent.{rebracketed, exchanged, width, midway, settled, rise, run, riseUp, runUp, safe, tried, chosen, shift, moved};
 ghost use Rattle.bond.specs.Yield.{readied};
-
 use numbers::sizes::absolute_value;
 
 // 2^-52.

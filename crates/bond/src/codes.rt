@@ -1,7 +1,6 @@
 // The code of a coupon frequency in a record: 0 to 3, in the order of the enum.
 ghost use mathlib.Core.Path.{_≡_};
 ghost use Rattle.bond.specs.Codes.{codeOf, frequencyOf, frequencyOutcome};
-
 use crate::Frequency;
 
 pub enum FrequencyRead {

@@ -13,7 +13,6 @@ ghost use Rattle.bond.specs.Price.{epsilon};
 ghost use Rattle.bond.specs.Durations.{weightedTime, macaulayOf, modifiedOf, weightedSquare, convexityOf, changeOf};
 ghost use Rattle.bond.specs.Durations.{macaulayDuration, modifiedDuration, convexity, priceChange};
 ghost use Rattle.bond.specs.Durations.{macaulayAtPrice, modifiedAtPrice, convexityAtPrice};
-
 use crate::Bond;
 use refusals::Number;
 use refusals::Verdict;

@@ -7,7 +7,6 @@ ghost use Rattle.numbers.specs.Sizes.{absolute};
 ghost use Rattle.refusals.specs.Answers.{numberOutcome};
 ghost use Rattle.bond.specs.Price.{epsilon, periodRate, undiscounted, discounted, priceOf, currentYield};
 ghost use Rattle.bond.specs.Price.{price, dv01};
-
 use crate::Bond;
 use refusals::Number;
 use refusals::Verdict;

@@ -6,7 +6,6 @@ ghost use Rattle.numbers.specs.Clamps.{plusZero};
 ghost use Rattle.refusals.specs.Outcome.{line, judged};
 ghost use Rattle.refusals.specs.Answers.{numberOutcome};
 ghost use Rattle.bond.specs.Yield.{error, noBracket, startIn, withError, passed, searched, yieldOf, yieldToMaturity};
-
 use crate::Bond;
 use crate::brent::Search;
 use refusals::Number;
@@ -58,7 +57,11 @@ fn with_error(bond: Bond, market: f64, search: Search) -> Search
 fn passed(bond: Bond, market: f64, search: Search) -> Search
     ensures { λ r. ⌜ r ≡ passed bond market search ⌝ }
 {
-    with_error(bond, market, crate::brent::moved(crate::brent::chosen(search)))
+    with_error(
+        bond,
+        market,
+        crate::brent::moved(crate::brent::chosen(search)),
+    )
 }
 
 // b, once it is settled or the passes are used up.

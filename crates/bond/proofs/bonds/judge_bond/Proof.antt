@@ -23,7 +23,16 @@ refuse-requires-2 c κs = search needs
 
 returns-2 : tie.Need-returns-2
 unfolding judged firstOr
-returns-2 c = let e = c .before .before .before in simp (sym (e .before .bad-amount .ensures), e .if1 .left, sym (c .before .before .bad-maturity .ensures), c .before .if2 .taken, c .refuse2 .ensures .0, c .refuse2 .ensures .1)
+returns-2 c =
+    let e = c .before .before .before in
+    simp (
+      sym (e .before .bad-amount .ensures),
+      e .if1 .left,
+      sym (c .before .before .bad-maturity .ensures),
+      c .before .if2 .taken,
+      c .refuse2 .ensures .0,
+      c .refuse2 .ensures .1,
+    )
 
 bad-numbers-requires : tie.Need-bad-numbers-requires
 bad-numbers-requires c κs = search needs
@@ -33,11 +42,33 @@ refuse-requires-3 c κs = search needs
 
 returns-3 : tie.Need-returns-3
 unfolding judged firstOr
-returns-3 c = let e = c .before .before .before in let g = e .before .before in simp (sym (g .before .bad-amount .ensures), g .if1 .left, sym (e .before .bad-maturity .ensures), e .if2 .left, sym (c .before .before .bad-numbers .ensures), c .before .if3 .taken, c .refuse3 .ensures .0, c .refuse3 .ensures .1)
+returns-3 c =
+    let e = c .before .before .before in
+    let g = e .before .before in
+    simp (
+      sym (g .before .bad-amount .ensures),
+      g .if1 .left,
+      sym (e .before .bad-maturity .ensures),
+      e .if2 .left,
+      sym (c .before .before .bad-numbers .ensures),
+      c .before .if3 .taken,
+      c .refuse3 .ensures .0,
+      c .refuse3 .ensures .1,
+    )
 
 returns-4 : tie.Need-returns-4
 unfolding judged firstOr
-returns-4 c = let e = c .before .before in let g = e .before .before in simp (sym (g .before .bad-amount .ensures), g .if1 .left, sym (e .before .bad-maturity .ensures), e .if2 .left, sym (c .before .bad-numbers .ensures), c .if3 .left)
+returns-4 c =
+    let e = c .before .before in
+    let g = e .before .before in
+    simp (
+      sym (g .before .bad-amount .ensures),
+      g .if1 .left,
+      sym (e .before .bad-maturity .ensures),
+      e .if2 .left,
+      sym (c .before .bad-numbers .ensures),
+      c .if3 .left,
+    )
 
 pub judge-bond-spec : {M : Type 1} → statement M
 judge-bond-spec =

@@ -27,7 +27,16 @@ with-steps-requires c κs = search needs
 
 returns : tie.Need-returns
 unfolding chosen
-returns c = let e = c .before .before .before in c .with-steps .ensures ∙ rw (e .before .fraction-up .ensures, sym (e .before .before .before .tried .ensures), e .before .before .if1 .taken, sym (e .safe .ensures), c .before .before .if2 .taken)
+returns c =
+    let e = c .before .before .before in
+    c .with-steps .ensures
+    ∙ rw (
+      e .before .fraction-up .ensures,
+      sym (e .before .before .before .tried .ensures),
+      e .before .before .if1 .taken,
+      sym (e .safe .ensures),
+      c .before .before .if2 .taken,
+    )
 
 midway-requires : tie.Need-midway-requires
 midway-requires c κs = search needs

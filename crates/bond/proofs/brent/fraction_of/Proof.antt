@@ -17,7 +17,9 @@ returns c = rw (sym (c .before .before .before .before .midway .ensures), sym (c
 
 returns-2 : tie.Need-returns-2
 unfolding rise run secantOnly ratioBA ratioAC ratioBC
-returns-2 c = let e = c .before .before .before in rw (sym (e .before .before .before .before .midway .ensures), sym (e .before .absolute-value .ensures), e .if1 .left)
+returns-2 c =
+    let e = c .before .before .before in
+    rw (sym (e .before .before .before .before .midway .ensures), sym (e .before .absolute-value .ensures), e .if1 .left)
 
 pub fraction-of-spec : {M : Type 1} → statement M
 fraction-of-spec = tie.close (tie.spec midway-requires absolute-value-requires returns returns-2)

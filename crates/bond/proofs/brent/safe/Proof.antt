@@ -20,11 +20,31 @@ absolute-value-requires-2 c κs = search needs
 
 returns : tie.Need-returns
 unfolding safe
-returns c = let e = c .before .before .before .before in let a = e .before .before .before .before .before .before .before in rw (sym (ap (λ (f : Fraction). f .rise) (a .pre)), sym (ap (λ (f : Fraction). f .run) (a .pre)), sym (e .before .before .before .before .before .midway .ensures), sym (e .before .before .before .width .ensures), sym (e .before .absolute-value .ensures), e .if1 .taken, sym (c .absolute-value2 .ensures))
+returns c =
+    let e = c .before .before .before .before in
+    let a = e .before .before .before .before .before .before .before in
+    rw (
+      sym (ap (λ (f : Fraction). f .rise) (a .pre)),
+      sym (ap (λ (f : Fraction). f .run) (a .pre)),
+      sym (e .before .before .before .before .before .midway .ensures),
+      sym (e .before .before .before .width .ensures),
+      sym (e .before .absolute-value .ensures),
+      e .if1 .taken,
+      sym (c .absolute-value2 .ensures),
+    )
 
 returns-2 : tie.Need-returns-2
 unfolding safe
-returns-2 c = let e = c in let a = e .before .before .before .before .before .before .before in rw (sym (ap (λ (f : Fraction). f .rise) (a .pre)), sym (ap (λ (f : Fraction). f .run) (a .pre)), sym (e .before .before .before .before .before .midway .ensures), sym (e .before .before .before .width .ensures), sym (e .before .absolute-value .ensures), e .if1 .left)
+returns-2 c =
+    let a = c .before .before .before .before .before .before .before in
+    rw (
+      sym (ap (λ (f : Fraction). f .rise) (a .pre)),
+      sym (ap (λ (f : Fraction). f .run) (a .pre)),
+      sym (c .before .before .before .before .before .midway .ensures),
+      sym (c .before .before .before .width .ensures),
+      sym (c .before .absolute-value .ensures),
+      c .if1 .left,
+    )
 
 pub safe-spec : {M : Type 1} → statement M
 safe-spec =

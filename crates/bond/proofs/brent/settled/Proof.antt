@@ -16,14 +16,28 @@ width-requires c κs = search needs
 
 returns : tie.Need-returns
 unfolding settled
-returns c = rw (sym (c .before .before .before .midway .ensures), sym (c .before .before .absolute-value .ensures), sym (c .before .width .ensures), c .if1 .taken)
+returns c =
+    rw (
+      sym (c .before .before .before .midway .ensures),
+      sym (c .before .before .absolute-value .ensures),
+      sym (c .before .width .ensures),
+      c .if1 .taken,
+    )
 
 absolute-value-requires-2 : tie.Need-absolute-value-requires-2
 absolute-value-requires-2 c κs = search needs
 
 returns-2 : tie.Need-returns-2
 unfolding settled
-returns-2 c = let e = c .before in rw (sym (e .before .before .before .midway .ensures), sym (e .before .before .absolute-value .ensures), sym (e .before .width .ensures), e .if1 .left, c .absolute-value2 .ensures)
+returns-2 c =
+    let e = c .before in
+    rw (
+      sym (e .before .before .before .midway .ensures),
+      sym (e .before .before .absolute-value .ensures),
+      sym (e .before .width .ensures),
+      e .if1 .left,
+      c .absolute-value2 .ensures,
+    )
 
 pub settled-spec : {M : Type 1} → statement M
 settled-spec =

@@ -20,11 +20,27 @@ midway-requires c κs = search needs
 
 returns-2 : tie.Need-returns-2
 unfolding shift
-returns-2 c = let e = c .before .before in rw (sym (e .before .before .width .ensures), sym (e .before .absolute-value .ensures), e .if1 .left, sym (c .before .midway .ensures), c .if2 .taken)
+returns-2 c =
+    let e = c .before .before in
+    rw (
+      sym (e .before .before .width .ensures),
+      sym (e .before .absolute-value .ensures),
+      e .if1 .left,
+      sym (c .before .midway .ensures),
+      c .if2 .taken,
+    )
 
 returns-3 : tie.Need-returns-3
 unfolding shift
-returns-3 c = let e = c .before .before in rw (sym (e .before .before .width .ensures), sym (e .before .absolute-value .ensures), e .if1 .left, sym (c .before .midway .ensures), c .if2 .left)
+returns-3 c =
+    let e = c .before .before in
+    rw (
+      sym (e .before .before .width .ensures),
+      sym (e .before .absolute-value .ensures),
+      e .if1 .left,
+      sym (c .before .midway .ensures),
+      c .if2 .left,
+    )
 
 pub shift-spec : {M : Type 1} → statement M
 shift-spec =

@@ -19,7 +19,15 @@ absolute-value-requires-3 c κs = search needs
 
 returns : tie.Need-returns
 unfolding tried
-returns c = let e = c .before .before in rw (sym (e .before .before .absolute-value .ensures), sym (e .before .width .ensures), e .if1 .taken, c .before .absolute-value2 .ensures, c .absolute-value3 .ensures)
+returns c =
+    let e = c .before .before in
+    rw (
+      sym (e .before .before .absolute-value .ensures),
+      sym (e .before .width .ensures),
+      e .if1 .taken,
+      c .before .absolute-value2 .ensures,
+      c .absolute-value3 .ensures,
+    )
 
 returns-2 : tie.Need-returns-2
 unfolding tried

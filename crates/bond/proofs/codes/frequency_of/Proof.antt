@@ -30,7 +30,11 @@ returns-4 c = rw (c .match .keys4)
 
 returns-5 : tie.Need-returns-5
 unfolding frequencyOf frequencyAt badCode judged firstOr
-returns-5 c = let x = c .before .before .args .code in let m = c .before .match .rest in let h : 3 < x = omega (arith, m .1, m .0 .1, m .0 .0 .1, m .0 .0 .0 .1) in refused-as 11 _ (frequencyOf x) (c .refuse .ensures) (rw (lt-ltb 3 x h))
+returns-5 c =
+    let x = c .before .before .args .code in
+    let m = c .before .match .rest in
+    let h : 3 < x = omega (arith, m .1, m .0 .1, m .0 .0 .1, m .0 .0 .0 .1) in
+    refused-as 11 _ (frequencyOf x) (c .refuse .ensures) (rw (lt-ltb 3 x h))
 
 pub frequency-of-spec : {M : Type 1} → statement M
 frequency-of-spec =

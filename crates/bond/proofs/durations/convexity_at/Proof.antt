@@ -29,7 +29,17 @@ whole-power-requires c κs = search needs
 
 returns-2 : tie.Need-returns-2
 unfolding convexityOf worthless
-returns-2 c = let e = c .before .before .before .before in rw (c .whole-power .ensures, c .before .weighted-squares .ensures, c .before .before .coupons-a-year .ensures, c .before .before .before .period-rate .ensures, sym (e .before .before .price-at .ensures), sym (e .before .next-to-nothing .ensures), e .if1 .left)
+returns-2 c =
+    let e = c .before .before .before .before in
+    rw (
+      c .whole-power .ensures,
+      c .before .weighted-squares .ensures,
+      c .before .before .coupons-a-year .ensures,
+      c .before .before .before .period-rate .ensures,
+      sym (e .before .before .price-at .ensures),
+      sym (e .before .next-to-nothing .ensures),
+      e .if1 .left,
+    )
 
 pub convexity-at-spec : {M : Type 1} → statement M
 convexity-at-spec =

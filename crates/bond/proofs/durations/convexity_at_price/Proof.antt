@@ -17,14 +17,19 @@ enum-told c = search needs
 
 returns : tie.Need-returns
 unfolding convexityAtPrice
-returns c = let b = c .before .before .before .args .bond in handed-on (λ (ytm : Float). convexity ytm b) _ _ (c .before .before .yield-to-maturity .ensures) _ (c .enum-told .given .1)
+returns c =
+    let b = c .before .before .before .args .bond in
+    handed-on (λ (ytm : Float). convexity ytm b) _ _ (c .before .before .yield-to-maturity .ensures) _ (c .enum-told .given .1)
 
 convexity-requires : tie.Need-convexity-requires
 convexity-requires c κs = search needs
 
 returns-2 : tie.Need-returns-2
 unfolding convexityAtPrice
-returns-2 c = let e = c .before .before .before .before in let b = e .before .args .bond in asked-at (λ (ytm : Float). convexity ytm b) _ _ (e .yield-to-maturity .ensures) _ _ (c .before .before .found .given .1) (c .convexity .ensures)
+returns-2 c =
+    let e = c .before .before .before .before in
+    let b = e .before .args .bond in
+    asked-at (λ (ytm : Float). convexity ytm b) _ _ (e .yield-to-maturity .ensures) _ _ (c .before .before .found .given .1) (c .convexity .ensures)
 
 pub convexity-at-price-spec : {M : Type 1} → statement M
 convexity-at-price-spec =

@@ -1,5 +1,4 @@
 -- `bond::durations::flow_worth` meets its contract: the test picks the flow. Assumes nothing.
-use mathlib.Core.Path.{refl}
 use borrow.Author.Tests.{eq-eqb, ne-eqb}
 use borrow.Author.Needs.{needs}
 use Rattle.bond.proofs.durations.flow_worth.Statement.{statement}

@@ -23,7 +23,15 @@ weighted-times-requires c κs = search needs
 
 returns-2 : tie.Need-returns-2
 unfolding macaulayOf worthless
-returns-2 c = let e = c .before .before in rw (c .weighted-times .ensures, c .before .period-rate .ensures, sym (e .before .before .price-at .ensures), sym (e .before .next-to-nothing .ensures), e .if1 .left)
+returns-2 c =
+    let e = c .before .before in
+    rw (
+      c .weighted-times .ensures,
+      c .before .period-rate .ensures,
+      sym (e .before .before .price-at .ensures),
+      sym (e .before .next-to-nothing .ensures),
+      e .if1 .left,
+    )
 
 pub macaulay-at-spec : {M : Type 1} → statement M
 macaulay-at-spec =

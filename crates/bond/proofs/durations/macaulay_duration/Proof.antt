@@ -2,8 +2,7 @@
 use mathlib.Core.Path.{ap, _∙_}
 use Rattle.refusals.specs.Outcome.{accepted}
 use Rattle.refusals.proofs.Verdicts.{refused-by, accepted-by}
-use Rattle.bond.specs.Bonds.{bondLines}
-use Rattle.bond.specs.Durations.{macaulayOf, macaulayDuration}
+use Rattle.bond.specs.Durations.{macaulayDuration}
 use borrow.Author.Needs.{needs}
 use Rattle.bond.proofs.durations.macaulay_duration.Statement.{statement}
 use Rattle.bond.proofs.durations.macaulay_duration.Tie as tie
@@ -22,11 +21,13 @@ macaulay-at-requires c κs = search needs
 
 returns : tie.Need-returns
 unfolding macaulayDuration
-returns c = let a = c .before .before .before .before .args in refused-by (bondLines (a .bond) (a .ytm)) (macaulayOf (a .bond) (a .ytm)) _ _ (c .before .refusal .given .1) (c .before .before .before .judge-bond .ensures)
+returns c = refused-by _ _ _ _ (c .before .refusal .given .1) (c .before .before .before .judge-bond .ensures)
 
 returns-2 : tie.Need-returns-2
 unfolding macaulayDuration
-returns-2 c = let e = c .before in let a = e .before .before .before .args in ap accepted (c .macaulay-at .ensures) ∙ accepted-by (bondLines (a .bond) (a .ytm)) (macaulayOf (a .bond) (a .ytm)) _ (e .enum-told .given .1) (e .before .before .judge-bond .ensures)
+returns-2 c =
+    let e = c .before in
+    ap accepted (c .macaulay-at .ensures) ∙ accepted-by _ _ _ (e .enum-told .given .1) (e .before .before .judge-bond .ensures)
 
 pub macaulay-duration-spec : {M : Type 1} → statement M
 macaulay-duration-spec =

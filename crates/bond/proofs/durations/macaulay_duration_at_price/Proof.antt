@@ -17,14 +17,20 @@ enum-told c = search needs
 
 returns : tie.Need-returns
 unfolding macaulayAtPrice
-returns c = let b = c .before .before .before .args .bond in handed-on (λ (ytm : Float). macaulayDuration ytm b) _ _ (c .before .before .yield-to-maturity .ensures) _ (c .enum-told .given .1)
+returns c =
+    let b = c .before .before .before .args .bond in
+    handed-on (λ (ytm : Float). macaulayDuration ytm b) _ _ (c .before .before .yield-to-maturity .ensures) _ (c .enum-told .given .1)
 
 macaulay-duration-requires : tie.Need-macaulay-duration-requires
 macaulay-duration-requires c κs = search needs
 
 returns-2 : tie.Need-returns-2
 unfolding macaulayAtPrice
-returns-2 c = let e = c .before .before .before .before in let b = e .before .args .bond in asked-at (λ (ytm : Float). macaulayDuration ytm b) _ _ (e .yield-to-maturity .ensures) _ _ (c .before .before .found .given .1) (c .macaulay-duration .ensures)
+returns-2 c =
+    let e = c .before .before .before .before in
+    let b = e .before .args .bond in
+    asked-at (λ (ytm : Float). macaulayDuration ytm b) _ _ (e .yield-to-maturity .ensures) _ _ (c .before .before .found .given .1)
+    (c .macaulay-duration .ensures)
 
 pub macaulay-duration-at-price-spec : {M : Type 1} → statement M
 macaulay-duration-at-price-spec =

@@ -17,14 +17,20 @@ enum-told c = search needs
 
 returns : tie.Need-returns
 unfolding modifiedAtPrice
-returns c = let b = c .before .before .before .args .bond in handed-on (λ (ytm : Float). modifiedDuration ytm b) _ _ (c .before .before .yield-to-maturity .ensures) _ (c .enum-told .given .1)
+returns c =
+    let b = c .before .before .before .args .bond in
+    handed-on (λ (ytm : Float). modifiedDuration ytm b) _ _ (c .before .before .yield-to-maturity .ensures) _ (c .enum-told .given .1)
 
 modified-duration-requires : tie.Need-modified-duration-requires
 modified-duration-requires c κs = search needs
 
 returns-2 : tie.Need-returns-2
 unfolding modifiedAtPrice
-returns-2 c = let e = c .before .before .before .before in let b = e .before .args .bond in asked-at (λ (ytm : Float). modifiedDuration ytm b) _ _ (e .yield-to-maturity .ensures) _ _ (c .before .before .found .given .1) (c .modified-duration .ensures)
+returns-2 c =
+    let e = c .before .before .before .before in
+    let b = e .before .args .bond in
+    asked-at (λ (ytm : Float). modifiedDuration ytm b) _ _ (e .yield-to-maturity .ensures) _ _ (c .before .before .found .given .1)
+    (c .modified-duration .ensures)
 
 pub modified-duration-at-price-spec : {M : Type 1} → statement M
 modified-duration-at-price-spec =

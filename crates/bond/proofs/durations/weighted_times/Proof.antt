@@ -1,6 +1,6 @@
 -- `bond::durations::weighted_times` meets its contract: each turn of the loop adds one term. Assumes nothing.
 use mathlib.Core.Path.{_≡_, refl, _∙_}
-use Prim.Native.Nat.{ℕ, _-_, _≤_}
+use Prim.Native.Nat.{_-_, _≤_}
 use native.Mathlib.Omega.{arith}
 use Rattle.numbers.specs.Sums.{addedUp}
 use Rattle.bond.proofs.FlowSums.{added-next, timeTerm, time-term, times-are}
@@ -40,10 +40,17 @@ loop-less : tie.Need-loop-less Inv-loop μ-loop
 loop-less c = omega arith
 
 loop-again : tie.Need-loop-again Inv-loop μ-loop
-loop-again c = let n = c .before .before in let l = n .before .loop in (added-next _ _ _ (l .t) (l .inv .0) (time-term _ _ _ _ _ _ (l .t) (c .flow-worth .ensures)), omega arith)
+loop-again c =
+    let n = c .before .before in
+    let l = n .before .loop in
+    (added-next _ _ _ (l .t) (l .inv .0) (time-term _ _ _ _ _ _ (l .t) (c .flow-worth .ensures)), omega arith)
 
 returns : tie.Need-returns Inv-loop μ-loop
-returns c = let l = c .before .loop in let e = c .before .before in let end : l .t ≡ e .before .periods .result = omega arith in l .inv .0 ∙ rw end (times-are _ _ _ _ (e .before .before .period-coupon .ensures) (e .before .periods .ensures) _ (e .coupons-a-year .ensures))
+returns c =
+    let l = c .before .loop in
+    let e = c .before .before in
+    let end : l .t ≡ e .before .periods .result = omega arith in
+    l .inv .0 ∙ rw end (times-are _ _ _ _ (e .before .before .period-coupon .ensures) (e .before .periods .ensures) _ (e .coupons-a-year .ensures))
 
 pub weighted-times-spec : {M : Type 1} → statement M
 weighted-times-spec =

@@ -2,7 +2,6 @@
 use mathlib.Core.Path.{ap, _∙_}
 use Rattle.refusals.specs.Outcome.{accepted}
 use Rattle.refusals.proofs.Verdicts.{refused-by, accepted-by}
-use Rattle.bond.specs.Bonds.{bondLines}
 use Rattle.bond.specs.Price.{currentYield}
 use borrow.Author.Needs.{needs}
 use Rattle.bond.proofs.price.current_yield.Statement.{statement}
@@ -22,11 +21,13 @@ coupon-over-requires c κs = search needs
 
 returns : tie.Need-returns
 unfolding currentYield
-returns c = let a = c .before .before .before .before .args in refused-by (bondLines (a .bond) (a .market)) _ _ _ (c .before .refusal .given .1) (c .before .before .before .judge-bond .ensures)
+returns c = refused-by _ _ _ _ (c .before .refusal .given .1) (c .before .before .before .judge-bond .ensures)
 
 returns-2 : tie.Need-returns-2
 unfolding currentYield
-returns-2 c = let e = c .before in let a = e .before .before .before .args in ap accepted (c .coupon-over .ensures) ∙ accepted-by (bondLines (a .bond) (a .market)) _ _ (e .enum-told .given .1) (e .before .before .judge-bond .ensures)
+returns-2 c =
+    let e = c .before in
+    ap accepted (c .coupon-over .ensures) ∙ accepted-by _ _ _ (e .enum-told .given .1) (e .before .before .judge-bond .ensures)
 
 pub current-yield-spec : {M : Type 1} → statement M
 current-yield-spec =

@@ -2,9 +2,7 @@
 use mathlib.Core.Path.{ap, _∙_}
 use Rattle.refusals.specs.Outcome.{accepted}
 use Rattle.refusals.proofs.Verdicts.{refused-by, accepted-by}
-use Rattle.bond.specs.Bonds.{bondLines}
-use lib.Ieee.{binary64, sub}
-use Rattle.bond.specs.Price.{basisPoint, priceOf, dv01}
+use Rattle.bond.specs.Price.{dv01}
 use borrow.Author.Needs.{needs}
 use Rattle.bond.proofs.price.dv01.Statement.{statement}
 use Rattle.bond.proofs.price.dv01.Tie as tie
@@ -26,11 +24,14 @@ price-at-requires-2 c κs = search needs
 
 returns : tie.Need-returns
 unfolding dv01
-returns c = let a = c .before .before .before .before .args in refused-by (bondLines (a .bond) (a .ytm)) (sub binary64 (priceOf (a .bond) (sub binary64 (a .ytm) basisPoint)) (priceOf (a .bond) (a .ytm))) _ _ (c .before .refusal .given .1) (c .before .before .before .judge-bond .ensures)
+returns c = refused-by _ _ _ _ (c .before .refusal .given .1) (c .before .before .before .judge-bond .ensures)
 
 returns-2 : tie.Need-returns-2
 unfolding dv01
-returns-2 c = let e = c .before .before in let a = e .before .before .before .args in ap accepted (rw (c .before .price-at .ensures, c .price-at2 .ensures)) ∙ accepted-by (bondLines (a .bond) (a .ytm)) (sub binary64 (priceOf (a .bond) (sub binary64 (a .ytm) basisPoint)) (priceOf (a .bond) (a .ytm))) _ (e .enum-told .given .1) (e .before .before .judge-bond .ensures)
+returns-2 c =
+    let e = c .before .before in
+    ap accepted (rw (c .before .price-at .ensures, c .price-at2 .ensures)) ∙ accepted-by _ _ _ (e .enum-told .given .1)
+    (e .before .before .judge-bond .ensures)
 
 pub dv01-spec : {M : Type 1} → statement M
 dv01-spec =

@@ -16,7 +16,9 @@ undiscounted-price-requires c κs = search needs
 
 returns : tie.Need-returns
 unfolding priceOf
-returns c = c .undiscounted-price .ensures ∙ rw (sym (c .before .before .before .period-rate .ensures), sym (c .before .before .absolute-value .ensures), c .before .if1 .taken)
+returns c =
+    c .undiscounted-price .ensures
+    ∙ rw (sym (c .before .before .before .period-rate .ensures), sym (c .before .before .absolute-value .ensures), c .before .if1 .taken)
 
 periods-requires : tie.Need-periods-requires
 periods-requires c κs = search needs
@@ -29,7 +31,16 @@ discounted-price-requires c κs = search needs
 
 returns-2 : tie.Need-returns-2
 unfolding priceOf discount
-returns-2 c = let e = c .before .before .before in c .discounted-price .ensures ∙ rw (c .before .negative-power .ensures, c .before .before .periods .ensures, sym (e .before .before .period-rate .ensures), sym (e .before .absolute-value .ensures), e .if1 .left)
+returns-2 c =
+    let e = c .before .before .before in
+    c .discounted-price .ensures
+    ∙ rw (
+      c .before .negative-power .ensures,
+      c .before .before .periods .ensures,
+      sym (e .before .before .period-rate .ensures),
+      sym (e .before .absolute-value .ensures),
+      e .if1 .left,
+    )
 
 pub price-at-spec : {M : Type 1} → statement M
 price-at-spec =

@@ -23,7 +23,11 @@ settled-requires : tie.Need-settled-requires Inv-loop μ-loop
 settled-requires c κs = search needs
 
 returns : tie.Need-returns Inv-loop μ-loop
-returns c = let n = c .before .before .before in let l = n .before .loop in sym (l .inv ∙ settles _ _ (l .left) (l .search) _ _ (n .loop-test .taken) (c .before .before .readied .ensures) (c .before .settled .ensures) (c .if1 .taken))
+returns c =
+    let n = c .before .before .before in
+    let l = n .before .loop in
+    sym
+    (l .inv ∙ settles _ _ (l .left) (l .search) _ _ (n .loop-test .taken) (c .before .before .readied .ensures) (c .before .settled .ensures) (c .if1 .taken))
 
 passed-requires : tie.Need-passed-requires Inv-loop μ-loop
 passed-requires c κs = search needs
@@ -35,7 +39,12 @@ loop-less : tie.Need-loop-less Inv-loop μ-loop
 loop-less c = omega arith
 
 loop-again : tie.Need-loop-again Inv-loop μ-loop
-loop-again c = let e = c .before in let n = e .before .before .before in let l = n .before .loop in l .inv ∙ goes-on _ _ (l .left) (l .search) _ _ _ (n .loop-test .taken) (e .before .before .readied .ensures) (e .before .settled .ensures) (e .if1 .left) (c .passed .ensures)
+loop-again c =
+    let e = c .before in
+    let n = e .before .before .before in
+    let l = n .before .loop in
+    l .inv ∙ goes-on _ _ (l .left) (l .search) _ _ _ (n .loop-test .taken) (e .before .before .readied .ensures) (e .before .settled .ensures)
+    (e .if1 .left) (c .passed .ensures)
 
 returns-2 : tie.Need-returns-2 Inv-loop μ-loop
 returns-2 c = let l = c .before .loop in sym (l .inv ∙ used-up _ _ (l .left) (l .search) (c .loop-test .left))
