@@ -3,3 +3,4 @@ pub mod Price
 pub mod Brent
 pub mod Yield
 pub mod Durations
+pub mod Codes
