@@ -5,6 +5,7 @@ ghost use Rattle.refusals.specs.Outcome.{judged};
 ghost use Rattle.refusals.specs.Answers.{verdictOutcome};
 ghost use Rattle.refusals.specs.Table.{badNumber};
 ghost use Rattle.bond.specs.Bonds.{perYear, couponsAYear, periodCoupon, periods, badMaturity, bondLines};
+ghost use Rattle.bond.specs.Worked.{WorkedOut};
 use crate::Bond;
 use crate::Frequency;
 use refusals::Verdict;
@@ -41,6 +42,28 @@ pub(crate) fn periods(bond: Bond) -> u32
     ensures { λ r. ⌜ r ≡ periods bond ⌝ }
 {
     numbers::whole::nearest_whole(bond.maturity * coupons_a_year(bond))
+}
+
+// A bond with its numbers worked out once: the coupons a year, the coupon of a period, and the periods.
+pub struct Worked {
+    pub bond: Bond,
+    pub m: f64,
+    pub coupon: f64,
+    pub count: u32,
+}
+
+pub(crate) fn worked_out(bond: Bond) -> Worked
+    ensures { λ w. ⌜ (w .bond ≡ bond) × WorkedOut w ⌝ }
+{
+    let m = coupons_a_year(bond);
+    let coupon = period_coupon(bond);
+    let count = periods(bond);
+    Worked {
+        bond,
+        m,
+        coupon,
+        count,
+    }
 }
 
 // Line 7: a maturity that is not finite, or gives more than 1,200 periods.

@@ -7,7 +7,10 @@ ghost use Rattle.numbers.specs.Sizes.{absolute};
 ghost use Rattle.refusals.specs.Answers.{numberOutcome};
 ghost use Rattle.bond.specs.Price.{epsilon, periodRate, undiscounted, discounted, priceOf, currentYield};
 ghost use Rattle.bond.specs.Price.{price, dv01};
+ghost use Rattle.bond.specs.Worked.{WorkedOut};
 use crate::Bond;
+use crate::bonds::Worked;
+use numbers::sizes::absolute_value;
 use refusals::Number;
 use refusals::Verdict;
 
@@ -19,29 +22,44 @@ pub(crate) fn period_rate(bond: Bond, ytm: f64) -> f64
 }
 
 // At no yield the flows are added as they are.
-fn undiscounted_price(bond: Bond) -> f64
-    ensures { λ p. ⌜ p ≡ undiscounted bond ⌝ }
+fn undiscounted_price(worked: Worked) -> f64
+    requires { ⌜ WorkedOut worked ⌝ }
+    ensures { λ p. ⌜ p ≡ undiscounted (worked .bond) ⌝ }
 {
-    crate::bonds::period_coupon(bond) * crate::bonds::periods(bond) as f64 + bond.face
+    let bond = worked.bond;
+    worked.coupon * worked.count as f64 + bond.face
 }
 
 // The coupons as an annuity, and the face, both discounted.
-fn discounted_price(bond: Bond, r: f64, discount: f64) -> f64
-    ensures { λ p. ⌜ p ≡ discounted bond r discount ⌝ }
+fn discounted_price(worked: Worked, r: f64, discount: f64) -> f64
+    requires { ⌜ WorkedOut worked ⌝ }
+    ensures { λ p. ⌜ p ≡ discounted (worked .bond) r discount ⌝ }
 {
-    crate::bonds::period_coupon(bond) * (1.0 - discount) / r + bond.face * discount
+    let bond = worked.bond;
+    worked.coupon * (1.0 - discount) / r + bond.face * discount
+}
+
+// The price of a worked-out bond at a yield.
+pub(crate) fn price_of(worked: Worked, ytm: f64) -> f64
+    requires { ⌜ WorkedOut worked ⌝ }
+    ensures { λ p. ⌜ p ≡ priceOf (worked .bond) ytm ⌝ }
+{
+    let r = ytm / worked.m;
+    if absolute_value(r) < 1e-12 {
+        return undiscounted_price(worked);
+    }
+    discounted_price(
+        worked,
+        r,
+        elementary::whole_power::negative_power(1.0 + r, worked.count),
+    )
 }
 
 // The price at a yield, whatever the bond is.
 pub(crate) fn price_at(bond: Bond, ytm: f64) -> f64
     ensures { λ p. ⌜ p ≡ priceOf bond ytm ⌝ }
 {
-    let r = period_rate(bond, ytm);
-    if numbers::sizes::absolute_value(r) < 1e-12 {
-        return undiscounted_price(bond);
-    }
-    let n = crate::bonds::periods(bond);
-    discounted_price(bond, r, elementary::whole_power::negative_power(1.0 + r, n))
+    price_of(crate::bonds::worked_out(bond), ytm)
 }
 
 pub fn price(ytm: f64, bond: Bond) -> Number
@@ -67,7 +85,7 @@ pub fn dv01(ytm: f64, bond: Bond) -> Number
 fn coupon_over(market: f64, bond: Bond) -> f64
     ensures { λ r. ⌜ r ≡ cond (lt (absolute market) epsilon) plusZero (div binary64 (mul binary64 (bond .face) (bond .coupon)) market) ⌝ }
 {
-    if numbers::sizes::absolute_value(market) < 2.220446049250313e-16 {
+    if absolute_value(market) < 2.220446049250313e-16 {
         return 0.0;
     }
     bond.face * bond.coupon / market

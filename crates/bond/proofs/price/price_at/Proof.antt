@@ -1,56 +1,17 @@
--- `bond::price::price_at` meets its contract: the test picks the case. Assumes nothing.
-use mathlib.Core.Path.{sym, _∙_}
-use Rattle.bond.specs.Price.{discount, priceOf}
+-- `bond::price::price_at` meets its contract. Assumes nothing.
+use mathlib.Core.Path.{_∙_}
 use borrow.Author.Needs.{needs}
 use Rattle.bond.proofs.price.price_at.Statement.{statement}
 use Rattle.bond.proofs.price.price_at.Tie as tie
 
-period-rate-requires : tie.Need-period-rate-requires
-period-rate-requires c κs = search needs
+worked-out-requires : tie.Need-worked-out-requires
+worked-out-requires c κs = search needs
 
-absolute-value-requires : tie.Need-absolute-value-requires
-absolute-value-requires c κs = search needs
-
-undiscounted-price-requires : tie.Need-undiscounted-price-requires
-undiscounted-price-requires c κs = search needs
+price-of-requires : tie.Need-price-of-requires
+price-of-requires c κs = search needs
 
 returns : tie.Need-returns
-unfolding priceOf
-returns c =
-    c .undiscounted-price .ensures
-    ∙ rw (sym (c .before .before .before .period-rate .ensures), sym (c .before .before .absolute-value .ensures), c .before .if1 .taken)
-
-periods-requires : tie.Need-periods-requires
-periods-requires c κs = search needs
-
-negative-power-requires : tie.Need-negative-power-requires
-negative-power-requires c κs = search needs
-
-discounted-price-requires : tie.Need-discounted-price-requires
-discounted-price-requires c κs = search needs
-
-returns-2 : tie.Need-returns-2
-unfolding priceOf discount
-returns-2 c =
-    let e = c .before .before .before in
-    c .discounted-price .ensures
-    ∙ rw (
-      c .before .negative-power .ensures,
-      c .before .before .periods .ensures,
-      sym (e .before .before .period-rate .ensures),
-      sym (e .before .absolute-value .ensures),
-      e .if1 .left,
-    )
+returns c = c .price-of .ensures ∙ rw (c .before .worked-out .ensures .0)
 
 pub price-at-spec : {M : Type 1} → statement M
-price-at-spec =
-    tie.close
-    (tie.spec
-    period-rate-requires
-    absolute-value-requires
-    undiscounted-price-requires
-    returns
-    periods-requires
-    negative-power-requires
-    discounted-price-requires
-    returns-2)
+price-at-spec = tie.close (tie.spec worked-out-requires price-of-requires returns)
