@@ -14,25 +14,10 @@ use lib.Ieee.Scale.{overflow}
 use Rattle.elementary.specs.Horner.{horner, ln2High, ln2Low}
 use Rattle.elementary.specs.Exp.{factorial, inverseFactorial, highest, lowest, below, halvings, signed, twoTo, reduced, expWithin}
 use Rattle.elementary.proofs.Bounds.{Within, looser, neg-within, round-within, mul-within, add-within, sub-within}
+use Rattle.elementary.proofs.Roundings.{round-no-nan}
 use Rattle.elementary.proofs.Halvings.{in-range, at-most-1023}
 
--- ---- a rounding is no NaN
-odd-no-nan : (d : ℕ) (s : Bool) (q k l : ℕ) → isNan (odd d s q k l) ≡ false
-unfolding odd isNan
-odd-no-nan d s zero k l = refl
-odd-no-nan d s (suc q) k l = refl
-
-units-no-nan : (f : Format) (s : Bool) (q k : ℕ) → isNan (units f s q k) ≡ false
-unfolding units isNan
-units-no-nan f s q k = go (ltb (q * 2 ^ k) (overflow f))
-  where
-    go : (b : Bool) → isNan (cond b (odd (suc (prec f)) s q k (low f)) (inf s)) ≡ false
-    go true = odd-no-nan (suc (prec f)) s q k (low f)
-    go false = refl
-
-round-no-nan : (f : Format) (s : Bool) (a c : ℕ) → isNan (round f s a c) ≡ false
-round-no-nan f s a c = ap isNan (round-is f s a c) ∙ units-no-nan f s (kept (prec f) (a * 2 ^ low f) c) (drop (prec f) (a * 2 ^ low f) c)
-
+-- ---- a product of finite numbers is no NaN
 product-no-nan : (f : Format) (x y : Float) (i j : ℕ) → Within x i → Within y j → isNan (mul f x y) ≡ false
 unfolding mul
 product-no-nan f nan y i j v w = absurd v

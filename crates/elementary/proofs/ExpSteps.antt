@@ -17,12 +17,6 @@ pub minus-708 : neg (ofBits binary64 0x4086_2000_0000_0000) ≡ lowest
 unfolding neg ofBits
 minus-708 = refl
 
--- the steps, each by what the program has of the one before
-module _ (x : Float) (b : Bool) (k : ℕ) (is : b ≡ below x) (nearest : k ≡ halvings x) where
-  pub whole-steps : (w r p t : Float) → w ≡ signed b k → r ≡ reduced x w → p ≡ horner inverseFactorial r 0 13 → t ≡ twoTo b k → mul binary64 p t ≡ expWithin x
-  unfolding expWithin
-  whole-steps w r p t ew er ep et = rw (ep, er, ew, et, is, nearest)
-
 -- ---- the cases
 pub at-nan : (x : Float) → ne x x ≡ true → x ≡ exp x
 unfolding exp
@@ -46,6 +40,8 @@ pub beneath : (x : Float) → ne x x ≡ false → lt highest x ≡ false → lt
 unfolding expNotAbove
 beneath x n h l = sym (not-above x n h ∙ ap (λ (b : Bool). expNotAbove b x) l)
 
-pub within : (x : Float) → ne x x ≡ false → lt highest x ≡ false → lt x lowest ≡ false → expWithin x ≡ exp x
-unfolding expNotAbove
-within x n h l = sym (not-above x n h ∙ ap (λ (b : Bool). expNotAbove b x) l)
+-- the steps, each by what the program has of the one before
+pub steps : (x : Float) → ne x x ≡ false → lt highest x ≡ false → lt x lowest ≡ false → (r p t : Float)
+    → r ≡ reduced x (signed (below x) (halvings x)) → p ≡ horner inverseFactorial r 0 13 → t ≡ twoTo (below x) (halvings x) → mul binary64 p t ≡ exp x
+unfolding expNotAbove expWithin
+steps x n h l r p t er ep et = rw (ep, er, et) (sym (not-above x n h ∙ ap (λ (b : Bool). expNotAbove b x) l))

@@ -15,3 +15,5 @@ pub mod WholeExponents
 pub mod Bounds
 pub mod ExpFinite
 pub mod Laws
+pub mod NearestSmall
+pub mod Multiples

@@ -7,7 +7,7 @@ use native.Mathlib.Nat.{le-refl, le-trans, le-of-lt, le-of-eq, mul-pos}
 use native.Mathlib.Omega.{arith}
 use lib.IntN.{ℤ, pos}
 use lib.Dec.{T, ltb, eqb, ltb→lt, eqb→eq}
-use lib.Ieee.{Float, nan, inf, fin, Format, prec, emax, low, up, down, odd, units, round, lt, le, eq, ofBits}
+use lib.Ieee.{Float, nan, inf, fin, Format, prec, emax, low, up, down, odd, units, isNan, round, lt, le, eq, ofBits}
 use lib.Ieee.Fits.{round-is, down-pos, and-l, and-r}
 use lib.Ieee.Nearest.{div-mono}
 use lib.Ieee.Order.{drop, kept}
@@ -36,6 +36,23 @@ absolute-round f s a c =
     ap absolute (round-is f s a c)
     ∙ absolute-units f s (kept (prec f) (a * 2 ^ low f) c) (drop (prec f) (a * 2 ^ low f) c)
     ∙ sym (round-is f false a c)
+
+-- ---- a rounding is no NaN
+odd-no-nan : (d : ℕ) (s : Bool) (q k l : ℕ) → isNan (odd d s q k l) ≡ false
+unfolding odd isNan
+odd-no-nan d s zero k l = refl
+odd-no-nan d s (suc q) k l = refl
+
+units-no-nan : (f : Format) (s : Bool) (q k : ℕ) → isNan (units f s q k) ≡ false
+unfolding units isNan
+units-no-nan f s q k = go (ltb (q * 2 ^ k) (overflow f))
+  where
+    go : (b : Bool) → isNan (cond b (odd (suc (prec f)) s q k (low f)) (inf s)) ≡ false
+    go true = odd-no-nan (suc (prec f)) s q k (low f)
+    go false = refl
+
+pub round-no-nan : (f : Format) (s : Bool) (a c : ℕ) → isNan (round f s a c) ≡ false
+round-no-nan f s a c = ap isNan (round-is f s a c) ∙ units-no-nan f s (kept (prec f) (a * 2 ^ low f) c) (drop (prec f) (a * 2 ^ low f) c)
 
 -- ---- a size is not below zero
 pub size-not-below : (x : Float) → lt (absolute x) plusZero ≡ false
