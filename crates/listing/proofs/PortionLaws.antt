@@ -2,7 +2,7 @@
 use mathlib.Core.Path.{_≡_, refl, sym, ap, _∙_}
 use mathlib.Core.Logic.{inl, inr}
 use mathlib.Core.Bool.{Bool, true, false, _||_}
-use mathlib.Core.List.{List, [], _++_, append-assoc, append-nil}
+use mathlib.Core.List.{List, _++_, append-assoc, append-nil}
 use Prim.Native.Nat.{ℕ, zero, suc, _+_, _-_, _*_, _/_, _^_, _<_, _≤_, min}
 use native.Mathlib.Nat.{eq-or-lt-of-le, suc-add, zero-add}
 use native.Mathlib.Omega.{arith}
@@ -10,24 +10,22 @@ use lib.ListN.{length}
 use lib.Ieee.{Float}
 use lib.Dec.{eqb, ltb}
 use borrow.Author.Tests.{ltb-false}
-use Rattle.refusals.specs.Outcome.{Outcome, refused, accepted}
+use Rattle.refusals.specs.Outcome.{refused, accepted}
 use Rattle.refusals.specs.Table.{badTerm}
 use Rattle.mortgage.specs.declared.Loan.{Loan}
 use Rattle.mortgage.specs.declared.draws.Portion.{Portion}
-use Rattle.mortgage.specs.declared.draws.Drawing.{Drawing}
-use Rattle.mortgage.specs.declared.draws.Drawing.the-variants as drawing-is
 use Rattle.mortgage.specs.Row.{width}
-use Rattle.mortgage.specs.RowRule.{endMonth, due, rowOf, nextOf}
+use Rattle.mortgage.specs.RowRule.{endMonth, due, nextOf}
 use Rattle.mortgage.specs.Steps.{stepped, written}
 use Rattle.mortgage.specs.Rows.{after}
-use Rattle.mortgage.specs.Draws.{portion, drawn, filledBy, filled, drawingOutcome}
+use Rattle.mortgage.specs.Draws.{drawn, filled}
 use Rattle.mortgage.specs.Demand3.{rowsIn}
 use Rattle.mortgage.proofs.Portions.{stepped-sum}
 use Rattle.mortgage.proofs.RowLaws.{end-after, done-after, due-after}
 use Rattle.mortgage.proofs.DrawCases.{rowPlaces, wide, drawn-finished, drawn-rows}
-use Rattle.mortgage.proofs.DrawLaws.{rows-drawn, written-plus-owed, written-within, hands-on}
+use Rattle.mortgage.proofs.DrawLaws.{rows-drawn, written-plus-owed, hands-on}
 use Rattle.listing.specs.declared.portions.Listed.{Listed}
-use Rattle.listing.specs.Listing.{rowLine, rowLines}
+use Rattle.listing.specs.Listing.{rowLines}
 use Rattle.listing.specs.Putting.{Put}
 use Rattle.listing.specs.Portions.{roomLines, lineRoom, Listable, Lists}
 use Rattle.listing.proofs.Putting.{then, same-text, nothing, same-room}
