@@ -1,7 +1,10 @@
-// What the bench links: a loan opened and drawn once, over plain numbers.
+// What the bench links, over plain numbers: a loan opened and drawn once, a bond's price and yield, exp.
+mod bonds;
+mod exps;
+
 ghost use mathlib.Core.Path.{_≡_};
 ghost use Rattle.mortgage.specs.Payment.{opened, openedWith, openingOutcome};
-ghost use Rattle.bench_loan.specs.Schedule.{terms, rowsOf, roomOf};
+ghost use Rattle.bench_jobs.specs.Schedule.{terms, rowsOf, roomOf};
 use mortgage::draws::Drawing;
 use mortgage::opening::Opening;
 use records::Terms;

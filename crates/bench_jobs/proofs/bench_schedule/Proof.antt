@@ -1,12 +1,12 @@
--- `bench_loan::bench_schedule` meets its contract: the opening with the worked-out payment, and the draw on it. Assumes nothing.
+-- `bench_jobs::bench_schedule` meets its contract: the opening with the worked-out payment, and the draw on it. Assumes nothing.
 use mathlib.Core.Path.{ap, _∙_}
 use borrow.Author.Needs.{needs}
 use denote.Ref.{now}
 use Rattle.mortgage.specs.declared.Loan.{Loan}
 use Rattle.refusals.specs.Outcome.{Outcome}
-use Rattle.bench_loan.specs.Schedule.{rowsOf, roomOf}
-use Rattle.bench_loan.proofs.bench_schedule.Statement.{statement}
-use Rattle.bench_loan.proofs.bench_schedule.Tie as tie
+use Rattle.bench_jobs.specs.Schedule.{rowsOf, roomOf}
+use Rattle.bench_jobs.proofs.bench_schedule.Statement.{statement}
+use Rattle.bench_jobs.proofs.bench_schedule.Tie as tie
 
 open-requires : tie.Need-open-requires
 open-requires c κs = search needs

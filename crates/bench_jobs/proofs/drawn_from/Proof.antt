@@ -1,13 +1,13 @@
--- `bench_loan::drawn_from` meets its contract. Assumes nothing.
+-- `bench_jobs::drawn_from` meets its contract. Assumes nothing.
 use mathlib.Core.Path.{sym, ap}
 use borrow.Author.Needs.{needs}
 use denote.Ref.{now}
 use Rattle.mortgage.specs.Draws.{drawingOutcome}
 use Rattle.mortgage.specs.Demand3.{rowsIn}
 use Rattle.mortgage.specs.declared.draws.Drawing.{Drawing}
-use Rattle.bench_loan.proofs.Drawn.{not-opened, drawn-as}
-use Rattle.bench_loan.proofs.drawn_from.Statement.{statement}
-use Rattle.bench_loan.proofs.drawn_from.Tie as tie
+use Rattle.bench_jobs.proofs.Drawn.{not-opened, drawn-as}
+use Rattle.bench_jobs.proofs.drawn_from.Statement.{statement}
+use Rattle.bench_jobs.proofs.drawn_from.Tie as tie
 
 enum-told : tie.Need-enum-told
 enum-told c = search needs

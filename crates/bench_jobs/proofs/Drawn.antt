@@ -14,7 +14,7 @@ use Rattle.mortgage.specs.declared.draws.Drawing.the-variants as drawing-is
 use Rattle.mortgage.specs.Payment.{openingOutcome}
 use Rattle.mortgage.specs.Draws.{drawn, filled, drawingOutcome}
 use Rattle.mortgage.specs.Demand3.{rowsIn}
-use Rattle.bench_loan.specs.Schedule.{rowsOf, roomOf}
+use Rattle.bench_jobs.specs.Schedule.{rowsOf, roomOf}
 
 -- so many rows in a room that was this one before
 abbrev pub Answer : Opening → List Float → ℕ → List Float → Type 0

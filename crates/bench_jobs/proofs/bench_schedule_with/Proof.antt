@@ -1,12 +1,12 @@
--- `bench_loan::bench_schedule_with` meets its contract: the opening with a given payment, and the draw on it. Assumes nothing.
+-- `bench_jobs::bench_schedule_with` meets its contract: the opening with a given payment, and the draw on it. Assumes nothing.
 use mathlib.Core.Path.{ap, _∙_}
 use borrow.Author.Needs.{needs}
 use denote.Ref.{now}
 use Rattle.mortgage.specs.declared.Loan.{Loan}
 use Rattle.refusals.specs.Outcome.{Outcome}
-use Rattle.bench_loan.specs.Schedule.{rowsOf, roomOf}
-use Rattle.bench_loan.proofs.bench_schedule_with.Statement.{statement}
-use Rattle.bench_loan.proofs.bench_schedule_with.Tie as tie
+use Rattle.bench_jobs.specs.Schedule.{rowsOf, roomOf}
+use Rattle.bench_jobs.proofs.bench_schedule_with.Statement.{statement}
+use Rattle.bench_jobs.proofs.bench_schedule_with.Tie as tie
 
 open-with-payment-requires : tie.Need-open-with-payment-requires
 open-with-payment-requires c κs = search needs
