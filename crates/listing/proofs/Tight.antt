@@ -4,8 +4,7 @@ use mathlib.Core.List.{List, _++_}
 use Prim.Native.Nat.{ℕ}
 use lib.ListN.{drop}
 use denote.Ref.{now}
-use Rattle.numbers.proofs.Tight.{Determined}
-use Rattle.records.proofs.Tight.{Settled}
+use Rattle.numbers.proofs.Determined.{Determined, Settled}
 use Rattle.listing.specs.Listing.{listing}
 use Rattle.listing.proofs.list.Kinds as list-kinds
 use Rattle.listing.proofs.list.Reads as list

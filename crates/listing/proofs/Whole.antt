@@ -16,7 +16,7 @@ use Rattle.mortgage.specs.Terms.{termsLines as loanTermsLines}
 use Rattle.mortgage.specs.Payment.{payment, loanOf, openedWith, opened}
 use Rattle.mortgage.specs.RowRule.{due}
 use Rattle.mortgage.specs.Rows.{after}
-use Rattle.mortgage.proofs.DrawLaws.{accepted-value}
+use Rattle.refusals.proofs.Verdicts.{accepted-value}
 use Rattle.listing.specs.declared.portions.Listed.{Listed}
 use Rattle.listing.specs.Listing.{header, rowLines, footer, refusedLine, loanLines, termsLines, listing}
 use Rattle.listing.specs.Putting.{Put}

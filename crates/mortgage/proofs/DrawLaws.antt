@@ -13,6 +13,7 @@ use lib.Seq.{take-at, drop-at}
 use lib.Ieee.{Float}
 use borrow.Author.Tests.{ltb-true, ltb-false}
 use Rattle.refusals.specs.Outcome.{Outcome, refused, accepted, Line, firstOr, judged}
+use Rattle.refusals.proofs.Verdicts.{accepted-value}
 use Rattle.refusals.specs.Table.{badTerm}
 use Rattle.mortgage.specs.declared.Loan.{Loan}
 use Rattle.mortgage.specs.declared.draws.Portion.{Portion}
@@ -24,18 +25,6 @@ use Rattle.mortgage.specs.Draws.{drawLines, count, portion, drawn, fille
 use Rattle.mortgage.specs.Demand3.{rowsIn, handedBack, wrote}
 use Rattle.mortgage.proofs.Portions.{length-written}
 use Rattle.mortgage.proofs.DrawCases.{rowPlaces, wide, drawn-short, drawn-rows}
-
--- ---- what is accepted is the value that the lines judge
-first-accepts : {Value : Type 0} (k p : ℕ) (bs : List Bool) (rest : Outcome Value) (d : Value) → firstOr k p bs rest ≡ accepted d → rest ≡ accepted d
-unfolding firstOr
-first-accepts k p [] rest d e = e
-first-accepts k p (true ∷ bs) rest d e = let z : _≡_ {A = ℕ} 0 1 = cc in absurd (omega arith)
-first-accepts k p (false ∷ bs) rest d e = first-accepts k (suc p) bs rest d e
-
-pub accepted-value : {Value : Type 0} (ls : List Line) (v d : Value) → judged ls v ≡ accepted d → d ≡ v
-unfolding judged
-accepted-value [] v d e = cc
-accepted-value (l ∷ ls) v d e = accepted-value ls v d (first-accepts (l .number) 0 (l .causes) (judged ls v) d e)
 
 -- ---- so many rows are so many times their places
 pub length-rows : (k : ℕ) (l : Loan) → length (rows k l) ≡ k * width

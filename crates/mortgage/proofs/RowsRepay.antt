@@ -17,8 +17,10 @@ use Rattle.numbers.specs.Sums.{exactSum}
 use Rattle.numbers.specs.Units.{units, miss}
 use Rattle.numbers.proofs.Amounts.{amount}
 use Rattle.numbers.proofs.Order.{le-amount, zero-amount, zero-count}
-use Rattle.numbers.proofs.Clamping.{raised-amount}
+use Rattle.numbers.proofs.Clamping.{raised-zero, raised-amount}
 use Rattle.numbers.proofs.Repayment as repayment
+use Rattle.numbers.proofs.Repayment.{Repaying}
+use Rattle.numbers.proofs.Sums.{same-sum}
 use Rattle.mortgage.specs.declared.Loan.{Loan}
 use Rattle.mortgage.specs.Row.{width, principalPlace, balancePlace}
 use Rattle.mortgage.specs.RowRule.{endMonth, due, last, interestOf, principalOf, newBalance, rowOf, nextOf}
@@ -44,13 +46,6 @@ falls : (l : Loan) (k : ℕ) → balance l (suc k) ≡ sub binary64 (balance l k
 unfolding stepped nextOf newBalance
 falls l k = refl
 
-raised-zero : raised plusZero ≡ plusZero
-raised-zero = go (lt plusZero plusZero)
-  where
-    go : (b : Bool) → cond b plusZero plusZero ≡ plusZero
-    go true = refl
-    go false = refl
-
 place : (n : ℕ) (l : Loan) (i j : ℕ) → i < n → j < width → getD (rows n l) (i * width + j) nan ≡ getD (rowPlaces (after i l)) j nan
 place n l i j h w = column nextOf rowPlaces width wide n l i j nan h w
 
@@ -61,11 +56,6 @@ principal-column n l i h = place n l i principalPlace h (omega arith)
 balance-column : (n : ℕ) (l : Loan) (i : ℕ) → i < n → balanceAt (rows n l) i ≡ raised (balance l (suc i))
 unfolding rowOf stepped nextOf
 balance-column n l i h = place n l i balancePlace h (omega arith)
-
-same-sum : (f g : ℕ → Float) (n : ℕ) → ((i : ℕ) → i < n → f i ≡ g i) → exactSum f n ≡ exactSum g n
-unfolding exactSum
-same-sum f g zero same = refl
-same-sum f g (suc n) same = rw (same-sum f g n (λ i h. same i (omega arith)), same n (le-refl (suc n)))
 
 -- ---- m ordinary months are due, and then the last
 module _ (l : Loan) (m : ℕ) (ends : due l ≡ suc m) where
@@ -90,34 +80,37 @@ module _ (l : Loan) (m : ℕ) (ends : due l ≡ suc m) where
   clears = rw last-month
 
   module _ (start : T (amount binary64 (l .balance))) where
-    asked-fits : (k : ℕ) → k < m → T (fits binary64 (asked l k))
-    asked-fits k h = sub-fits binary64 (after k l .payment) (interestOf (after k l))
-
-    opens : T (amount binary64 (balance l 0))
+    repaying : Repaying (balance l) (part l) (asked l) m
     unfolding stepped
-    opens = start
+    repaying = record {
+      asked-fits = λ k h. sub-fits binary64 (after k l .payment) (interestOf (after k l));
+      start = start;
+      parts = parts;
+      falls = λ k h. falls l k;
+      clears = clears;
+    }
 
     ends-at-zero : balance l (suc m) ≡ plusZero
-    ends-at-zero = falls l m ∙ repayment.last-is-zero (balance l) (part l) (asked l) m asked-fits opens parts (λ k h. falls l k) clears
+    ends-at-zero = falls l m ∙ repayment.last-is-zero repaying
 
     balance-amount : (k : ℕ) → k ≤ suc m → T (amount binary64 (balance l k))
     balance-amount k h = elim (eq-or-lt-of-le h) [
       | inl e ↦ rw (e, ends-at-zero) (zero-amount binary64)
-      | inr g ↦ repayment.amount-at (balance l) (part l) (asked l) m asked-fits opens parts (λ k h. falls l k) clears k (le-of-suc-le-suc g)
+      | inr g ↦ repayment.amount-at repaying k (le-of-suc-le-suc g)
     ]
 
     part-amount : (k : ℕ) → k < suc m → T (amount binary64 (part l k)) × (units (part l k) ≤ units (balance l k))
-    part-amount k h = repayment.part-amount (balance l) (part l) (asked l) m asked-fits opens parts (λ k h. falls l k) clears k (le-of-suc-le-suc h)
+    part-amount k h = repayment.part-amount repaying k (le-of-suc-le-suc h)
 
     never-rises : (k : ℕ) → k < suc m → units (balance l (suc k)) ≤ units (balance l k)
     never-rises k h = elim (eq-or-lt-of-le (le-of-suc-le-suc h)) [
       | inl e ↦ rw (e, ends-at-zero, zero-count binary64) (omega arith)
-      | inr g ↦ repayment.never-rises (balance l) (part l) (asked l) m asked-fits opens parts (λ k h. falls l k) clears k g
+      | inr g ↦ repayment.never-rises repaying k g
     ]
 
     adds-up : 2 ^ 53 * miss (exactSum (part l) (suc m)) (units (l .balance)) ≤ m * units (l .balance)
     unfolding stepped
-    adds-up = repayment.adds-up (balance l) (part l) (asked l) m asked-fits opens parts (λ k h. falls l k) clears
+    adds-up = repayment.adds-up repaying
 
     -- ---- the columns
     column-amount : (i : ℕ) → i < suc m → T (amount binary64 (balanceAt (rows (suc m) l) i)) × (units (balanceAt (rows (suc m) l) i) ≡ units (balance l (suc i)))

@@ -10,6 +10,7 @@ use lib.ListN.{length}
 use lib.Ieee.{Float}
 use borrow.Author.Tests.{ltb-false}
 use Rattle.refusals.specs.Outcome.{refused, accepted, firstOr, judged}
+use Rattle.refusals.proofs.Verdicts.{accepted-value}
 use Rattle.refusals.specs.Table.{badAmount, badTerm}
 use Rattle.records.specs.declared.Terms.{Terms}
 use Rattle.mortgage.specs.declared.Loan.{Loan}
@@ -24,7 +25,7 @@ use Rattle.mortgage.specs.Demand3.{rowsIn, handedBack, wrote, filed, lef
 use Rattle.mortgage.proofs.Portions.{stepped-sum, written-sum}
 use Rattle.mortgage.proofs.RowLaws.{due-after}
 use Rattle.mortgage.proofs.DrawCases.{rowPlaces, wide}
-use Rattle.mortgage.proofs.DrawLaws.{accepted-value, wrote-is, rows-within, rows-drawn, handed-back}
+use Rattle.mortgage.proofs.DrawLaws.{wrote-is, rows-within, rows-drawn, handed-back}
 
 -- ---- the draws of a loan in hand filed so many of its rows, and left it after them
 pub record Filed (l : Loan) (rooms : List (List Float)) : Type 0 where

@@ -8,15 +8,15 @@ use Rattle.refusals.specs.declared.Number.{Number}
 use Rattle.refusals.specs.declared.Number.the-variants as number-is
 use Rattle.refusals.specs.declared.Count.{Count}
 use Rattle.refusals.specs.declared.Count.the-variants as count-is
-use Rattle.refusals.specs.Outcome.{Outcome, refused, accepted}
+use Rattle.refusals.specs.Outcome.{Outcome, refused}
 use Rattle.refusals.specs.Answers.{verdictOutcome, numberOutcome, countOutcome}
+
+pub same-parts : (r s : Refusal) → r .number ≡ s .number → r .place ≡ s .place → r ≡ s
+same-parts r s n p = ap (λ (k : ℕ). record { number = k; place = r .place }) n ∙ ap (λ (q : ℕ). record { number = s .number; place = q }) p
 
 -- what any answer enum needs, for values of any kind
 pub same-refusal : {Value : Type 0} (r s : Refusal) → _≡_ {A = Outcome Value} (refused (r .number) (r .place)) (refused (s .number) (s .place)) → r ≡ s
-same-refusal r s e =
-    let n : r .number ≡ s .number = cc in
-    let p : r .place ≡ s .place = cc in
-    ap (λ (k : ℕ). record { number = k; place = r .place }) n ∙ ap (λ (q : ℕ). record { number = s .number; place = q }) p
+same-refusal r s e = same-parts r s (cc) (cc)
 
 pub verdict-one-to-one : (x y : Verdict) → verdictOutcome x ≡ verdictOutcome y → x ≡ y
 verdict-one-to-one (verdict-is.Refused r) (verdict-is.Refused s) e = ap verdict-is.Refused (same-refusal r s e)

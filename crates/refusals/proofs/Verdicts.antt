@@ -3,6 +3,7 @@ use mathlib.Core.Path.{_≡_, refl, sym, ap, _∙_}
 use mathlib.Core.Bool.{Bool, true, false}
 use mathlib.Core.List.{List, [], _∷_}
 use Prim.Native.Nat.{ℕ, suc}
+use native.Mathlib.Omega.{arith}
 use Rattle.refusals.specs.declared.Refusal.{Refusal}
 use Rattle.refusals.specs.declared.Verdict.{Verdict}
 use Rattle.refusals.specs.declared.Verdict.the-variants as verdict-is
@@ -49,3 +50,15 @@ accepted-by ls v x h e = accepted-alike ls v (sym (ap verdictOutcome h) ∙ e)
 -- a refusal of a line that names no list
 pub refused-as : {Value : Type 0} (k : ℕ) (r : Refusal) (o : Outcome Value) → (r .number ≡ k) × (r .place ≡ 0) → refused k 0 ≡ o → refused (r .number) (r .place) ≡ o
 refused-as k r o h e = rw (h .0, h .1) e
+
+-- ---- what is accepted is the value that the lines judge
+first-accepts : {Value : Type 0} (k p : ℕ) (bs : List Bool) (rest : Outcome Value) (d : Value) → firstOr k p bs rest ≡ accepted d → rest ≡ accepted d
+unfolding firstOr
+first-accepts k p [] rest d e = e
+first-accepts k p (true ∷ bs) rest d e = let z : _≡_ {A = ℕ} 0 1 = cc in absurd (omega arith)
+first-accepts k p (false ∷ bs) rest d e = first-accepts k (suc p) bs rest d e
+
+pub accepted-value : {Value : Type 0} (ls : List Line) (v d : Value) → judged ls v ≡ accepted d → d ≡ v
+unfolding judged
+accepted-value [] v d e = cc
+accepted-value (l ∷ ls) v d e = accepted-value ls v d (first-accepts (l .number) 0 (l .causes) (judged ls v) d e)

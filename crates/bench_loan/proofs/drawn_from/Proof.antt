@@ -1,49 +1,51 @@
+-- `bench_loan::drawn_from` meets its contract. Assumes nothing.
+use mathlib.Core.Path.{sym, ap}
 use borrow.Author.Needs.{needs}
+use denote.Ref.{now}
+use Rattle.mortgage.specs.Draws.{drawingOutcome}
+use Rattle.mortgage.specs.Demand3.{rowsIn}
+use Rattle.mortgage.specs.declared.draws.Drawing.{Drawing}
+use Rattle.bench_loan.proofs.Drawn.{not-opened, drawn-as}
 use Rattle.bench_loan.proofs.drawn_from.Statement.{statement}
 use Rattle.bench_loan.proofs.drawn_from.Tie as tie
-use Rattle.bench_loan.proofs.drawn_from.Reads as reads
-use Rattle.bench_loan.proofs.drawn_from.Lts as lts
-use Rattle.mortgage.proofs.draws.draw.Reads as draw-reads
 
--- src/lib.rt:16:32
 enum-told : tie.Need-enum-told
 enum-told c = search needs
 
--- src/lib.rt:17:23
 enum-known-opening : tie.Need-enum-known-opening
 enum-known-opening c = search needs
 
--- src/lib.rt:17:38
 draw-requires : tie.Need-draw-requires
 draw-requires c κs = search needs
 
--- src/lib.rt:18:36
 enum-told-2 : tie.Need-enum-told-2
 enum-told-2 c = search needs
 
--- src/lib.rt:19:28
 enum-known-portion : tie.Need-enum-known-portion
 enum-known-portion c = search needs
 
--- src/lib.rt:11:1
 returns : tie.Need-returns
-returns c = ?
+returns c = let a = c .before .before .before .args in not-opened (a .opening) _ (now (a .room)) (c .enum-told .given .1)
 
--- src/lib.rt:11:1
 same-length : tie.Need-same-length
 same-length c = search needs
 
--- src/lib.rt:11:1
 returns-2 : tie.Need-returns-2
-returns-2 c = ?
+returns-2 c =
+    let d = c .before .before .before .before in
+    let a = d .before .before .before .before .before .before .args in
+    drawn-as (a .opening) _ (d .draw .result) (now (a .room)) (d .draw .last .1 .0) 0 (d .before .before .before .opening .given .1)
+    (sym (ap (λ (y : Drawing). rowsIn (drawingOutcome y)) (c .enum-told2 .given .1))) (d .draw .ensures .0) (d .draw .ensures .1)
 
--- src/lib.rt:11:1
 same-length-2 : tie.Need-same-length-2
 same-length-2 c = search needs
 
--- src/lib.rt:11:1
 returns-3 : tie.Need-returns-3
-returns-3 c = ?
+returns-3 c =
+    let d = c .before .before .before .before .before in
+    let a = d .before .before .before .before .before .before .args in
+    drawn-as (a .opening) _ (d .draw .result) (now (a .room)) (d .draw .last .1 .0) (c .before .portion .given .0 .0 .written) (d .before .before .before .opening .given .1)
+    (sym (ap (λ (y : Drawing). rowsIn (drawingOutcome y)) (c .before .portion .given .1))) (d .draw .ensures .0) (d .draw .ensures .1)
 
 pub drawn-from-spec : {M : Type 1} → statement M
 drawn-from-spec =
