@@ -15,7 +15,7 @@ use Rattle.mortgage.proofs.Portions.{stepped-next}
 -- the loan l in hand after k rows of the loan l₀
 module _ (l₀ l : Loan) (k : ℕ) (reached : l ≡ after k l₀) where
   pub next-reached : (l′ : Loan) → l′ ≡ nextOf l → l′ ≡ after (k + 1) l₀
-  next-reached l′ e = e ∙ ap nextOf reached ∙ stepped-next nextOf (λ (m : Loan). places (rowOf m)) width (λ m. refl) k l₀
+  next-reached l′ e = e ∙ ap nextOf reached ∙ stepped-next nextOf k l₀
 
   pub interest-added : (total : Float) (row : Row) → row ≡ rowOf l → total ≡ addedUp (interestAt l₀) k → add binary64 total (row .interest) ≡ addedUp (interestAt l₀) (k + 1)
   unfolding addedUp rowOf

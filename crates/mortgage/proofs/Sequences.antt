@@ -47,8 +47,8 @@ filed-more l room rooms f =
     let h : handedBack (drawn l room) l ≡ after k l = handed-back l room in
     record {
       many = n + k;
-      numbers = rw (wrote-is l room, f .numbers, h) (sym (written-sum nextOf rowPlaces width wide k n l));
-      state = f .state ∙ rw h (sym (stepped-sum nextOf rowPlaces width wide k n l));
+      numbers = rw (wrote-is l room, f .numbers, h) (sym (written-sum nextOf rowPlaces k n l));
+      state = f .state ∙ rw h (sym (stepped-sum nextOf k n l));
       within = omega (arith, rows-within l room, f .within, due-after k l, ap due h);
     }
 
