@@ -2,9 +2,9 @@
 use mathlib.Core.Path.{_≡_, refl, sym, ap, _∙_}
 use mathlib.Core.Logic.{inl, inr}
 use mathlib.Core.Bool.{Bool, true, false, _||_}
-use mathlib.Core.List.{List, _++_, append-assoc, append-nil}
+use mathlib.Core.List.{List, _++_}
 use Prim.Native.Nat.{ℕ, zero, suc, _+_, _-_, _*_, _/_, _^_, _<_, _≤_, min}
-use native.Mathlib.Nat.{eq-or-lt-of-le, suc-add, zero-add}
+use native.Mathlib.Nat.{eq-or-lt-of-le}
 use native.Mathlib.Omega.{arith}
 use lib.ListN.{length}
 use lib.Ieee.{Float}
@@ -22,7 +22,7 @@ use Rattle.mortgage.specs.Draws.{drawn, filled}
 use Rattle.mortgage.specs.Demand3.{rowsIn}
 use Rattle.mortgage.proofs.Portions.{stepped-sum, written-sum}
 use Rattle.mortgage.proofs.RowLaws.{end-after, done-after, due-after}
-use Rattle.mortgage.proofs.DrawCases.{rowPlaces, wide, drawn-finished, drawn-rows}
+use Rattle.mortgage.proofs.DrawCases.{drawn-finished, drawn-rows}
 use Rattle.mortgage.proofs.DrawLaws.{rows-drawn, written-plus-owed, hands-on}
 use Rattle.listing.specs.declared.portions.Listed.{Listed}
 use Rattle.listing.specs.Listing.{rowLine, rowLines}

@@ -1,8 +1,8 @@
 -- Laws of a state that steps on and of what its steps write into a room, for any state, any step and any width: portions add up, and a piece laid behind those that stand is the next one. Assumes nothing.
-use mathlib.Core.Path.{_≡_, refl, sym, ap, _∙_}
-use mathlib.Core.List.{List, [], _∷_, _++_, append-assoc, append-nil}
-use Prim.Native.Nat.{ℕ, zero, suc, _+_, _-_, _*_, _/_, _<_, _≤_, min}
-use native.Mathlib.Nat.{suc-add, zero-add, zero-mul, suc-mul, add-mul, mul-le-mul-right, le-trans}
+use mathlib.Core.Path.{_≡_, sym, ap, _∙_}
+use mathlib.Core.List.{List, _++_, append-assoc, append-nil}
+use Prim.Native.Nat.{ℕ, zero, suc, _+_, _-_, _*_, _≤_}
+use native.Mathlib.Nat.{suc-add, zero-add, zero-mul, suc-mul, add-mul}
 use native.Mathlib.Numerals.{add-one}
 use native.Mathlib.Omega.{arith}
 use lib.ListN.{length, take, drop, length-append, length-drop, length-take, drop-of-length-le}

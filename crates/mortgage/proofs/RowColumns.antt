@@ -1,12 +1,11 @@
 -- Columns of a loan's rows, walked row by row: the interest column added up, and the balance column's last entry. Assumes nothing.
-use mathlib.Core.Path.{_≡_, refl, ap, _∙_}
+use mathlib.Core.Path.{_≡_, ap, _∙_}
 use Prim.Native.Nat.{ℕ, _+_}
 use native.Mathlib.Numerals.{add-one}
 use lib.Ieee.{Float, binary64, add}
 use Rattle.numbers.specs.Sums.{addedUp}
 use Rattle.records.specs.declared.Row.{Row}
 use Rattle.mortgage.specs.declared.Loan.{Loan}
-use Rattle.mortgage.specs.Row.{width, places}
 use Rattle.mortgage.specs.RowRule.{rowOf, nextOf}
 use Rattle.mortgage.specs.Rows.{after}
 use Rattle.mortgage.specs.Totals.{interestAt, balanceAfter}

@@ -24,7 +24,7 @@ use Rattle.mortgage.specs.Draws.{count, drawn}
 use Rattle.mortgage.specs.Demand3.{rowsIn, handedBack, wrote, filed, left, roomy}
 use Rattle.mortgage.proofs.Portions.{stepped-sum, written-sum}
 use Rattle.mortgage.proofs.RowLaws.{due-after}
-use Rattle.mortgage.proofs.DrawCases.{rowPlaces, wide}
+use Rattle.mortgage.proofs.DrawCases.{rowPlaces}
 use Rattle.mortgage.proofs.DrawLaws.{wrote-is, rows-within, rows-drawn, handed-back}
 
 -- ---- the draws of a loan in hand filed so many of its rows, and left it after them
