@@ -1,16 +1,13 @@
 -- What an opening and then a draw answered, case by case. Assumes nothing.
-use mathlib.Core.Path.{_≡_, refl, sym, ap, _∙_}
+use mathlib.Core.Path.{_≡_, refl, ap, _∙_}
 use mathlib.Core.List.{List}
 use Prim.Native.Nat.{ℕ}
 use lib.Ieee.{Float}
 use Rattle.refusals.specs.declared.Refusal.{Refusal}
-use Rattle.refusals.specs.Outcome.{Outcome}
 use Rattle.mortgage.specs.declared.Loan.{Loan}
 use Rattle.mortgage.specs.declared.opening.Opening.{Opening}
 use Rattle.mortgage.specs.declared.opening.Opening.the-variants as opening-is
-use Rattle.mortgage.specs.declared.draws.Portion.{Portion}
 use Rattle.mortgage.specs.declared.draws.Drawing.{Drawing}
-use Rattle.mortgage.specs.declared.draws.Drawing.the-variants as drawing-is
 use Rattle.mortgage.specs.Payment.{openingOutcome}
 use Rattle.mortgage.specs.Draws.{drawn, filled, drawingOutcome}
 use Rattle.mortgage.specs.Demand3.{rowsIn}
