@@ -17,3 +17,4 @@ pub mod ExpFinite
 pub mod Laws
 pub mod NearestSmall
 pub mod Multiples
+pub mod PartWay

@@ -134,7 +134,8 @@ fn all_inside(numbers: &[f64]) -> bool
 }
 
 // Eight sums of the series at once.
-fn series_of_eight(rests: &[f64; 8]) -> [f64; 8]
+fn series_of_eight(rests: &[f64]) -> [f64; 8]
+    requires { ⌜ length (now rests) ≡ 8 ⌝ }
     ensures { λ r. ⌜ r ≡ map (λ x. horner inverseFactorial x 0 13) (now (rests .entry)) ⌝ }
 {
     let mut sums = [inverse_factorial(13); 8];
