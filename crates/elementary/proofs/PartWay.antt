@@ -1,11 +1,11 @@
 -- Lists that a loop changes place by place: f of the first j numbers, and g of the others. Assumes nothing.
-use mathlib.Core.Path.{_≡_, refl, ap, ap₂}
-use mathlib.Core.List.{List, [], _∷_, map}
+use mathlib.Core.Path.{_≡_, refl, sym, ap, ap₂}
+use mathlib.Core.List.{List, [], _∷_, _++_, map}
 use Prim.Native.Nat.{ℕ, zero, suc, _+_, _≤_, _<_}
-use native.Mathlib.Nat.{not-suc-le-zero, le-of-suc-le-suc}
+use native.Mathlib.Nat.{zero-add, suc-add, not-suc-le-zero, le-of-suc-le-suc}
 use native.Mathlib.Numerals.{add-one}
 use native.Mathlib.Omega.{arith}
-use lib.ListN.{length, length-map, getD, set, replicate}
+use lib.ListN.{length, length-map, getD, set, take, drop, replicate}
 use lib.Ieee.{Float, nan}
 
 unfoldable pub partWay : (Float → Float) → (Float → Float) → ℕ → List Float → List Float
@@ -79,3 +79,21 @@ copies (suc n) v (x ∷ xs) e = ap (λ (r : List Float). v ∷ r) (copies n v xs
   where
     less : (a b : ℕ) → suc a ≡ suc b → a ≡ b
     less a b e = omega arith
+
+-- ---- a part of the list, done at once
+front : (f : Float → Float) (n : ℕ) (xs : List Float) → map f (take n xs) ++ drop n xs ≡ partWay f (λ x. x) n xs
+unfolding partWay
+front f zero xs = sym (map-same xs)
+front f (suc n) [] = refl
+front f (suc n) (x ∷ xs) = ap (λ (r : List Float). f x ∷ r) (front f n xs)
+
+part : (f : Float → Float) (a n : ℕ) (xs : List Float) → a ≤ length xs
+    → take a (partWay f (λ x. x) a xs) ++ (map f (take n (drop a (partWay f (λ x. x) a xs))) ++ drop n (drop a (partWay f (λ x. x) a xs))) ≡ partWay f (λ x. x) (a + n) xs
+unfolding partWay
+part f zero n xs h = rw (map-same xs, zero-add n) (front f n xs)
+part f (suc a) n [] h = absurd (not-suc-le-zero h)
+part f (suc a) n (x ∷ xs) h = rw (suc-add a n) (ap (λ (r : List Float). f x ∷ r) (part f a n xs (le-of-suc-le-suc h)))
+
+pub part-further : (f : Float → Float) (a n : ℕ) (xs ys done : List Float) → a ≤ length xs → ys ≡ partWay f (λ x. x) a xs → done ≡ map f (take n (drop a ys))
+    → take a ys ++ (done ++ drop n (drop a ys)) ≡ partWay f (λ x. x) (a + n) xs
+part-further f a n xs ys done h e d = rw (d, e) (part f a n xs h)

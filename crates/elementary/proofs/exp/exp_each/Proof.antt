@@ -1,83 +1,91 @@
+-- `elementary::exp::exp_each` meets its contract: the numbers before `at` are done, the others as they were. Assumes nothing.
+use mathlib.Core.Path.{_≡_, refl, sym, ap, _∙_}
+use mathlib.Core.List.{List, map}
+use Prim.Native.Nat.{ℕ, _+_, _-_, _≤_, _<_}
+use native.Mathlib.Omega.{arith}
+use borrow.Author.Needs.{needs}
+use borrow.Rule.Slice.PartMut.{same-len-mid}
+use denote.Ref.{now}
+use lib.ListN.{length, length-take, length-drop}
+use lib.Ieee.{Float}
+use Rattle.elementary.specs.Exp.{exp}
+use Rattle.elementary.proofs.PartWay.{partWay, at-start, at-end, map-same, part-further}
 use Rattle.elementary.proofs.exp.exp_each.Statement.{statement}
 use Rattle.elementary.proofs.exp.exp_each.Tie as tie
-use Rattle.elementary.proofs.exp.exp_each.Reads as reads
-use Rattle.elementary.proofs.exp.exp_each.Lts as lts
-use Rattle.elementary.proofs.exp.exp_eight.Reads as exp-eight-reads
-use Rattle.elementary.proofs.exp.exp_one_by_one.Reads as exp-one-by-one-reads
 
 abbrev Inv-loop : tie.InvT-loop
-Inv-loop numbers₀ at₀ numbers at = ?
+Inv-loop numbers₀ at₀ numbers at = (at ≤ length numbers₀) × (numbers ≡ partWay exp (λ x. x) at numbers₀) × (length numbers ≡ length numbers₀)
 
 abbrev μ-loop : tie.MeasureT-loop
-μ-loop numbers₀ at₀ numbers at = ?
+μ-loop numbers₀ at₀ numbers at = length numbers₀ - at
 
--- src/exp.rt:197:5
 loop-holds : tie.Need-loop-holds Inv-loop μ-loop
-loop-holds c = ?
+loop-holds c = (omega arith, sym (at-start exp (λ x. x) _ ∙ map-same _), refl)
 
--- src/exp.rt:197:11
 sub-loop : tie.Need-sub-loop Inv-loop μ-loop
-sub-loop c = ?
+sub-loop c = search needs
 
--- src/exp.rt:198:19
 add-end : tie.Need-add-end Inv-loop μ-loop
-add-end c = ?
+add-end c = search needs
 
--- src/exp.rt:199:19
 mul-exp-eight : tie.Need-mul-exp-eight Inv-loop μ-loop
-mul-exp-eight c = ?
+mul-exp-eight c = search needs
 
--- src/exp.rt:199:19
 sub-exp-eight : tie.Need-sub-exp-eight Inv-loop μ-loop
-sub-exp-eight c = ?
+sub-exp-eight c = search needs
 
--- src/exp.rt:199:19
 part-exp-eight-start : tie.Need-part-exp-eight-start Inv-loop μ-loop
-part-exp-eight-start c = ?
+part-exp-eight-start c = search needs
 
--- src/exp.rt:199:19
 part-exp-eight-end : tie.Need-part-exp-eight-end Inv-loop μ-loop
-part-exp-eight-end c = ?
+part-exp-eight-end c = search needs
 
--- src/exp.rt:199:9
 exp-eight-requires : tie.Need-exp-eight-requires Inv-loop μ-loop
-exp-eight-requires c κs = ?
+exp-eight-requires c κs =
+    let at = c .before .before in
+    simp (length-take, length-drop) (omega (arith, at .loop .inv .2))
 
--- src/exp.rt:197:5
 loop-less : tie.Need-loop-less Inv-loop μ-loop
-loop-less c = ?
+loop-less c = search needs
 
--- src/exp.rt:197:5
 loop-again : tie.Need-loop-again Inv-loop μ-loop
-loop-again c = ?
+loop-again c =
+    let at = c .before .before .before .before .before in
+    let xs = now (at .before .before .args .numbers) in
+    let i = at .loop .at in
+    let e : i + (i + 8 - i) ≡ i + 8 = omega arith in
+    let l = at .loop .inv .2 in
+    (omega (arith, l), part-further exp i (i + 8 - i) xs (at .loop .numbers) _ (at .loop .inv .0) (at .loop .inv .1) (c .before .before .exp-eight .ensures) ∙ ap (λ (k : ℕ). partWay exp (λ x. x) k xs) e,
+    same-len-mid i (i + 8 - i) (at .loop .numbers) (c .before .before .exp-eight .last .0) (c .before .before .exp-eight .kept .0) ∙ l)
 
--- src/exp.rt:202:20
 mul-exp-one-by-one : tie.Need-mul-exp-one-by-one Inv-loop μ-loop
-mul-exp-one-by-one c = ?
+mul-exp-one-by-one c = search needs
 
--- src/exp.rt:202:20
 sub-exp-one-by-one : tie.Need-sub-exp-one-by-one Inv-loop μ-loop
-sub-exp-one-by-one c = ?
+sub-exp-one-by-one c = search needs
 
--- src/exp.rt:202:20
 part-exp-one-by-one-start : tie.Need-part-exp-one-by-one-start Inv-loop μ-loop
-part-exp-one-by-one-start c = ?
+part-exp-one-by-one-start c = search needs
 
--- src/exp.rt:202:20
 part-exp-one-by-one-end : tie.Need-part-exp-one-by-one-end Inv-loop μ-loop
-part-exp-one-by-one-end c = ?
+part-exp-one-by-one-end c = search needs
 
--- src/exp.rt:202:5
 exp-one-by-one-requires : tie.Need-exp-one-by-one-requires Inv-loop μ-loop
-exp-one-by-one-requires c κs = ?
+exp-one-by-one-requires c κs = search needs
 
--- src/exp.rt:193:1
 same-length : tie.Need-same-length Inv-loop μ-loop
-same-length c = ?
+same-length c =
+    let at = c .before .before .before .before .before in
+    same-len-mid (at .loop .at) (length (at .loop .numbers) - at .loop .at) (at .loop .numbers) (c .before .before .exp-one-by-one .last .0) (c .before .before .exp-one-by-one .kept .0) ∙ at .loop .inv .2
 
--- src/exp.rt:193:1
 returns : tie.Need-returns Inv-loop μ-loop
-returns c = ?
+returns c =
+    let at = c .before .before .before .before .before in
+    let xs = now (at .before .before .args .numbers) in
+    let i = at .loop .at in
+    let n = length (at .loop .numbers) - i in
+    let h : length xs ≤ i + n = omega (arith, at .loop .inv .2) in
+    part-further exp i n xs (at .loop .numbers) _ (at .loop .inv .0) (at .loop .inv .1) (c .before .before .exp-one-by-one .ensures) ∙ at-end exp (λ x. x) (i + n) xs h
 
 pub exp-each-spec : {M : Type 1} → statement M
 exp-each-spec =
