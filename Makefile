@@ -11,7 +11,7 @@ all: build/schedule
 
 kit:
 	@command -v rt >/dev/null || { echo "make: please install the Rattle kit (its command is rt)" >&2; exit 1; }
-	@tools/need cc gcc
+	@tools/need cc gcc libc6-dev
 
 build/schedule: $(SOURCES) tools/native | kit
 	tools/native schedule $@
@@ -29,7 +29,7 @@ build/libbench_loan.a: $(SOURCES) tools/native | kit
 	tools/native bench_loan $@
 
 bench: build/libbench_loan.a
-	@tools/need rustc rustc
+	@tools/need rustc rustc libstd-rust-dev
 	bench/run "$(FIN_PRIMITIVES)"
 
 clean:

@@ -2,7 +2,6 @@
 ghost use mathlib.Core.Path.{_≡_};
 ghost use Rattle.mortgage.specs.Payment.{opened, openedWith, openingOutcome};
 ghost use Rattle.bench_loan.specs.Schedule.{terms, rowsOf, roomOf};
-
 use mortgage::draws::Drawing;
 use mortgage::opening::Opening;
 use records::Terms;

@@ -1,2 +1,4 @@
 pub mod Digits
 pub mod Listing
+pub mod Putting
+pub mod Portions

@@ -1,1 +1,15 @@
 pub mod Portions
+pub mod Columns
+pub mod RowLaws
+pub mod DrawCases
+pub mod DrawLaws
+pub mod Sequences
+pub mod RowsRepay
+pub mod Demand3
+pub mod Worked
+pub mod RowColumns
+pub mod PayingDown
+pub mod BreakEvens
+pub mod Exactly
+pub mod Tight
+pub mod TightTotals

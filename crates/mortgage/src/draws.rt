@@ -8,7 +8,6 @@ ghost use Rattle.mortgage.specs.RowRule.{endMonth};
 ghost use Rattle.mortgage.specs.Steps.{laid};
 ghost use Rattle.mortgage.specs.Rows.{after, rows};
 ghost use Rattle.mortgage.specs.Draws.{drawn, filled, drawingOutcome};
-
 use crate::Loan;
 use records::Row;
 

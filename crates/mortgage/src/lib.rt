@@ -1,4 +1,5 @@
 // Mortgages: a loan's payment, its opening, its rows, and draws of them into lent room.
+pub mod breakeven;
 pub mod draws;
 pub mod opening;
 pub mod payment;

@@ -1,7 +1,6 @@
 // Opening a loan: with the worked-out payment or with a given one.
 ghost use mathlib.Core.Path.{_≡_};
 ghost use Rattle.mortgage.specs.Payment.{loanOf, openedWith, opened, openingOutcome};
-
 use crate::Loan;
 use records::Terms;
 use refusals::Verdict;

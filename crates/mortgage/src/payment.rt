@@ -2,7 +2,6 @@
 ghost use mathlib.Core.Path.{_≡_};
 ghost use Rattle.refusals.specs.Answers.{numberOutcome};
 ghost use Rattle.mortgage.specs.Payment.{monthlyRate, levelPayment, payment, monthlyPayment};
-
 use records::Terms;
 use refusals::Number;
 use refusals::Verdict;
@@ -28,7 +27,11 @@ pub(crate) fn worked_out(terms: Terms) -> f64
     if r == 0.0 {
         return terms.principal / terms.term as f64;
     }
-    level_payment(terms.principal, r, elementary::whole_power::whole_power(1.0 + r, terms.term))
+    level_payment(
+        terms.principal,
+        r,
+        elementary::whole_power::whole_power(1.0 + r, terms.term),
+    )
 }
 
 pub fn monthly_payment(terms: Terms) -> Number

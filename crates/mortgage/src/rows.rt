@@ -6,7 +6,6 @@ ghost use lib.Ieee.{binary64, sub, lt};
 ghost use Rattle.numbers.specs.Clamps.{plusZero};
 ghost use Rattle.mortgage.specs.RowRule.{endMonth, interestOf, rowOf, nextOf};
 ghost use Rattle.mortgage.specs.Rows.{nextRow, nextOutcome};
-
 use crate::Loan;
 use records::Row;
 
@@ -31,14 +30,7 @@ pub(crate) fn end_month(loan: Loan) -> u32
 }
 
 // The month that these amounts make; `left` is the new balance, and `shown` its column.
-fn month_of(
-    loan: Loan,
-    payment: f64,
-    principal: f64,
-    interest: f64,
-    left: f64,
-    shown: f64,
-) -> Month
+fn month_of(loan: Loan, payment: f64, principal: f64, interest: f64, left: f64, shown: f64) -> Month
     requires { ⌜ loan .done < endMonth loan ⌝ }
     ensures { λ r. ⌜ r .row ≡ record { month = loan .done + 1; payment = payment; principal = principal; interest = interest; balance = shown } ⌝ }
     ensures { λ r. ⌜ r .next ≡ record { term = loan .term; rate = loan .rate; payment = loan .payment; done = loan .done + 1; balance = left } ⌝ }

@@ -5,7 +5,6 @@ ghost use Rattle.numbers.specs.Sums.{addedUp};
 ghost use Rattle.refusals.specs.Answers.{numberOutcome};
 ghost use Rattle.mortgage.specs.RowRule.{endMonth};
 ghost use Rattle.mortgage.specs.Totals.{interestAt, interestSum, totalInterest, balanceAfter, remainingBalance, loanToValue};
-
 use crate::Loan;
 use records::Terms;
 use refusals::Number;

@@ -19,6 +19,13 @@ raised-fits f x t = go (lt plusZero x) (above-amount f x plusZero (zero-amount f
     go true h = h tt
     go false h = inl (zero-amount f)
 
+pub raised-zero : raised plusZero ≡ plusZero
+raised-zero = go (lt plusZero plusZero)
+  where
+    go : (b : Bool) → cond b plusZero plusZero ≡ plusZero
+    go true = refl
+    go false = refl
+
 -- raising an amount changes nothing but the sign of -0
 pub raised-amount : (f : Format) (x : Float) → T (amount f x) → T (amount f (raised x)) × (count f (raised x) ≡ count f x)
 raised-amount f x t = go (lt plusZero x) (lt-amount f plusZero x (zero-amount f) t .1)

@@ -38,48 +38,48 @@ one-more P S p left b B n h l c ih = go (miss (S + p + left) B) (miss (S + b) B)
     go : (x y z : ℕ) → P * x ≤ P * (y + z) → P * y ≤ n * B → P * z ≤ B → P * x ≤ suc n * B
     go x y z t u v = omega arith
 
-module _
-    (balance part asked : ℕ → Float)
-    (m : ℕ)
-    (asked-fits : (k : ℕ) → k < m → T (fits binary64 (asked k)))
-    (start : T (amount binary64 (balance 0)))
-    (parts : (k : ℕ) → k < m → part k ≡ lowered (raised (asked k)) (balance k))
-    (falls : (k : ℕ) → k < m → balance (suc k) ≡ sub binary64 (balance k) (part k))
-    (clears : part m ≡ balance m)
-  where
-    pub amount-at : (k : ℕ) → k ≤ m → T (amount binary64 (balance k))
-    amount-at zero h = start
-    amount-at (suc k) h = taken (asked k) (balance k) (part k) (balance (suc k)) (asked-fits k h) (amount-at k (le-of-lt h)) (parts k h) (falls k h) .what-is-left .is-amount
+-- ---- m parts that were asked of a balance, and a last one that clears it
+pub record Repaying (balance part asked : ℕ → Float) (m : ℕ) : Type 0 where
+  pub asked-fits : (k : ℕ) → k < m → T (fits binary64 (asked k))
+  pub start : T (amount binary64 (balance 0))
+  pub parts : (k : ℕ) → k < m → part k ≡ lowered (raised (asked k)) (balance k)
+  pub falls : (k : ℕ) → k < m → balance (suc k) ≡ sub binary64 (balance k) (part k)
+  pub clears : part m ≡ balance m
 
-    taken-at : (k : ℕ) → k < m → Taken (balance k) (part k) (balance (suc k))
-    taken-at k h = taken (asked k) (balance k) (part k) (balance (suc k)) (asked-fits k h) (amount-at k (le-of-lt h)) (parts k h) (falls k h)
+module _ {balance part asked : ℕ → Float} {m : ℕ} (repaying : Repaying balance part asked m) where
+  pub amount-at : (k : ℕ) → k ≤ m → T (amount binary64 (balance k))
+  amount-at zero h = repaying .start
+  amount-at (suc k) h = taken (asked k) (balance k) (part k) (balance (suc k)) (repaying .asked-fits k h) (amount-at k (le-of-lt h)) (repaying .parts k h) (repaying .falls k h) .what-is-left .is-amount
 
-    pub part-amount : (k : ℕ) → k ≤ m → T (amount binary64 (part k)) × (units (part k) ≤ units (balance k))
-    part-amount k h = elim (eq-or-lt-of-le h) [
-      | inl e ↦ rw (e, clears) (whole-part binary64 (balance m) (amount-at m (le-refl m)))
-      | inr l ↦ taken-at k l .part-of
-    ]
+  taken-at : (k : ℕ) → k < m → Taken (balance k) (part k) (balance (suc k))
+  taken-at k h = taken (asked k) (balance k) (part k) (balance (suc k)) (repaying .asked-fits k h) (amount-at k (le-of-lt h)) (repaying .parts k h) (repaying .falls k h)
 
-    pub never-rises : (k : ℕ) → k < m → units (balance (suc k)) ≤ units (balance k)
-    never-rises k h = taken-at k h .what-is-left .no-more-left
+  pub part-amount : (k : ℕ) → k ≤ m → T (amount binary64 (part k)) × (units (part k) ≤ units (balance k))
+  part-amount k h = elim (eq-or-lt-of-le h) [
+    | inl e ↦ rw (e, repaying .clears) (whole-part binary64 (balance m) (amount-at m (le-refl m)))
+    | inr l ↦ taken-at k l .part-of
+  ]
 
-    pub last-is-zero : sub binary64 (balance m) (part m) ≡ plusZero
-    last-is-zero = rw clears (sub-itself binary64 (balance m) (amount-finite binary64 (balance m) (amount-at m (le-refl m))) ∙ sym plus-zero)
+  pub never-rises : (k : ℕ) → k < m → units (balance (suc k)) ≤ units (balance k)
+  never-rises k h = taken-at k h .what-is-left .no-more-left
 
-    at-most-start : (k : ℕ) → k ≤ m → units (balance k) ≤ units (balance 0)
-    at-most-start zero h = le-refl (units (balance 0))
-    at-most-start (suc k) h = le-trans (never-rises k h) (at-most-start k (le-of-lt h))
+  pub last-is-zero : sub binary64 (balance m) (part m) ≡ plusZero
+  last-is-zero = rw (repaying .clears) (sub-itself binary64 (balance m) (amount-finite binary64 (balance m) (amount-at m (le-refl m))) ∙ sym plus-zero)
 
-    so-far : (k : ℕ) → k ≤ m → 2 ^ 53 * miss (exactSum part k + units (balance k)) (units (balance 0)) ≤ k * units (balance 0)
-    unfolding exactSum
-    so-far zero h = nothing (units (balance 0))
-      where
-        nothing : (B : ℕ) → 2 ^ 53 * miss (0 + B) B ≤ 0 * B
-        nothing B = omega arith
-    so-far (suc k) h =
-        let t = taken-at k h in
-        one-more (2 ^ 53) (exactSum part k) (units (part k)) (units (balance (suc k))) (units (balance k)) (units (balance 0)) k (t .part-of .1) (at-most-start k (le-of-lt h)) (t .what-is-left .close) (so-far k (le-of-lt h))
+  at-most-start : (k : ℕ) → k ≤ m → units (balance k) ≤ units (balance 0)
+  at-most-start zero h = le-refl (units (balance 0))
+  at-most-start (suc k) h = le-trans (never-rises k h) (at-most-start k (le-of-lt h))
 
-    pub adds-up : 2 ^ 53 * miss (exactSum part (suc m)) (units (balance 0)) ≤ m * units (balance 0)
-    unfolding exactSum
-    adds-up = rw clears (so-far m (le-refl m))
+  so-far : (k : ℕ) → k ≤ m → 2 ^ 53 * miss (exactSum part k + units (balance k)) (units (balance 0)) ≤ k * units (balance 0)
+  unfolding exactSum
+  so-far zero h = nothing (units (balance 0))
+    where
+      nothing : (B : ℕ) → 2 ^ 53 * miss (0 + B) B ≤ 0 * B
+      nothing B = omega arith
+  so-far (suc k) h =
+      let t = taken-at k h in
+      one-more (2 ^ 53) (exactSum part k) (units (part k)) (units (balance (suc k))) (units (balance k)) (units (balance 0)) k (t .part-of .1) (at-most-start k (le-of-lt h)) (t .what-is-left .close) (so-far k (le-of-lt h))
+
+  pub adds-up : 2 ^ 53 * miss (exactSum part (suc m)) (units (balance 0)) ≤ m * units (balance 0)
+  unfolding exactSum
+  adds-up = rw (repaying .clears) (so-far m (le-refl m))

@@ -1,1 +1,4 @@
 pub mod Judging
+pub mod Verdicts
+pub mod OneToOne
+pub mod Tight

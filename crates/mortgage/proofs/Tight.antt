@@ -1,0 +1,70 @@
+-- How tight the promises of payments, openings, rows and draws are: whatever a public function is given, any two results that its contract allows are equal, and for a draw so are
+-- any two rooms that it may leave. Assumes nothing.
+use mathlib.Core.Path.{_≡_, refl, sym, ap, _∙_}
+use mathlib.Core.List.{List}
+use lib.Ieee.{Float}
+use Rattle.numbers.proofs.Determined.{Determined, Settled}
+use Rattle.refusals.proofs.OneToOne.{same-refusal, number-one-to-one}
+use Rattle.mortgage.specs.declared.opening.Opening.{Opening}
+use Rattle.mortgage.specs.declared.opening.Opening.the-variants as opening-is
+use Rattle.mortgage.specs.declared.rows.Next.{Next}
+use Rattle.mortgage.specs.declared.rows.Next.the-variants as next-is
+use Rattle.mortgage.specs.declared.draws.Drawing.{Drawing}
+use Rattle.mortgage.specs.declared.draws.Drawing.the-variants as drawing-is
+use Rattle.mortgage.specs.Payment.{openingOutcome}
+use Rattle.mortgage.specs.Rows.{nextOutcome}
+use Rattle.mortgage.specs.Draws.{drawingOutcome}
+use Rattle.mortgage.proofs.payment.monthly_payment.Kinds as monthly-payment-kinds
+use Rattle.mortgage.proofs.payment.monthly_payment.Reads as monthly-payment
+use Rattle.mortgage.proofs.opening.open_with_payment.Kinds as open-with-payment-kinds
+use Rattle.mortgage.proofs.opening.open_with_payment.Reads as open-with-payment
+use Rattle.mortgage.proofs.opening.open.Kinds as open-kinds
+use Rattle.mortgage.proofs.opening.open.Reads as opens
+use Rattle.mortgage.proofs.rows.next_row.Kinds as next-row-kinds
+use Rattle.mortgage.proofs.rows.next_row.Reads as next-row
+use Rattle.mortgage.proofs.draws.draw.Kinds as draw-kinds
+use Rattle.mortgage.proofs.draws.draw.Reads as draw
+
+-- ---- each answer has its own outcome
+pub opening-one-to-one : (x y : Opening) → openingOutcome x ≡ openingOutcome y → x ≡ y
+opening-one-to-one (opening-is.Refused r) (opening-is.Refused s) e = ap opening-is.Refused (same-refusal r s e)
+opening-one-to-one (opening-is.Refused r) (opening-is.Open m) e = cc
+opening-one-to-one (opening-is.Open l) (opening-is.Refused s) e = cc
+opening-one-to-one (opening-is.Open l) (opening-is.Open m) e = cc
+
+pub next-one-to-one : (x y : Next) → nextOutcome x ≡ nextOutcome y → x ≡ y
+next-one-to-one (next-is.Refused r) (next-is.Refused s) e = ap next-is.Refused (same-refusal r s e)
+next-one-to-one (next-is.Refused r) next-is.Finished e = cc
+next-one-to-one (next-is.Refused r) (next-is.Due row l) e = cc
+next-one-to-one next-is.Finished (next-is.Refused s) e = cc
+next-one-to-one next-is.Finished next-is.Finished e = refl
+next-one-to-one next-is.Finished (next-is.Due row l) e = cc
+next-one-to-one (next-is.Due row l) (next-is.Refused s) e = cc
+next-one-to-one (next-is.Due row l) next-is.Finished e = cc
+next-one-to-one (next-is.Due row l) (next-is.Due other m) e = cc
+
+pub drawing-one-to-one : (x y : Drawing) → drawingOutcome x ≡ drawingOutcome y → x ≡ y
+drawing-one-to-one (drawing-is.Refused r) (drawing-is.Refused s) e = ap drawing-is.Refused (same-refusal r s e)
+drawing-one-to-one (drawing-is.Refused r) (drawing-is.Drawn d) e = cc
+drawing-one-to-one (drawing-is.Drawn d) (drawing-is.Refused s) e = cc
+drawing-one-to-one (drawing-is.Drawn d) (drawing-is.Drawn g) e = cc
+
+-- ---- so each promise leaves one result
+pub monthly-payment-determined : Determined 0 monthly-payment-kinds.ps monthly-payment-kinds.r monthly-payment.Post
+monthly-payment-determined κs a x y e e′ p q = number-one-to-one x y (p ∙ sym q)
+
+pub open-with-payment-determined : Determined 0 open-with-payment-kinds.ps open-with-payment-kinds.r open-with-payment.Post
+open-with-payment-determined κs a x y e e′ p q = opening-one-to-one x y (p ∙ sym q)
+
+pub open-determined : Determined 0 open-kinds.ps open-kinds.r opens.Post
+open-determined κs a x y e e′ p q = opening-one-to-one x y (p ∙ sym q)
+
+pub next-row-determined : Determined 0 next-row-kinds.ps next-row-kinds.r next-row.Post
+next-row-determined κs a x y e e′ p q = next-one-to-one x y (p ∙ sym q)
+
+pub draw-determined : Determined 1 draw-kinds.ps draw-kinds.r draw.Post
+draw-determined κs a x y e e′ p q = drawing-one-to-one x y (p .0 ∙ sym (q .0))
+
+-- and a draw's promise one room, the second parameter
+pub draw-room-settled : Settled 1 draw-kinds.ps draw-kinds.r draw.Post
+draw-room-settled κs a x y w w′ p q = ap (λ (l : List Float). (tt, (l, tt))) (p .1 ∙ sym (q .1))

@@ -1,0 +1,24 @@
+-- `mortgage::rows::ordinary_month` meets its contract: neither bound changes the principal, and what it leaves is above 0. Assumes nothing.
+use mathlib.Core.Path.{_∙_}
+use native.Mathlib.Omega.{arith}
+use Rattle.mortgage.proofs.RowLaws.{other-month, within, left-as-it-is}
+use borrow.Author.Needs.{needs}
+use Rattle.mortgage.proofs.rows.ordinary_month.Statement.{statement}
+use Rattle.mortgage.proofs.rows.ordinary_month.Tie as tie
+
+month-of-requires : tie.Need-month-of-requires
+month-of-requires c κs = search needs
+
+returns : tie.Need-returns
+returns c =
+    let a = c .before .before in
+    let l = a .args .loan in
+    let p = a .args .principal in
+    let ei = a .pre .1 .0 .0 in
+    let ep = a .pre .1 .0 .1 in
+    let t = a .pre .1 .1 in
+    other-month l p (a .args .interest) _ _ _ (λ h. omega arith) ei (within p (l .balance) (t .0) (t .1) ∙ rw ep)
+    (left-as-it-is (l .balance) p (a .good .0 .1 .1 .1 .1 .1 .1 .0 .1) (a .good .1 .1 .0 .1) (t .0) (t .1)) (c .month-of .ensures .0) (c .month-of .ensures .1)
+
+pub ordinary-month-spec : {M : Type 1} → statement M
+ordinary-month-spec = tie.close (tie.spec month-of-requires returns)

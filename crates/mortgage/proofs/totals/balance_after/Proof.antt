@@ -1,0 +1,50 @@
+-- `mortgage::totals::balance_after` meets its contract: after k rows the balance in hand is the column's after k rows. Assumes nothing.
+use mathlib.Core.Path.{_≡_, refl, _∙_, ap}
+use Prim.Native.Nat.{_-_, _≤_}
+use native.Mathlib.Omega.{arith}
+use Rattle.mortgage.specs.Steps.{stepped}
+use Rattle.mortgage.specs.Rows.{after}
+use Rattle.mortgage.specs.Totals.{balanceAfter}
+use Rattle.mortgage.proofs.RowLaws.{next-due}
+use Rattle.mortgage.proofs.RowColumns.{next-reached, balance-shown}
+use Rattle.mortgage.proofs.totals.balance_after.Statement.{statement}
+use Rattle.mortgage.proofs.totals.balance_after.Tie as tie
+
+abbrev Inv-loop : tie.InvT-loop
+Inv-loop count l₀ balance₀ k₀ l balance k = (l ≡ after k l₀) × (balance ≡ balanceAfter l₀ k) × (k ≤ count)
+
+abbrev μ-loop : tie.MeasureT-loop
+μ-loop count l₀ balance₀ k₀ l balance k = count - k
+
+loop-holds : tie.Need-loop-holds Inv-loop μ-loop
+unfolding stepped balanceAfter
+loop-holds c = (refl, refl, omega arith)
+
+any-month-requires : tie.Need-any-month-requires Inv-loop μ-loop
+any-month-requires c κs = next-due _ _ _ _ (c .before .loop .inv .0) (c .loop-test .taken) (c .before .before .pre)
+
+add-k : tie.Need-add-k Inv-loop μ-loop
+add-k c = omega arith
+
+loop-less : tie.Need-loop-less Inv-loop μ-loop
+loop-less c = omega arith
+
+loop-again : tie.Need-loop-again Inv-loop μ-loop
+loop-again c =
+    let month = c .before .before in
+    let head = month .before .before .loop in (
+      next-reached _ _ _ (head .inv .0) _ (month .any-month .ensures .1),
+      balance-shown _ _ _ (head .inv .0) _ (month .any-month .ensures .0),
+      omega arith,
+    )
+
+returns : tie.Need-returns Inv-loop μ-loop
+returns c =
+    let head = c .before .loop in
+    let e : head .k ≡ c .before .before .args .count = omega arith in
+    head .inv .1 ∙ ap (balanceAfter _) e
+
+pub balance-after-spec : {M : Type 1} → statement M
+balance-after-spec =
+    tie.close
+    (tie.spec Inv-loop μ-loop loop-holds any-month-requires add-k loop-less loop-again returns)

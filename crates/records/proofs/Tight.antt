@@ -1,0 +1,47 @@
+-- How tight the promises are: any two results of a reader that its contract allows are equal, and so are any two arrays that a writer may leave. Assumes nothing.
+use mathlib.Core.Path.{_≡_, sym, ap, _∙_}
+use mathlib.Core.List.{List}
+use Prim.Native.Nat.{ℕ}
+use Rattle.numbers.proofs.Determined.{Determined, Settled}
+use Rattle.refusals.proofs.OneToOne.{same-refusal}
+use Rattle.records.specs.declared.TermsRead.{TermsRead}
+use Rattle.records.specs.declared.TermsRead.the-variants as terms-is
+use Rattle.records.specs.declared.RowRead.{RowRead}
+use Rattle.records.specs.declared.RowRead.the-variants as row-is
+use Rattle.records.specs.Kinds.{termsOutcome, rowOutcome}
+use Rattle.records.proofs.terms_record.read_terms.Kinds as read-terms-kinds
+use Rattle.records.proofs.terms_record.read_terms.Reads as read-terms
+use Rattle.records.proofs.terms_record.write_terms.Kinds as write-terms-kinds
+use Rattle.records.proofs.terms_record.write_terms.Reads as write-terms
+use Rattle.records.proofs.row_record.read_row.Kinds as read-row-kinds
+use Rattle.records.proofs.row_record.read_row.Reads as read-row
+use Rattle.records.proofs.row_record.write_row.Kinds as write-row-kinds
+use Rattle.records.proofs.row_record.write_row.Reads as write-row
+
+-- ---- an answer's number, place and values tell the answer
+
+pub terms-told : (a b : TermsRead) → termsOutcome a ≡ termsOutcome b → a ≡ b
+terms-told (terms-is.Refused a) (terms-is.Refused b) e = ap terms-is.Refused (same-refusal a b e)
+terms-told (terms-is.Given t) (terms-is.Given u) e = cc
+terms-told (terms-is.Refused a) (terms-is.Given u) e = cc
+terms-told (terms-is.Given t) (terms-is.Refused b) e = cc
+
+pub row-told : (a b : RowRead) → rowOutcome a ≡ rowOutcome b → a ≡ b
+row-told (row-is.Refused a) (row-is.Refused b) e = ap row-is.Refused (same-refusal a b e)
+row-told (row-is.Given r) (row-is.Given q) e = cc
+row-told (row-is.Refused a) (row-is.Given q) e = cc
+row-told (row-is.Given r) (row-is.Refused b) e = cc
+
+pub read-terms-determined : Determined 1 read-terms-kinds.ps read-terms-kinds.r read-terms.Post
+read-terms-determined κs a x y e e′ p q = terms-told x y (p ∙ sym q)
+
+pub read-row-determined : Determined 1 read-row-kinds.ps read-row-kinds.r read-row.Post
+read-row-determined κs a x y e e′ p q = row-told x y (p ∙ sym q)
+
+-- ---- what is left in lent memory
+
+pub write-terms-settled : Settled 1 write-terms-kinds.ps write-terms-kinds.r write-terms.Post
+write-terms-settled κs a x y w w′ p q = ap (λ (l : List ℕ). (tt, (l, tt))) (p ∙ sym q)
+
+pub write-row-settled : Settled 1 write-row-kinds.ps write-row-kinds.r write-row.Post
+write-row-settled κs a x y w w′ p q = ap (λ (l : List ℕ). (tt, (l, tt))) (p ∙ sym q)
