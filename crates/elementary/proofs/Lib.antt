@@ -18,3 +18,4 @@ pub mod Laws
 pub mod NearestSmall
 pub mod Multiples
 pub mod PartWay
+pub mod Tight
