@@ -1,21 +1,15 @@
 -- `elementary::exp::all_inside` meets its contract: each number passed is neither a NaN nor beyond an end. Assumes nothing.
-use mathlib.Core.Path.{_≡_, refl, subst, sym}
-use mathlib.Core.Bool.{true, false}
+use mathlib.Core.Path.{subst, sym}
 use Prim.Native.Nat.{ℕ, _-_, _≤_, _<_}
 use native.Mathlib.Omega.{arith}
-use borrow.Author.Count.{below-none, below-more}
+use borrow.Author.Count.{below-more}
 use borrow.Author.Needs.{needs}
-use denote.Ref.{now}
 use lib.Dec.{T}
 use lib.ListN.{length, getD}
-use lib.Ieee.{Float, nan, lt, ne}
-use Rattle.elementary.specs.Exp.{highest, lowest}
-use Rattle.elementary.proofs.ExpSteps.{minus-708}
+use lib.Ieee.{nan}
+use Rattle.elementary.proofs.ExpSteps.{Inside, minus-708}
 use Rattle.elementary.proofs.exp.all_inside.Statement.{statement}
 use Rattle.elementary.proofs.exp.all_inside.Tie as tie
-
-abbrev Inside : Float → Type 0
-Inside x = (ne x x ≡ false) × (lt highest x ≡ false) × (lt x lowest ≡ false)
 
 abbrev Inv-loop : tie.InvT-loop
 Inv-loop numbers j₀ j = (j ≤ length numbers) × ((k : ℕ) → k < j → Inside (getD numbers k nan))

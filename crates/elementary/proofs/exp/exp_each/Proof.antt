@@ -1,13 +1,11 @@
 -- `elementary::exp::exp_each` meets its contract: the numbers before `at` are done, the others as they were. Assumes nothing.
 use mathlib.Core.Path.{_≡_, refl, sym, ap, _∙_}
-use mathlib.Core.List.{List, map}
-use Prim.Native.Nat.{ℕ, _+_, _-_, _≤_, _<_}
+use Prim.Native.Nat.{ℕ, _+_, _-_, _≤_}
 use native.Mathlib.Omega.{arith}
 use borrow.Author.Needs.{needs}
 use borrow.Rule.Slice.PartMut.{same-len-mid}
 use denote.Ref.{now}
 use lib.ListN.{length, length-take, length-drop}
-use lib.Ieee.{Float}
 use Rattle.elementary.specs.Exp.{exp}
 use Rattle.elementary.proofs.PartWay.{partWay, at-start, at-end, map-same, part-further}
 use Rattle.elementary.proofs.exp.exp_each.Statement.{statement}
@@ -54,9 +52,11 @@ loop-again c =
     let xs = now (at .before .before .args .numbers) in
     let i = at .loop .at in
     let e : i + (i + 8 - i) ≡ i + 8 = omega arith in
-    let l = at .loop .inv .2 in
-    (omega (arith, l), part-further exp i (i + 8 - i) xs (at .loop .numbers) _ (at .loop .inv .0) (at .loop .inv .1) (c .before .before .exp-eight .ensures) ∙ ap (λ (k : ℕ). partWay exp (λ x. x) k xs) e,
-    same-len-mid i (i + 8 - i) (at .loop .numbers) (c .before .before .exp-eight .last .0) (c .before .before .exp-eight .kept .0) ∙ l)
+    let l = at .loop .inv .2 in (
+      omega (arith, l),
+      part-further exp i (i + 8 - i) xs (at .loop .numbers) _ (at .loop .inv .0) (at .loop .inv .1) (c .before .before .exp-eight .ensures) ∙ ap (λ (k : ℕ). partWay exp (λ x. x) k xs) e,
+      same-len-mid i (i + 8 - i) (at .loop .numbers) (c .before .before .exp-eight .last .0) (c .before .before .exp-eight .kept .0) ∙ l,
+    )
 
 mul-exp-one-by-one : tie.Need-mul-exp-one-by-one Inv-loop μ-loop
 mul-exp-one-by-one c = search needs

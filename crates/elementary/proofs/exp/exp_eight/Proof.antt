@@ -1,24 +1,20 @@
 -- `elementary::exp::exp_eight` meets its contract: eight at once where none passes an end, otherwise one by one. Assumes nothing.
 use mathlib.Core.Path.{_≡_, refl, sym, ap, _∙_}
 use mathlib.Core.List.{List, map}
-use Prim.Native.Nat.{ℕ, _+_, _-_, _≤_, _<_}
+use Prim.Native.Nat.{ℕ, _-_, _≤_, _<_}
 use native.Mathlib.Omega.{arith}
 use borrow.Author.Needs.{needs}
 use denote.Ref.{now}
 use lib.ListN.{length, length-map, length-set, getD}
 use lib.Ieee.{Float, nan}
-use mathlib.Core.Bool.{true, false}
-use lib.Ieee.{binary64, mul, lt, ne}
+use lib.Ieee.{binary64, mul}
 use Rattle.numbers.specs.Clamps.{plusZero}
 use Rattle.elementary.specs.Horner.{horner}
-use Rattle.elementary.specs.Exp.{inverseFactorial, reduced, signed, below, halvings, twoTo, highest, lowest, exp}
-use Rattle.elementary.proofs.ExpSteps.{steps}
-use Rattle.elementary.proofs.PartWay.{partWay, at-start, one-further, next-of, at-end, copies, map-same, map-at}
+use Rattle.elementary.specs.Exp.{inverseFactorial, reduced, signed, below, halvings, twoTo, exp}
+use Rattle.elementary.proofs.ExpSteps.{Inside, steps}
+use Rattle.elementary.proofs.PartWay.{partWay, at-start, one-further, at-end, copies, map-same, map-at}
 use Rattle.elementary.proofs.exp.exp_eight.Statement.{statement}
 use Rattle.elementary.proofs.exp.exp_eight.Tie as tie
-
-abbrev Inside : Float → Type 0
-Inside x = (ne x x ≡ false) × (lt highest x ≡ false) × (lt x lowest ≡ false)
 
 abbrev rest : Float → Float
 rest x = reduced x (signed (below x) (halvings x))
@@ -151,10 +147,12 @@ loop2-again c =
     let done = at .before .before .before in
     let start = done .before .before .before .before .before .before in
     let xs = now (start .args .numbers) in
-    let h : at .loop2 .i < length xs = omega (arith, start .pre) in
-    (omega arith, one-further exp (λ x. x) (at .loop2 .i) xs (at .loop2 .numbers) _ h (at .loop2 .inv .1)
-    (lane xs _ _ (at .loop2 .i) h (inside (done .before) (at .loop2 .i) (omega arith)) (at .before .series-of-eight .ensures ∙ ap (map (λ x. horner inverseFactorial x 0 13)) (rests-are done)) (scales-are done)),
-    simp length-set (at .loop2 .inv .2))
+    let h : at .loop2 .i < length xs = omega (arith, start .pre) in (
+      omega arith,
+      one-further exp (λ x. x) (at .loop2 .i) xs (at .loop2 .numbers) _ h (at .loop2 .inv .1)
+          (lane xs _ _ (at .loop2 .i) h (inside (done .before) (at .loop2 .i) (omega arith)) (at .before .series-of-eight .ensures ∙ ap (map (λ x. horner inverseFactorial x 0 13)) (rests-are done)) (scales-are done)),
+      simp length-set (at .loop2 .inv .2),
+    )
 
 exp-one-by-one-requires : tie.Need-exp-one-by-one-requires Inv-loop μ-loop Inv-loop2 μ-loop2
 exp-one-by-one-requires c κs = search needs

@@ -1,10 +1,8 @@
 -- `elementary::exp::exp_one_by_one` meets its contract: the numbers passed are done, the others as they were. Assumes nothing.
 use mathlib.Core.Path.{_≡_, refl, sym, ap, _∙_}
-use mathlib.Core.List.{List, map}
-use Prim.Native.Nat.{ℕ, _+_, _-_, _≤_, _<_}
+use Prim.Native.Nat.{_-_, _≤_, _<_}
 use native.Mathlib.Omega.{arith}
-use lib.ListN.{length, length-map, length-set, getD}
-use lib.Ieee.{Float, nan}
+use lib.ListN.{length, length-set}
 use borrow.Author.Needs.{needs}
 use denote.Ref.{now}
 use Rattle.elementary.specs.Exp.{exp}

@@ -1,6 +1,6 @@
 -- `elementary::exp::series_of_eight` meets its contract: each turn of the outer loop is a step of Horner's rule at all eight places. Assumes nothing.
-use mathlib.Core.Path.{_≡_, refl, sym, ap, _∙_}
-use mathlib.Core.List.{List, map}
+use mathlib.Core.Path.{_≡_, sym, ap, _∙_}
+use mathlib.Core.List.{map}
 use Prim.Native.Nat.{ℕ, _+_, _-_, _≤_, _<_}
 use native.Mathlib.Omega.{arith}
 use denote.Ref.{now}
@@ -95,9 +95,11 @@ loop2-again c =
     let xs = now (start .args .rests) in
     let k = at .loop .k - 1 in
     let h : inner .j < length xs = omega (arith, start .pre) in
-    let l : k < 13 = omega arith in
-    (omega arith, one-further (summed k) (summed (k + 1)) (inner .j) xs (inner .sums) _ h (inner .inv .1)
-    (turn-at inverseFactorial (getD xs (inner .j) nan) 13 k _ _ l (next-of (summed k) (summed (k + 1)) (inner .j) xs (inner .sums) h (inner .inv .1)) (c .before .before .before .inverse-factorial2 .ensures)))
+    let l : k < 13 = omega arith in (
+      omega arith,
+      one-further (summed k) (summed (k + 1)) (inner .j) xs (inner .sums) _ h (inner .inv .1)
+          (turn-at inverseFactorial (getD xs (inner .j) nan) 13 k _ _ l (next-of (summed k) (summed (k + 1)) (inner .j) xs (inner .sums) h (inner .inv .1)) (c .before .before .before .inverse-factorial2 .ensures)),
+    )
 
 returns : tie.Need-returns Inv-loop2 μ-loop2 Inv-loop μ-loop
 returns c =
