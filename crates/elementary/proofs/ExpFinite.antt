@@ -1,16 +1,13 @@
 -- exp's steps from -708 to 709 meet neither a NaN nor, before the last product, an infinity. Assumes nothing.
-use mathlib.Core.Path.{_≡_, refl, sym, ap, _∙_, subst}
+use mathlib.Core.Path.{_≡_, subst}
 use mathlib.Core.Bool.{Bool, true, false, cond}
 use Prim.Native.Nat.{ℕ, zero, suc, _+_, _*_, _^_, _≤_, _<_}
 use native.Mathlib.Nat.{le-trans, mul-pos, mul-one, zero-lt-suc, mul-le-mul-right}
 use native.Mathlib.Omega.{arith}
-use lib.IntN.{ℤ, pos}
-use lib.Dec.{T, ltb, lit≤}
+use lib.IntN.{ℤ}
+use lib.Dec.{lit≤}
 use lib.Pow.{pow-pos, pow-mono}
-use lib.Ieee.{Float, nan, inf, fin, Format, binary64, prec, low, unlike, up, down, odd, units, isNan, round, add, sub, mul, neg, lt, ofInt, ofBits}
-use lib.Ieee.Fits.{round-is}
-use lib.Ieee.Order.{drop, kept}
-use lib.Ieee.Scale.{overflow}
+use lib.Ieee.{Float, nan, inf, fin, Format, binary64, unlike, up, down, isNan, round, add, sub, mul, neg, lt, ofInt, ofBits}
 use Rattle.elementary.specs.Horner.{horner, ln2High, ln2Low}
 use Rattle.elementary.specs.Exp.{factorial, inverseFactorial, highest, lowest, below, halvings, signed, twoTo, reduced, expWithin}
 use Rattle.elementary.proofs.Bounds.{Within, looser, neg-within, round-within, mul-within, add-within, sub-within}

@@ -1,21 +1,22 @@
 -- exp's definition step by step, and case by case in the order of its tests. Assumes nothing.
-use mathlib.Core.Path.{_≡_, refl, sym, ap, ap₂, _∙_, subst}
+use mathlib.Core.Path.{_≡_, refl, sym, ap, _∙_, subst}
 use mathlib.Core.Bool.{Bool, true, false}
-use Prim.Native.Nat.{ℕ}
 use lib.Dec.{T}
 use lib.Ieee.{Float, nan, inf, fin, binary64, neg, mul, lt, ne, ofBits}
 use lib.Ieee.Compare.{differs-from-itself, nan-differs}
 use Rattle.numbers.specs.Clamps.{plusZero}
-use Rattle.numbers.specs.Sizes.{absolute}
-use Rattle.numbers.specs.Whole.{nearestWhole}
 use Rattle.numbers.proofs.Amounts.{passes}
 use Rattle.elementary.specs.Horner.{horner}
-use Rattle.elementary.specs.Exp.{inverseFactorial, inverseLn2, highest, lowest, below, halvings, signed, twoTo, reduced, expWithin, expNotAbove, expOf, exp}
+use Rattle.elementary.specs.Exp.{inverseFactorial, highest, lowest, below, halvings, signed, twoTo, reduced, expWithin, expNotAbove, expOf, exp}
 
 -- -708 as the program writes it
 pub minus-708 : neg (ofBits binary64 0x4086_2000_0000_0000) ≡ lowest
 unfolding neg ofBits
 minus-708 = refl
+
+-- neither a NaN nor beyond an end
+abbrev pub Inside : Float → Type 0
+Inside x = (ne x x ≡ false) × (lt highest x ≡ false) × (lt x lowest ≡ false)
 
 -- ---- the cases
 pub at-nan : (x : Float) → ne x x ≡ true → x ≡ exp x

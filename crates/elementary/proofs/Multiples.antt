@@ -2,25 +2,25 @@
 -- Assumes nothing.
 use mathlib.Core.Path.{_≡_, refl, sym, ap, _∙_, subst}
 use mathlib.Core.Bool.{Bool, true, false, not, cond}
-use Prim.Native.Nat.{ℕ, zero, suc, _+_, _-_, _*_, _/_, _%_, _^_, _≤_, _<_}
-use native.Mathlib.Nat.{le-trans, mul-pos, mul-one, mul-le-mul, mul-le-mul-right, le-of-mul-le-mul-right, mul-div-cancel, zero-lt-suc, div-one}
+use Prim.Native.Nat.{ℕ, _+_, _-_, _*_, _/_, _%_, _^_, _≤_, _<_}
+use native.Mathlib.Nat.{le-trans, mul-pos, mul-le-mul-right, le-of-mul-le-mul-right, mul-div-cancel, zero-lt-suc, div-one}
 use native.Mathlib.Omega.{arith}
-use lib.IntN.{ℤ, pos, negsuc}
-use lib.Dec.{T, lit≤, lit<}
-use lib.Pow.{pow-add, pow-pos, pow-mono}
-use lib.Ieee.{Float, nan, inf, fin, binary64, unlike, up, down, fits, isNan, nanBits, size, round, add, sub, mul, neg, lt, le, ne, ofInt, ofBits, toBits}
+use lib.IntN.{pos}
+use lib.Dec.{T, lit≤}
+use lib.Pow.{pow-pos}
+use lib.Ieee.{Float, nan, inf, fin, binary64, up, down, fits, isNan, nanBits, size, round, add, sub, mul, neg, lt, le, ne, ofInt, ofBits, toBits}
 use lib.Ieee.Compare.{nan-differs}
 use lib.Ieee.Digits.{size-le}
 use lib.Ieee.Fits.{down-pos, round-fits}
 use Rattle.numbers.specs.Sizes.{absolute}
-use Rattle.numbers.specs.Units.{count, units}
+use Rattle.numbers.specs.Units.{units}
 use Rattle.numbers.specs.Whole.{nearestWhole}
 use Rattle.numbers.proofs.Amounts.{amount, counts}
 use Rattle.elementary.specs.WholePower.{one}
 use Rattle.elementary.specs.Exp.{inverseLn2, highest, lowest, below, halvings, signed, twoTo}
 use Rattle.elementary.specs.Ln.{half}
 use Rattle.elementary.proofs.Bounds.{Within, round-within}
-use Rattle.elementary.proofs.Halvings.{numerator, product-size, in-range, few-halvings, at-most-1023}
+use Rattle.elementary.proofs.Halvings.{numerator, product-size, in-range, few-halvings}
 use Rattle.elementary.proofs.NearestSmall.{lift, goes-up, stays}
 use Rattle.elementary.proofs.Patterns.{field-is-no-nan, two-to-up, two-to-down}
 use Rattle.elementary.proofs.Roundings.{round-no-nan}

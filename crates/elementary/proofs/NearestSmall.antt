@@ -1,23 +1,23 @@
 -- The nearest whole number to a size a up to 1,024: 2 ^ 52 added and taken off leaves a whole number n at most a half away, and n or n + 1 is the nearest, halves up,
 -- by whether a is n + 1/2 or more. Assumes nothing.
 use mathlib.Core.Path.{_≡_, refl, sym, ap, _∙_, subst}
-use mathlib.Core.Bool.{Bool, true, false, not, true≢false}
+use mathlib.Core.Bool.{true, false, true≢false}
 use mathlib.Core.Logic.{_↔_}
-use Prim.Native.Nat.{ℕ, zero, suc, _+_, _-_, _*_, _/_, _^_, _≤_, _<_, min}
-use native.Mathlib.Nat.{le-antisymm, le-trans, le-of-lt, lt-of-lt-of-le, mul-one, one-mul, mul-pos, mul-le-mul-right, mul-lt-mul-of-pos-right, le-of-mul-le-mul-right, lt-of-mul-lt-mul-right, mul-div-cancel, zero-lt-suc, le-div-iff-mul-le, div-lt-iff-lt-mul, two-pow-succ}
+use Prim.Native.Nat.{ℕ, suc, _+_, _-_, _*_, _/_, _^_, _≤_, _<_, min}
+use native.Mathlib.Nat.{le-antisymm, le-trans, lt-of-lt-of-le, mul-one, mul-pos, mul-le-mul-right, mul-div-cancel, zero-lt-suc, le-div-iff-mul-le, div-lt-iff-lt-mul}
 use native.Mathlib.Omega.{arith}
-use lib.IntN.{ℤ, pos, negsuc, subℕ}
-use lib.Dec.{T, lit<, lit≤}
-use lib.Pow.{pow-add, pow-pos, pow-lt, shl-lt}
+use lib.IntN.{ℤ, pos}
+use lib.Dec.{T, lit≤}
+use lib.Pow.{pow-add, pow-pos, shl-lt}
 use lib.Ieee.{Float, nan, inf, fin, binary64, up, down, fits, size, round, add, sub, le, ofInt, ofBits}
 use lib.Ieee.Digits.{size-le}
 use lib.Ieee.Exact.{HasValue, round-exact}
 use lib.Ieee.Fits.{down-pos, add-fits, ofInt-fits, round-fits}
 use lib.Ieee.Nearest.{closest}
-use lib.Ieee.Scale.{grid, overflow, round-same, round-val}
-use Rattle.numbers.specs.Units.{count, units}
+use lib.Ieee.Scale.{grid, round-same, round-val}
+use Rattle.numbers.specs.Units.{units}
 use Rattle.numbers.specs.Whole.{nearestTo, nearestWhole, largest}
-use Rattle.numbers.proofs.Amounts.{passes, amount, Counts, counts}
+use Rattle.numbers.proofs.Amounts.{passes, amount, counts}
 use Rattle.numbers.proofs.Order.{le-amount}
 use Rattle.numbers.proofs.Ratios.{nearest-of-ratio, nearest-is, by-count}
 use Rattle.numbers.proofs.Snap.{snap, closest-within-half, WithinHalf, grid-is-snap}
@@ -228,12 +228,12 @@ module _ (m : ℕ) (e : ℤ) (p : T (amount binary64 (fin false m e))) (small : 
   halfway-amount = is-amount (add binary64 (ofInt binary64 (pos c)) half) (c * 2 + 1) 2 (add-fits binary64 (ofInt binary64 (pos c)) half) halfway-value
 
   compared : T (le halfway a) ↔ ((c * 2 + 1) * 2 ^ 1074 ≤ t * 2)
-  compared = 
+  compared =
       let l = le-amount binary64 halfway a halfway-amount p in
       (λ u. to (rw halfway-units at (l .0 u)), λ g. l .1 (rw halfway-units (from g)))
     where
       halfway-units : units halfway ≡ (c * 2 + 1) * 2 ^ 1073
-      halfway-units = count-of-value binary64 halfway false (c * 2 + 1) 2 (zero-lt-suc 1) halfway-value ∙ twice (c * 2 + 1) 
+      halfway-units = count-of-value binary64 halfway false (c * 2 + 1) 2 (zero-lt-suc 1) halfway-value ∙ twice (c * 2 + 1)
         where
           twice : (k : ℕ) → k * 2 ^ 1074 / 2 ≡ k * 2 ^ 1073
           twice k = ap (λ (z : ℕ). z / 2) (turn k (2 ^ 1073)) ∙ mul-div-cancel (k * 2 ^ 1073) (zero-lt-suc 1)

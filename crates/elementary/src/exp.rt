@@ -73,7 +73,11 @@ fn multiple_of(x: f64) -> f64
     ensures { λ r. ⌜ r ≡ signed (below x) (halvings x) ⌝ }
 {
     let size = size_of(x);
-    if x * 1.4426950408889634 < 0.0 { -size } else { size }
+    if x * 1.4426950408889634 < 0.0 {
+        -size
+    } else {
+        size
+    }
 }
 
 // x less k times ln 2.
@@ -109,12 +113,10 @@ pub fn exp(x: f64) -> f64
 
 // Whether all pass neither end.
 fn all_inside(numbers: &[f64]) -> bool
-    ensures {
-        λ r. ⌜ (r ≡ true → (k : ℕ) → k < length (now (numbers .entry))
-            → (ne (getD (now (numbers .entry)) k nan) (getD (now (numbers .entry)) k nan) ≡ false)
-            × (lt highest (getD (now (numbers .entry)) k nan) ≡ false)
-            × (lt (getD (now (numbers .entry)) k nan) lowest ≡ false)) ⌝
-    }
+    ensures { λ r. ⌜ (r ≡ true → (k : ℕ) → k < length (now (numbers .entry))
+        → (ne (getD (now (numbers .entry)) k nan) (getD (now (numbers .entry)) k nan) ≡ false)
+        × (lt highest (getD (now (numbers .entry)) k nan) ≡ false)
+        × (lt (getD (now (numbers .entry)) k nan) lowest ≡ false)) ⌝ }
 {
     let mut j: usize = 0;
     while j < numbers.len() {
@@ -134,7 +136,8 @@ fn all_inside(numbers: &[f64]) -> bool
 }
 
 // Eight sums of the series at once.
-fn series_of_eight(rests: &[f64; 8]) -> [f64; 8]
+fn series_of_eight(rests: &[f64]) -> [f64; 8]
+    requires { ⌜ length (now rests) ≡ 8 ⌝ }
     ensures { λ r. ⌜ r ≡ map (λ x. horner inverseFactorial x 0 13) (now (rests .entry)) ⌝ }
 {
     let mut sums = [inverse_factorial(13); 8];

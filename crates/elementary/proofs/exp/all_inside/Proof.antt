@@ -1,53 +1,53 @@
+-- `elementary::exp::all_inside` meets its contract: each number passed is neither a NaN nor beyond an end. Assumes nothing.
+use mathlib.Core.Path.{subst, sym}
+use Prim.Native.Nat.{ℕ, _-_, _≤_, _<_}
+use native.Mathlib.Omega.{arith}
+use borrow.Author.Count.{below-more}
+use borrow.Author.Needs.{needs}
+use lib.Dec.{T}
+use lib.ListN.{length, getD}
+use lib.Ieee.{nan}
+use Rattle.elementary.proofs.ExpSteps.{Inside, minus-708}
 use Rattle.elementary.proofs.exp.all_inside.Statement.{statement}
 use Rattle.elementary.proofs.exp.all_inside.Tie as tie
-use Rattle.elementary.proofs.exp.all_inside.Reads as reads
-use Rattle.elementary.proofs.exp.all_inside.Lts as lts
 
 abbrev Inv-loop : tie.InvT-loop
-Inv-loop numbers j₀ j = ?
+Inv-loop numbers j₀ j = (j ≤ length numbers) × ((k : ℕ) → k < j → Inside (getD numbers k nan))
 
 abbrev μ-loop : tie.MeasureT-loop
-μ-loop numbers j₀ j = ?
+μ-loop numbers j₀ j = length numbers - j
 
--- src/exp.rt:127:5
 loop-holds : tie.Need-loop-holds Inv-loop μ-loop
-loop-holds c = ?
+loop-holds c = (omega arith, λ k h. absurd (omega arith))
 
--- src/exp.rt:128:17
 mul-x : tie.Need-mul-x Inv-loop μ-loop
-mul-x c = ?
+mul-x c = search needs
 
--- src/exp.rt:128:17
 shared-slice-read-x : tie.Need-shared-slice-read-x Inv-loop μ-loop
-shared-slice-read-x c = ?
+shared-slice-read-x c = omega arith
 
--- src/exp.rt:130:13
 returns : tie.Need-returns Inv-loop μ-loop
-returns c = ?
+returns c e = absurd (subst T (sym e) tt)
 
--- src/exp.rt:133:13
 returns-2 : tie.Need-returns-2 Inv-loop μ-loop
-returns-2 c = ?
+returns-2 c e = absurd (subst T (sym e) tt)
 
--- src/exp.rt:136:13
 returns-3 : tie.Need-returns-3 Inv-loop μ-loop
-returns-3 c = ?
+returns-3 c e = absurd (subst T (sym e) tt)
 
--- src/exp.rt:138:9
 add-j : tie.Need-add-j Inv-loop μ-loop
-add-j c = ?
+add-j c = omega arith
 
--- src/exp.rt:127:5
 loop-less : tie.Need-loop-less Inv-loop μ-loop
-loop-less c = ?
+loop-less c = omega arith
 
--- src/exp.rt:127:5
 loop-again : tie.Need-loop-again Inv-loop μ-loop
-loop-again c = ?
+loop-again c =
+    let at = c .before .before .before .before .before in
+    (omega arith, below-more _ _ (at .loop .inv .1) (c .before .before .if1 .left, c .before .if2 .left, rw minus-708 at (c .if3 .left)))
 
--- src/exp.rt:118:1
 returns-4 : tie.Need-returns-4 Inv-loop μ-loop
-returns-4 c = ?
+returns-4 c e k h = c .before .loop .inv .1 k (omega arith)
 
 pub all-inside-spec : {M : Type 1} → statement M
 all-inside-spec =

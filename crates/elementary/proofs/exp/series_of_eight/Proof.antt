@@ -1,89 +1,112 @@
+-- `elementary::exp::series_of_eight` meets its contract: each turn of the outer loop is a step of Horner's rule at all eight places. Assumes nothing.
+use mathlib.Core.Path.{_≡_, sym, ap, _∙_}
+use mathlib.Core.List.{map}
+use Prim.Native.Nat.{ℕ, _+_, _-_, _≤_, _<_}
+use native.Mathlib.Omega.{arith}
+use denote.Ref.{now}
+use lib.ListN.{length, getD}
+use lib.Ieee.{Float, nan}
+use Rattle.elementary.specs.Horner.{horner}
+use Rattle.elementary.specs.Exp.{inverseFactorial}
+use Rattle.elementary.proofs.Horners.{downTo, at-top, turn-at, ended}
+use Rattle.elementary.proofs.PartWay.{partWay, at-start, one-further, next-of, at-end, map-alike, copies}
 use Rattle.elementary.proofs.exp.series_of_eight.Statement.{statement}
 use Rattle.elementary.proofs.exp.series_of_eight.Tie as tie
-use Rattle.elementary.proofs.exp.series_of_eight.Reads as reads
-use Rattle.elementary.proofs.exp.series_of_eight.Lts as lts
-use Rattle.elementary.proofs.exp.inverse_factorial.Reads as inverse-factorial-reads
+
+-- the sum over the coefficients from k on
+abbrev summed : ℕ → Float → Float
+summed k x = downTo inverseFactorial x 13 k
 
 abbrev Inv-loop2 : tie.InvT-loop2
-Inv-loop2 rests sums₀ k c j₀ sums j = ?
+Inv-loop2 rests sums₀ k c j₀ sums j = (j ≤ 8) × (sums ≡ partWay (summed k) (summed (k + 1)) j rests)
 
 abbrev μ-loop2 : tie.MeasureT-loop2
-μ-loop2 rests sums₀ k c j₀ sums j = ?
+μ-loop2 rests sums₀ k c j₀ sums j = 8 - j
 
 abbrev Inv-loop : tie.InvT-loop
-Inv-loop rests sums₀ k₀ sums k = ?
+Inv-loop rests sums₀ k₀ sums k = (k ≤ 13) × (sums ≡ map (summed k) rests)
 
 abbrev μ-loop : tie.MeasureT-loop
-μ-loop rests sums₀ k₀ sums k = ?
+μ-loop rests sums₀ k₀ sums k = k
 
--- src/exp.rt:147:21
 inverse-factorial-requires : tie.Need-inverse-factorial-requires Inv-loop2 μ-loop2 Inv-loop μ-loop
-inverse-factorial-requires c κs = ?
+inverse-factorial-requires c κs = omega arith
 
--- src/exp.rt:149:5
 loop-holds : tie.Need-loop-holds Inv-loop2 μ-loop2 Inv-loop μ-loop
-loop-holds c = ?
+loop-holds c =
+    let start = c .before .before in
+    let top = c .inverse-factorial in
+    (omega arith, copies 8 (top .result) (now (start .args .rests)) (start .pre) ∙ map-alike (λ x. top .result) (summed 13) (λ x. top .ensures ∙ at-top inverseFactorial x 13) (now (start .args .rests)))
 
--- src/exp.rt:150:9
 sub-k : tie.Need-sub-k Inv-loop2 μ-loop2 Inv-loop μ-loop
-sub-k c = ?
+sub-k c = omega arith
 
--- src/exp.rt:151:13
 inverse-factorial-requires-2 :
     tie.Need-inverse-factorial-requires-2 Inv-loop2 μ-loop2 Inv-loop μ-loop
-inverse-factorial-requires-2 c κs = ?
+inverse-factorial-requires-2 c κs = omega arith
 
--- src/exp.rt:153:9
 loop2-holds : tie.Need-loop2-holds Inv-loop2 μ-loop2 Inv-loop μ-loop
-loop2-holds c = ?
+loop2-holds c =
+    let at = c .before .before in
+    let xs = now (at .before .before .before .args .rests) in
+    let z = at .loop .k in
+    let e : z ≡ z - 1 + 1 = omega arith in
+    (omega arith, at .loop .inv .1 ∙ ap (λ (i : ℕ). map (summed i) xs) e ∙ sym (at-start (summed (z - 1)) (summed (z - 1 + 1)) xs))
 
--- src/exp.rt:149:5
 loop-less : tie.Need-loop-less Inv-loop2 μ-loop2 Inv-loop μ-loop
-loop-less c = ?
+loop-less c = omega arith
 
--- src/exp.rt:149:5
 loop-again : tie.Need-loop-again Inv-loop2 μ-loop2 Inv-loop μ-loop
-loop-again c = ?
+loop-again c =
+    let at = c .before .before .before .before in
+    let start = at .before .before .before in
+    let z = at .loop .k in
+    (omega arith, c .before .loop2 .inv .1 ∙ at-end (summed (z - 1)) (summed (z - 1 + 1)) (c .before .loop2 .j) (now (start .args .rests)) (omega (arith, start .pre)))
 
--- src/exp.rt:154:23
 mul-sums : tie.Need-mul-sums Inv-loop2 μ-loop2 Inv-loop μ-loop
-mul-sums c = ?
+mul-sums c = omega arith
 
--- src/exp.rt:154:23
 array-read-sums : tie.Need-array-read-sums Inv-loop2 μ-loop2 Inv-loop μ-loop
-array-read-sums c = ?
+array-read-sums c = omega arith
 
--- src/exp.rt:154:33
 mul-sums-2 : tie.Need-mul-sums-2 Inv-loop2 μ-loop2 Inv-loop μ-loop
-mul-sums-2 c = ?
+mul-sums-2 c = omega arith
 
--- src/exp.rt:154:33
-element-copy-out-sums : tie.Need-element-copy-out-sums Inv-loop2 μ-loop2 Inv-loop μ-loop
-element-copy-out-sums c = ?
+shared-slice-read-sums : tie.Need-shared-slice-read-sums Inv-loop2 μ-loop2 Inv-loop μ-loop
+shared-slice-read-sums c = omega arith
 
--- src/exp.rt:154:13
 mul-sums-3 : tie.Need-mul-sums-3 Inv-loop2 μ-loop2 Inv-loop μ-loop
-mul-sums-3 c = ?
+mul-sums-3 c = omega arith
 
--- src/exp.rt:154:13
 array-write-sums : tie.Need-array-write-sums Inv-loop2 μ-loop2 Inv-loop μ-loop
-array-write-sums c = ?
+array-write-sums c = omega arith
 
--- src/exp.rt:155:13
 add-j : tie.Need-add-j Inv-loop2 μ-loop2 Inv-loop μ-loop
-add-j c = ?
+add-j c = omega arith
 
--- src/exp.rt:153:9
 loop2-less : tie.Need-loop2-less Inv-loop2 μ-loop2 Inv-loop μ-loop
-loop2-less c = ?
+loop2-less c = omega arith
 
--- src/exp.rt:153:9
 loop2-again : tie.Need-loop2-again Inv-loop2 μ-loop2 Inv-loop μ-loop
-loop2-again c = ?
+loop2-again c =
+    let inner = c .before .before .loop2 in
+    let at = c .before .before .before .before .before in
+    let start = at .before .before .before in
+    let xs = now (start .args .rests) in
+    let k = at .loop .k - 1 in
+    let h : inner .j < length xs = omega (arith, start .pre) in
+    let l : k < 13 = omega arith in (
+      omega arith,
+      one-further (summed k) (summed (k + 1)) (inner .j) xs (inner .sums) _ h (inner .inv .1)
+          (turn-at inverseFactorial (getD xs (inner .j) nan) 13 k _ _ l (next-of (summed k) (summed (k + 1)) (inner .j) xs (inner .sums) h (inner .inv .1)) (c .before .before .before .inverse-factorial2 .ensures)),
+    )
 
--- src/exp.rt:144:1
 returns : tie.Need-returns Inv-loop2 μ-loop2 Inv-loop μ-loop
-returns c = ?
+returns c =
+    let at = c .before in
+    let xs = now (at .before .before .before .args .rests) in
+    let none : at .loop .k ≡ 0 = omega arith in
+    at .loop .inv .1 ∙ map-alike (summed (at .loop .k)) (λ x. horner inverseFactorial x 0 13) (λ x. ended inverseFactorial x 13 (at .loop .k) none) xs
 
 pub series-of-eight-spec : {M : Type 1} → statement M
 series-of-eight-spec =
@@ -103,7 +126,7 @@ series-of-eight-spec =
     mul-sums
     array-read-sums
     mul-sums-2
-    element-copy-out-sums
+    shared-slice-read-sums
     mul-sums-3
     array-write-sums
     add-j
