@@ -9,6 +9,8 @@ ghost use Rattle.bond.specs.Yield.{error, noBracket, startIn, withError,
 ghost use Rattle.bond.specs.Worked.{WorkedOut};
 use crate::Bond;
 use crate::bonds::Worked;
+use crate::bonds::judge_bond;
+use crate::bonds::worked_out;
 use crate::brent::Search;
 use refusals::Number;
 use refusals::Verdict;
@@ -20,7 +22,7 @@ fn error(worked: Worked, market: f64, ytm: f64) -> f64
     requires { ⌜ WorkedOut worked ⌝ }
     ensures { λ r. ⌜ r ≡ error (worked .bond) market ytm ⌝ }
 {
-    crate::price::price_of(worked, ytm) - market
+    crate::price::price_at(worked, ytm) - market
 }
 
 // The search starts in a bracket.
@@ -96,10 +98,10 @@ fn one_sided(search: Search) -> bool
 }
 
 // The yield in the first bracket whose ends err to both sides; where neither has such ends, line 12.
-fn yield_in_bracket(bond: Bond, market: f64) -> Number
-    ensures { λ r. ⌜ numberOutcome r ≡ judged (line 12 (noBracket bond market) ∷ []) (yieldOf bond market) ⌝ }
+fn yield_in_bracket(worked: Worked, market: f64) -> Number
+    requires { ⌜ WorkedOut worked ⌝ }
+    ensures { λ r. ⌜ numberOutcome r ≡ judged (line 12 (noBracket (worked .bond) market) ∷ []) (yieldOf (worked .bond) market) ⌝ }
 {
-    let worked = crate::bonds::worked_out(bond);
     let narrow = start_in(worked, market, 0.001, 0.999);
     if one_sided(narrow) {
         let wide = start_in(worked, market, 1e-6, 50.0);
@@ -114,8 +116,9 @@ fn yield_in_bracket(bond: Bond, market: f64) -> Number
 pub fn yield_to_maturity(market: f64, bond: Bond) -> Number
     ensures { λ r. ⌜ numberOutcome r ≡ yieldToMaturity market bond ⌝ }
 {
-    match crate::bonds::judge_bond(bond, market) {
+    let worked = worked_out(bond);
+    match judge_bond(worked, market) {
         Verdict::Refused(refusal) => Number::Refused(refusal),
-        Verdict::Accepted => yield_in_bracket(bond, market),
+        Verdict::Accepted => yield_in_bracket(worked, market),
     }
 }

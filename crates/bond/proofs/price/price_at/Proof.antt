@@ -1,17 +1,52 @@
--- `bond::price::price_at` meets its contract. Assumes nothing.
-use mathlib.Core.Path.{_∙_}
+-- `bond::price::price_at` meets its contract: the test picks the case. Assumes nothing.
+use mathlib.Core.Path.{sym, _∙_}
+use Rattle.bond.specs.Price.{discount, priceOf}
 use borrow.Author.Needs.{needs}
 use Rattle.bond.proofs.price.price_at.Statement.{statement}
 use Rattle.bond.proofs.price.price_at.Tie as tie
 
-worked-out-requires : tie.Need-worked-out-requires
-worked-out-requires c κs = search needs
+period-rate-requires : tie.Need-period-rate-requires
+period-rate-requires c κs = search needs
 
-price-of-requires : tie.Need-price-of-requires
-price-of-requires c κs = search needs
+absolute-value-requires : tie.Need-absolute-value-requires
+absolute-value-requires c κs = search needs
+
+undiscounted-price-requires : tie.Need-undiscounted-price-requires
+undiscounted-price-requires c κs = search needs
 
 returns : tie.Need-returns
-returns c = c .price-of .ensures ∙ rw (c .before .worked-out .ensures .0)
+unfolding priceOf
+returns c =
+    let e = c .before .before in
+    c .undiscounted-price .ensures ∙ rw (sym (e .before .period-rate .ensures), sym (e .absolute-value .ensures), c .before .if1 .taken)
+
+negative-power-requires : tie.Need-negative-power-requires
+negative-power-requires c κs = search needs
+
+discounted-price-requires : tie.Need-discounted-price-requires
+discounted-price-requires c κs = search needs
+
+returns-2 : tie.Need-returns-2
+unfolding priceOf discount
+returns-2 c =
+    let e = c .before .before .before in
+    c .discounted-price .ensures
+    ∙ rw (
+      c .before .negative-power .ensures,
+      e .before .before .pre .counted,
+      sym (e .before .period-rate .ensures),
+      sym (e .absolute-value .ensures),
+      c .before .before .if1 .left,
+    )
 
 pub price-at-spec : {M : Type 1} → statement M
-price-at-spec = tie.close (tie.spec worked-out-requires price-of-requires returns)
+price-at-spec =
+    tie.close
+    (tie.spec
+    period-rate-requires
+    absolute-value-requires
+    undiscounted-price-requires
+    returns
+    negative-power-requires
+    discounted-price-requires
+    returns-2)

@@ -1,12 +1,8 @@
 -- `bond::yields::yield_in_bracket` meets its contract: the tests pick the bracket. Assumes nothing.
-use mathlib.Core.Path.{sym}
 use Rattle.bond.proofs.BracketTests.{in-narrow, in-wide, in-neither}
 use borrow.Author.Needs.{needs}
 use Rattle.bond.proofs.yields.yield_in_bracket.Statement.{statement}
 use Rattle.bond.proofs.yields.yield_in_bracket.Tie as tie
-
-worked-out-requires : tie.Need-worked-out-requires
-worked-out-requires c κs = search needs
 
 start-in-requires : tie.Need-start-in-requires
 start-in-requires c κs = search needs
@@ -28,7 +24,8 @@ returns c =
     let t = c .before .before in
     let e = t .before .before in
     let s = e .before in
-    rw (sym (s .before .before .worked-out .ensures .0)) (in-neither _ _ _ _ _ _ (s .before .start-in .ensures) (s .one-sided .ensures) (e .if1 .taken) (t .before .start-in2 .ensures) (t .one-sided2 .ensures) _ (c .before .if2 .taken) (c .refuse .ensures))
+    in-neither _ _ _ _ _ _ (s .before .start-in .ensures) (s .one-sided .ensures) (e .if1 .taken) (t .before .start-in2 .ensures)
+    (t .one-sided2 .ensures) _ (c .before .if2 .taken) (c .refuse .ensures)
 
 searched-requires : tie.Need-searched-requires
 searched-requires c κs = search needs
@@ -38,7 +35,8 @@ returns-2 c =
     let t = c .before .before in
     let e = t .before .before in
     let s = e .before in
-    rw (sym (s .before .before .worked-out .ensures .0)) (in-wide _ _ _ _ _ _ (s .before .start-in .ensures) (s .one-sided .ensures) (e .if1 .taken) (t .before .start-in2 .ensures) (t .one-sided2 .ensures) _ (c .before .if2 .left) (c .searched .ensures))
+    in-wide _ _ _ _ _ _ (s .before .start-in .ensures) (s .one-sided .ensures) (e .if1 .taken) (t .before .start-in2 .ensures)
+    (t .one-sided2 .ensures) _ (c .before .if2 .left) (c .searched .ensures)
 
 searched-requires-2 : tie.Need-searched-requires-2
 searched-requires-2 c κs = search needs
@@ -46,13 +44,12 @@ searched-requires-2 c κs = search needs
 returns-3 : tie.Need-returns-3
 returns-3 c =
     let s = c .before .before in
-    rw (sym (s .before .before .worked-out .ensures .0)) (in-narrow _ _ _ _ _ (s .before .start-in .ensures) (s .one-sided .ensures) (c .before .if1 .left) (c .searched2 .ensures))
+    in-narrow _ _ _ _ _ (s .before .start-in .ensures) (s .one-sided .ensures) (c .before .if1 .left) (c .searched2 .ensures)
 
 pub yield-in-bracket-spec : {M : Type 1} → statement M
 yield-in-bracket-spec =
     tie.close
     (tie.spec
-    worked-out-requires
     start-in-requires
     one-sided-requires
     start-in-requires-2

@@ -1,7 +1,7 @@
--- `bond::durations::next_to_nothing` meets its contract. Assumes nothing.
+-- `bond::price::next_to_nothing` meets its contract. Assumes nothing.
 use borrow.Author.Needs.{needs}
-use Rattle.bond.proofs.durations.next_to_nothing.Statement.{statement}
-use Rattle.bond.proofs.durations.next_to_nothing.Tie as tie
+use Rattle.bond.proofs.price.next_to_nothing.Statement.{statement}
+use Rattle.bond.proofs.price.next_to_nothing.Tie as tie
 
 absolute-value-requires : tie.Need-absolute-value-requires
 absolute-value-requires c κs = search needs
