@@ -6,3 +6,5 @@ pub mod KnotLine
 pub mod CurveLines
 pub mod Forwards
 pub mod Pars
+pub mod Pivots
+pub mod Points

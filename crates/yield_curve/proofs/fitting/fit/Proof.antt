@@ -1,34 +1,29 @@
+-- `yield_curve::fitting::fit` meets its contract: the verdict on the curve decides which answer it is. Assumes nothing.
+use Rattle.refusals.proofs.Verdicts.{refused-by, accepted-by}
+use Rattle.yield_curve.specs.Fit.{fit}
 use borrow.Author.Needs.{needs}
 use Rattle.yield_curve.proofs.fitting.fit.Statement.{statement}
 use Rattle.yield_curve.proofs.fitting.fit.Tie as tie
-use Rattle.yield_curve.proofs.fitting.fit.Reads as reads
-use Rattle.yield_curve.proofs.fitting.fit.Lts as lts
-use Rattle.yield_curve.proofs.curve.judge_curve.Reads as judge-curve-reads
-use Rattle.yield_curve.proofs.fitting.fit_points.Reads as fit-points-reads
 
--- src/fitting.rt:83:11
 judge-curve-requires : tie.Need-judge-curve-requires
 judge-curve-requires c κs = search needs
 
--- src/fitting.rt:84:26
 enum-known-refusal : tie.Need-enum-known-refusal
 enum-known-refusal c = search needs
 
--- src/fitting.rt:85:47
 enum-told : tie.Need-enum-told
 enum-told c = search needs
 
--- src/fitting.rt:85:47
 fit-points-requires : tie.Need-fit-points-requires
 fit-points-requires c κs = search needs
 
--- src/fitting.rt:80:1
 returns : tie.Need-returns
-returns c = ?
+unfolding fit
+returns c = refused-by _ _ _ _ (c .before .refusal .given .1) (c .before .before .before .judge-curve .ensures)
 
--- src/fitting.rt:80:1
 returns-2 : tie.Need-returns-2
-returns-2 c = ?
+unfolding fit
+returns-2 c = rw (c .fit-points .ensures) (accepted-by _ _ _ (c .before .enum-told .given .1) (c .before .before .before .judge-curve .ensures))
 
 pub fit-spec : {M : Type 1} → statement M
 fit-spec =

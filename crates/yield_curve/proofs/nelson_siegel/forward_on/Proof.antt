@@ -1,26 +1,24 @@
+-- `yield_curve::nelson_siegel::forward_on` meets its contract. Assumes nothing.
+use mathlib.Core.Path.{_∙_}
+use Rattle.yield_curve.specs.NelsonSiegel.{forwardOn}
+use Rattle.yield_curve.proofs.Choices.{taken, left}
 use borrow.Author.Needs.{needs}
 use Rattle.yield_curve.proofs.nelson_siegel.forward_on.Statement.{statement}
 use Rattle.yield_curve.proofs.nelson_siegel.forward_on.Tie as tie
-use Rattle.yield_curve.proofs.nelson_siegel.forward_on.Reads as reads
-use Rattle.yield_curve.proofs.nelson_siegel.forward_on.Lts as lts
-use Rattle.elementary.proofs.exp.exp.Reads as exp-reads
-use Rattle.yield_curve.proofs.nelson_siegel.instantaneous_forward.Reads as instantaneous-forward-reads
 
--- src/nelson_siegel.rt:60:9
 instantaneous-forward-requires : tie.Need-instantaneous-forward-requires
 instantaneous-forward-requires c κs = search needs
 
--- src/nelson_siegel.rt:60:9
 returns : tie.Need-returns
-returns c = ?
+unfolding forwardOn
+returns c = c .instantaneous-forward .ensures ∙ taken _ _ _ (c .before .if1 .taken)
 
--- src/nelson_siegel.rt:63:9
 exp-requires : tie.Need-exp-requires
 exp-requires c κs = search needs
 
--- src/nelson_siegel.rt:56:1
 returns-2 : tie.Need-returns-2
-returns-2 c = ?
+unfolding forwardOn
+returns-2 c = let left-over = c .before .before .before in rw (left-over .exp .ensures) (left _ _ _ (left-over .before .before .if1 .left))
 
 pub forward-on-spec : {M : Type 1} → statement M
 forward-on-spec =

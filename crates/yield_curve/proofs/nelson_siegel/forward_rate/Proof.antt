@@ -1,31 +1,29 @@
+-- `yield_curve::nelson_siegel::forward_rate` meets its contract. Assumes nothing.
+use mathlib.Core.Path.{sym, ap, _∙_}
+use Rattle.refusals.specs.Outcome.{accepted}
+use Rattle.refusals.proofs.Verdicts.{refused-as}
+use Rattle.yield_curve.specs.NelsonSiegel.{forwardRateAt}
+use Rattle.yield_curve.proofs.CurveLines.{caused, all-clear}
 use borrow.Author.Needs.{needs}
 use Rattle.yield_curve.proofs.nelson_siegel.forward_rate.Statement.{statement}
 use Rattle.yield_curve.proofs.nelson_siegel.forward_rate.Tie as tie
-use Rattle.yield_curve.proofs.nelson_siegel.forward_rate.Reads as reads
-use Rattle.yield_curve.proofs.nelson_siegel.forward_rate.Lts as lts
-use Rattle.refusals.proofs.refuse.Reads as refuse-reads
-use Rattle.yield_curve.proofs.curve.bad_time.Reads as bad-time-reads
-use Rattle.yield_curve.proofs.nelson_siegel.forward_on.Reads as forward-on-reads
 
--- src/nelson_siegel.rt:79:8
 bad-time-requires : tie.Need-bad-time-requires
 bad-time-requires c κs = search needs
 
--- src/nelson_siegel.rt:80:32
 refuse-requires : tie.Need-refuse-requires
 refuse-requires c κs = search needs
 
--- src/nelson_siegel.rt:80:9
 returns : tie.Need-returns
-returns c = ?
+unfolding forwardRateAt
+returns c = refused-as 7 _ _ (c .refuse .ensures) (caused _ 7 _ _ (sym (c .before .before .bad-time .ensures) ∙ c .before .if1 .taken))
 
--- src/nelson_siegel.rt:82:19
 forward-on-requires : tie.Need-forward-on-requires
 forward-on-requires c κs = search needs
 
--- src/nelson_siegel.rt:76:1
 returns-2 : tie.Need-returns-2
-returns-2 c = ?
+unfolding forwardRateAt
+returns-2 c = ap accepted (c .forward-on .ensures) ∙ all-clear _ 7 _ (sym (c .before .before .bad-time .ensures) ∙ c .before .if1 .left)
 
 pub forward-rate-spec : {M : Type 1} → statement M
 forward-rate-spec =

@@ -1,31 +1,29 @@
+-- `yield_curve::nelson_siegel::yield_at` meets its contract. Assumes nothing.
+use mathlib.Core.Path.{sym, ap, _∙_}
+use Rattle.refusals.specs.Outcome.{accepted}
+use Rattle.refusals.proofs.Verdicts.{refused-as}
+use Rattle.yield_curve.specs.NelsonSiegel.{yieldAt}
+use Rattle.yield_curve.proofs.CurveLines.{caused, all-clear}
 use borrow.Author.Needs.{needs}
 use Rattle.yield_curve.proofs.nelson_siegel.yield_at.Statement.{statement}
 use Rattle.yield_curve.proofs.nelson_siegel.yield_at.Tie as tie
-use Rattle.yield_curve.proofs.nelson_siegel.yield_at.Reads as reads
-use Rattle.yield_curve.proofs.nelson_siegel.yield_at.Lts as lts
-use Rattle.refusals.proofs.refuse.Reads as refuse-reads
-use Rattle.yield_curve.proofs.curve.bad_time.Reads as bad-time-reads
-use Rattle.yield_curve.proofs.nelson_siegel.yield_on.Reads as yield-on-reads
 
--- src/nelson_siegel.rt:70:8
 bad-time-requires : tie.Need-bad-time-requires
 bad-time-requires c κs = search needs
 
--- src/nelson_siegel.rt:71:32
 refuse-requires : tie.Need-refuse-requires
 refuse-requires c κs = search needs
 
--- src/nelson_siegel.rt:71:9
 returns : tie.Need-returns
-returns c = ?
+unfolding yieldAt
+returns c = refused-as 7 _ _ (c .refuse .ensures) (caused _ 7 _ _ (sym (c .before .before .bad-time .ensures) ∙ c .before .if1 .taken))
 
--- src/nelson_siegel.rt:73:19
 yield-on-requires : tie.Need-yield-on-requires
 yield-on-requires c κs = search needs
 
--- src/nelson_siegel.rt:67:1
 returns-2 : tie.Need-returns-2
-returns-2 c = ?
+unfolding yieldAt
+returns-2 c = ap accepted (c .yield-on .ensures) ∙ all-clear _ 7 _ (sym (c .before .before .bad-time .ensures) ∙ c .before .if1 .left)
 
 pub yield-at-spec : {M : Type 1} → statement M
 yield-at-spec =

@@ -1,26 +1,26 @@
+-- `yield_curve::nelson_siegel::yield_on` meets its contract. Assumes nothing.
+use mathlib.Core.Path.{_∙_}
+use Rattle.yield_curve.specs.NelsonSiegel.{yieldOn}
+use Rattle.yield_curve.proofs.Choices.{taken, left}
 use borrow.Author.Needs.{needs}
 use Rattle.yield_curve.proofs.nelson_siegel.yield_on.Statement.{statement}
 use Rattle.yield_curve.proofs.nelson_siegel.yield_on.Tie as tie
-use Rattle.yield_curve.proofs.nelson_siegel.yield_on.Reads as reads
-use Rattle.yield_curve.proofs.nelson_siegel.yield_on.Lts as lts
-use Rattle.yield_curve.proofs.nelson_siegel.instantaneous_forward.Reads as instantaneous-forward-reads
-use Rattle.yield_curve.proofs.nelson_siegel.loadings_of.Reads as loadings-of-reads
 
--- src/nelson_siegel.rt:49:9
 instantaneous-forward-requires : tie.Need-instantaneous-forward-requires
 instantaneous-forward-requires c κs = search needs
 
--- src/nelson_siegel.rt:49:9
 returns : tie.Need-returns
-returns c = ?
+unfolding yieldOn
+returns c = c .instantaneous-forward .ensures ∙ taken _ _ _ (c .before .if1 .taken)
 
--- src/nelson_siegel.rt:51:9
 loadings-of-requires : tie.Need-loadings-of-requires
 loadings-of-requires c κs = search needs
 
--- src/nelson_siegel.rt:45:1
 returns-2 : tie.Need-returns-2
-returns-2 c = ?
+unfolding yieldOn
+returns-2 c =
+    let loads = c .before .before .before .before .before in
+    rw (loads .loadings-of .ensures .0, loads .loadings-of .ensures .1) (left _ _ _ (loads .before .before .if1 .left))
 
 pub yield-on-spec : {M : Type 1} → statement M
 yield-on-spec =
