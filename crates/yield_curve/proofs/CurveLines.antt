@@ -11,7 +11,7 @@ use borrow.Author.Tests.{eq-eqb, ne-eqb, ltb-false}
 use Rattle.refusals.specs.Outcome.{Outcome, refused, accepted, Line, line, firstOr, judged}
 use Rattle.refusals.specs.Table.{unequal, badKnotCount, badKnots}
 use Rattle.refusals.proofs.Verdicts.{verdict}
-use Rattle.refusals.proofs.Judging.{followed, judged-in-parts}
+use Rattle.refusals.proofs.Judging.{none-is, passed, followed, judged-in-parts}
 use Rattle.yield_curve.specs.Curve.{curveLines}
 
 -- a line of one thing that has its cause, one that has not, and one that has not and is the last
@@ -68,3 +68,7 @@ module _ (times rates : List Float) where
 
     pub by-last-line : accepted tt ≡ verdict (curveLines times rates) → verdict (line k b ∷ []) ≡ verdict (curveLines times rates ++ line k b ∷ [])
     by-last-line e = ap (λ (o : Outcome Unit). followed o (verdict (line k b ∷ []))) e ∙ sym (judged-in-parts (curveLines times rates) (line k b ∷ []) tt)
+
+  -- ---- what is accepted has at most 120 knots
+  pub accepted-at-most-120 : (ms : List Line) → accepted tt ≡ verdict (curveLines times rates ++ ms) → length times ≤ 120
+  accepted-at-most-120 ms e = at-most-120 (length times) (none-is (passed tt tt _ _ (passed tt tt _ _ e .1) .0) 0)

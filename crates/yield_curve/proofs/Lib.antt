@@ -8,3 +8,5 @@ pub mod Forwards
 pub mod Pars
 pub mod Pivots
 pub mod Points
+pub mod Filling
+pub mod Splines
