@@ -1,13 +1,12 @@
 -- Document 01's 'Figures to hold it to', proved together as a single table: each is what the definitions compute. Assumes nothing.
 use mathlib.Core.Path.{_≡_, refl}
-use mathlib.Core.Bool.{true, false}
 use mathlib.Core.List.{List, [], _∷_, _++_}
 use Prim.Native.Nat.{ℕ}
 use lib.IntN.{pos}
-use lib.Ieee.{Float, nan, inf, fin, binary64, add, sub, mul, div, neg, lt, le, eq, ofInt, ofBits, toBits}
+use lib.Ieee.{Float, nan, binary64, add, sub, mul, div, lt, le, eq, ofInt, ofBits, toBits}
 use Rattle.numbers.specs.Sizes.{absolute}
 use Rattle.numbers.specs.Whole.{nearestWhole}
-use Rattle.refusals.specs.Outcome.{Outcome, refused, accepted, firstOr, judged}
+use Rattle.refusals.specs.Outcome.{accepted, firstOr, judged}
 use Rattle.refusals.specs.Table.{badAmount, badTerm, badNumber, badRecord}
 use Rattle.elementary.specs.WholePower.{turns, wholePower, negativePower}
 use Rattle.records.specs.declared.Terms.{Terms}

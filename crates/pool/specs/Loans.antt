@@ -1,10 +1,10 @@
 -- A pool's loans, lent as kind 1 records end to end, and the lines of the table that every function over a pool meets. Definitions only. Assumes nothing.
 use Prim.Native.Nat.{ℕ, zero, suc, _*_, _/_, _%_, max}
-use mathlib.Core.Bool.{Bool, true, false, cond, not, _||_}
+use mathlib.Core.Bool.{Bool, false, cond, not, _||_}
 use mathlib.Core.List.{List, [], _∷_, map}
 use lib.Dec.{eqb, ltb}
 use lib.ListN.{length, take, drop, getD}
-use Rattle.refusals.specs.Outcome.{Line, line, alone}
+use Rattle.refusals.specs.Outcome.{Line, alone}
 use Rattle.refusals.specs.Table.{badAmount, badTerm}
 use Rattle.records.specs.declared.Terms.{Terms}
 use Rattle.records.specs.Kinds.{termsKind, termsSize, termsIn}

@@ -1,15 +1,12 @@
 -- A loan's month in a pool, rule 1: the state that goes in, the three numbers, and the state that comes out; and its sums over a pool. Definitions only. Assumes nothing.
-use Prim.Native.Nat.{ℕ, zero, suc, _+_, _*_}
+use Prim.Native.Nat.{ℕ, zero, suc}
 use mathlib.Core.Bool.{cond}
-use mathlib.Core.List.{List, [], _∷_, _++_}
+use mathlib.Core.List.{List, [], _∷_}
 use lib.Dec.{ltb}
 use lib.Ieee.{Float, binary64, add, sub, mul, le}
 use Rattle.numbers.specs.Clamps.{plusZero, raised, lowered}
 use Rattle.records.specs.declared.Terms.{Terms}
-use Rattle.mortgage.specs.declared.Loan.{Loan}
 use Rattle.mortgage.specs.Payment.{monthlyRate, payment, loanOf}
-use Rattle.mortgage.specs.RowRule.{nextOf}
-use Rattle.mortgage.specs.Rows.{after}
 use Rattle.mortgage.specs.Totals.{balanceAfter}
 use Rattle.pool.specs.declared.months.Month.{Month}
 

@@ -1,6 +1,6 @@
 -- A pool's price, and its duration and convexity for any bump. Definitions only. Assumes nothing.
 use Prim.Native.Nat.{ℕ, suc}
-use mathlib.Core.Bool.{Bool, false, cond}
+use mathlib.Core.Bool.{false, cond}
 use mathlib.Core.List.{List}
 use lib.Ieee.{Float, binary64, add, sub, mul, div, eq, ofBits}
 use Rattle.numbers.specs.Clamps.{plusZero}

@@ -2,7 +2,7 @@
 use mathlib.Core.Path.{ap, _∙_}
 use mathlib.Core.Bool.{Bool}
 use mathlib.Core.List.{[], _∷_, _++_}
-use Rattle.refusals.specs.Outcome.{line, judged}
+use Rattle.refusals.specs.Outcome.{line}
 use Rattle.refusals.proofs.Verdicts.{verdict, refused-by, accepted-by}
 use Rattle.yield_curve.specs.Curve.{curveLines}
 use Rattle.yield_curve.specs.Linear.{discountFactor}
