@@ -2,7 +2,6 @@
 ghost use mathlib.Core.Path.{_≡_};
 ghost use Rattle.refusals.specs.Answers.{numberOutcome};
 ghost use Rattle.bench_jobs.specs.Bonds.{numberOr, pricedBy, yieldedBy};
-
 use bond::Bond;
 use bond::codes::FrequencyRead;
 use refusals::Number;
