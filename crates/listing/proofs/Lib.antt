@@ -4,3 +4,4 @@ pub mod Lengths
 pub mod RoomLaws
 pub mod PortionLaws
 pub mod Whole
+pub mod Tight

@@ -2,16 +2,25 @@
 use mathlib.Core.Path.{_≡_, sym, ap, _∙_}
 use mathlib.Core.List.{List}
 use Prim.Native.Nat.{ℕ}
-use borrow.Fn.Kinds.{Out, PK, RK, Dens, resT, endedOf}
-use contract.Lifetimes.{Lfts}
-use denote.Triple.Clauses.{Lasts, atExit}
-use Rattle.numbers.proofs.Tight.{Determined}
-use Rattle.refusals.specs.declared.Refusal.{Refusal}
+use Rattle.numbers.proofs.Determined.{Determined, Settled}
+use Rattle.refusals.proofs.OneToOne.{same-refusal}
 use Rattle.records.specs.declared.TermsRead.{TermsRead}
 use Rattle.records.specs.declared.TermsRead.the-variants as terms-is
 use Rattle.records.specs.declared.RowRead.{RowRead}
 use Rattle.records.specs.declared.RowRead.the-variants as row-is
-use Rattle.records.specs.Kinds.{termsOutcome, rowOutcome}
+use Rattle.records.specs.declared.BondRead.{BondRead}
+use Rattle.records.specs.declared.BondRead.the-variants as bond-is
+use Rattle.records.specs.declared.SwapRead.{SwapRead}
+use Rattle.records.specs.declared.SwapRead.the-variants as swap-is
+use Rattle.records.specs.Kinds.{swapOutcome, bondOutcome, termsOutcome, rowOutcome}
+use Rattle.records.proofs.bond_record.read_bond.Kinds as read-bond-kinds
+use Rattle.records.proofs.bond_record.read_bond.Reads as read-bond
+use Rattle.records.proofs.bond_record.write_bond.Kinds as write-bond-kinds
+use Rattle.records.proofs.bond_record.write_bond.Reads as write-bond
+use Rattle.records.proofs.swap_record.read_swap.Kinds as read-swap-kinds
+use Rattle.records.proofs.swap_record.read_swap.Reads as read-swap
+use Rattle.records.proofs.swap_record.write_swap.Kinds as write-swap-kinds
+use Rattle.records.proofs.swap_record.write_swap.Reads as write-swap
 use Rattle.records.proofs.terms_record.read_terms.Kinds as read-terms-kinds
 use Rattle.records.proofs.terms_record.read_terms.Reads as read-terms
 use Rattle.records.proofs.terms_record.write_terms.Kinds as write-terms-kinds
@@ -23,19 +32,14 @@ use Rattle.records.proofs.row_record.write_row.Reads as write-row
 
 -- ---- an answer's number, place and values tell the answer
 
-same-refusal : (a b : Refusal) → a .number ≡ b .number → a .place ≡ b .place → a ≡ b
-same-refusal a b n p =
-    let fields : _≡_ {A = Refusal} (record { number = a .number; place = a .place }) (record { number = b .number; place = b .place }) = cc in
-    fields
-
 pub terms-told : (a b : TermsRead) → termsOutcome a ≡ termsOutcome b → a ≡ b
-terms-told (terms-is.Refused a) (terms-is.Refused b) e = ap terms-is.Refused (same-refusal a b (cc) (cc))
+terms-told (terms-is.Refused a) (terms-is.Refused b) e = ap terms-is.Refused (same-refusal a b e)
 terms-told (terms-is.Given t) (terms-is.Given u) e = cc
 terms-told (terms-is.Refused a) (terms-is.Given u) e = cc
 terms-told (terms-is.Given t) (terms-is.Refused b) e = cc
 
 pub row-told : (a b : RowRead) → rowOutcome a ≡ rowOutcome b → a ≡ b
-row-told (row-is.Refused a) (row-is.Refused b) e = ap row-is.Refused (same-refusal a b (cc) (cc))
+row-told (row-is.Refused a) (row-is.Refused b) e = ap row-is.Refused (same-refusal a b e)
 row-told (row-is.Given r) (row-is.Given q) e = cc
 row-told (row-is.Refused a) (row-is.Given q) e = cc
 row-told (row-is.Given r) (row-is.Refused b) e = cc
@@ -48,14 +52,36 @@ read-row-determined κs a x y e e′ p q = row-told x y (p ∙ sym q)
 
 -- ---- what is left in lent memory
 
--- of the arguments a, what a contract ensures leaves one last value to each lent place
-abbrev pub Settled : (n : ℕ) (ps : List (PK n)) (r : RK n) → Out n ps r → Type 0
-Settled n ps r promise =
-    (κs : Lfts n) (a : Dens κs ps) (x y : resT r κs .Denot) (w w′ : Lasts (endedOf n ps r) κs a)
-    → promise κs a x (atExit (endedOf n ps r) κs a w) → promise κs a y (atExit (endedOf n ps r) κs a w′) → w ≡ w′
-
 pub write-terms-settled : Settled 1 write-terms-kinds.ps write-terms-kinds.r write-terms.Post
 write-terms-settled κs a x y w w′ p q = ap (λ (l : List ℕ). (tt, (l, tt))) (p ∙ sym q)
 
 pub write-row-settled : Settled 1 write-row-kinds.ps write-row-kinds.r write-row.Post
 write-row-settled κs a x y w w′ p q = ap (λ (l : List ℕ). (tt, (l, tt))) (p ∙ sym q)
+
+-- ---- kind 2
+
+pub bond-told : (a b : BondRead) → bondOutcome a ≡ bondOutcome b → a ≡ b
+bond-told (bond-is.Refused a) (bond-is.Refused b) e = ap bond-is.Refused (same-refusal a b e)
+bond-told (bond-is.Given v) (bond-is.Given w) e = cc
+bond-told (bond-is.Refused a) (bond-is.Given w) e = cc
+bond-told (bond-is.Given v) (bond-is.Refused b) e = cc
+
+pub read-bond-determined : Determined 1 read-bond-kinds.ps read-bond-kinds.r read-bond.Post
+read-bond-determined κs a x y e e′ p q = bond-told x y (p ∙ sym q)
+
+pub write-bond-settled : Settled 1 write-bond-kinds.ps write-bond-kinds.r write-bond.Post
+write-bond-settled κs a x y w w′ p q = ap (λ (l : List ℕ). (tt, (l, tt))) (p ∙ sym q)
+
+-- ---- kind 4
+
+pub swap-told : (a b : SwapRead) → swapOutcome a ≡ swapOutcome b → a ≡ b
+swap-told (swap-is.Refused a) (swap-is.Refused b) e = ap swap-is.Refused (same-refusal a b e)
+swap-told (swap-is.Given v) (swap-is.Given w) e = cc
+swap-told (swap-is.Refused a) (swap-is.Given w) e = cc
+swap-told (swap-is.Given v) (swap-is.Refused b) e = cc
+
+pub read-swap-determined : Determined 1 read-swap-kinds.ps read-swap-kinds.r read-swap.Post
+read-swap-determined κs a x y e e′ p q = swap-told x y (p ∙ sym q)
+
+pub write-swap-settled : Settled 1 write-swap-kinds.ps write-swap-kinds.r write-swap.Post
+write-swap-settled κs a x y w w′ p q = ap (λ (l : List ℕ). (tt, (l, tt))) (p ∙ sym q)

@@ -1,0 +1,6 @@
+pub mod DayCounts
+pub mod Discount
+pub mod Bootstrap
+pub mod Swap
+pub mod Legs
+pub mod Valuation

@@ -1,0 +1,12 @@
+// Swaps: day counts, the discount curve and its bootstrap, legs and values.
+pub mod day_counts;
+pub mod valuation;
+
+// A fixed-for-floating swap.
+pub struct Swap {
+    pub notional: f64,
+    pub fixed_rate: f64,
+    pub tenor: f64,
+    pub frequency: u32,
+    pub day_count: day_counts::DayCount,
+}
