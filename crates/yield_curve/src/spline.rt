@@ -109,7 +109,10 @@ fn bends_on(times: &[f64], rates: &[f64], i: usize) -> Bends
         k -= 1;
         c = f.z[k] - f.mu[k] * c;
     }
-    Bends { here: f.z[i] - f.mu[i] * c, next: c }
+    Bends {
+        here: f.z[i] - f.mu[i] * c,
+        next: c,
+    }
 }
 
 // a + b·dx + c·dx·dx + d·dx·dx·dx on the segment i.
