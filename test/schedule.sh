@@ -67,7 +67,17 @@ same "a term of 1,200" <<END
 rows 1200 left 0
 END
 
-refused() { loan "$1" "$2" "$3"; echo "refused $4" | same "principal $1, rate $2, term $3"; }
+# says NAME LINE: the program wrote that one line
+says() {
+    same "$1" <<END
+$2
+END
+}
+
+refused() {
+    loan "$1" "$2" "$3"
+    says "principal $1, rate $2, term $3" "refused $4"
+}
 refused -0.01 0.05 360 "1 at 0"
 refused bits:8000000000000001 0.05 360 "1 at 0"
 refused bits:7ff0000000000000 0.05 360 "1 at 0"
@@ -83,20 +93,20 @@ test/record 1200 0 3 >"$room/good"
 for kind in 0 2 3 4 255; do
     { perl -e "print chr $kind"; tail -c 20 "$room/good"; } >"$room/record"
     bytes "$room/record"
-    echo "refused 11 at 0" | same "kind $kind"
+    says "kind $kind" "refused 11 at 0"
 done
 for size in 0 1 20; do
     head -c "$size" "$room/good" >"$room/record"
     bytes "$room/record"
-    echo "refused 11 at 0" | same "$size bytes"
+    says "$size bytes" "refused 11 at 0"
 done
 for more in 1 21 100000; do
     { cat "$room/good"; head -c "$more" /dev/zero; } >"$room/record"
     bytes "$room/record"
-    echo "refused 11 at 0" | same "$more bytes more"
+    says "$more bytes more" "refused 11 at 0"
 done
 "$program" <&- >"$room/got"
-echo "refused 11 at 0" | same "closed standard input"
+says "closed standard input" "refused 11 at 0"
 
 # one rounding for each operation: no product and sum are fused
 if objdump -d "$program" | grep -qE '\s(fn?m(add|sub)|fml[as]|vfn?m(add|sub))'; then

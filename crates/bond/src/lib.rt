@@ -1,5 +1,10 @@
 // Bonds: price, yield, durations and convexity.
+pub mod bonds;
 pub mod brent;
+pub mod codes;
+pub mod durations;
+pub mod price;
+pub mod yields;
 
 // Coupons a year: 1, 2, 4 or 12.
 pub enum Frequency {

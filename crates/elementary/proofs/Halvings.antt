@@ -1,11 +1,11 @@
 -- From -708 to 709 the k of exp is at most 1,023, and below zero at most 1,022: 2 ^ k is a normal number. Assumes nothing.
 use mathlib.Core.Path.{_≡_, refl, sym, ap, _∙_, subst}
 use mathlib.Core.Bool.{Bool, true, false, cond}
-use Prim.Native.Nat.{ℕ, _*_, _^_, _≤_, _<_}
+use Prim.Native.Nat.{ℕ, _*_, _^_, _≤_}
 use native.Mathlib.Nat.{le-trans, le-of-eq, mul-pos, mul-le-mul-right}
 use native.Mathlib.Omega.{arith}
 use borrow.Author.Tests.{ltb-false}
-use lib.IntN.{ℤ, pos, negsuc}
+use lib.IntN.{ℤ, negsuc}
 use lib.Dec.{T, lit≤}
 use lib.Pow.{pow-pos}
 use lib.Ieee.{Float, nan, inf, fin, binary64, unlike, up, down, round, mul, lt, ofBits}
@@ -18,7 +18,7 @@ use Rattle.elementary.specs.Exp.{inverseLn2, highest, lowest, below, hal
 use Rattle.elementary.proofs.Roundings.{absolute-round, size-not-below, nearest-no-less}
 
 -- inverseLn2 as a fraction of 2 ^ 51
-abbrev numerator : ℕ
+abbrev pub numerator : ℕ
 numerator = 3248660424278399
 
 inverse-is : inverseLn2 ≡ fin false numerator (negsuc 50)
@@ -31,7 +31,7 @@ product s m e = ap (mul binary64 (fin s m e)) inverse-is ∙ opened
     opened : mul binary64 (fin s m e) (fin false numerator (negsuc 50)) ≡ round binary64 (unlike s false) (m * up e * (numerator * 1)) (down e * 2 ^ 51)
     opened = unfold mul in refl
 
-product-size : (s : Bool) (m : ℕ) (e : ℤ) → absolute (mul binary64 (fin s m e) inverseLn2) ≡ round binary64 false (m * up e * (numerator * 1)) (down e * 2 ^ 51)
+pub product-size : (s : Bool) (m : ℕ) (e : ℤ) → absolute (mul binary64 (fin s m e) inverseLn2) ≡ round binary64 false (m * up e * (numerator * 1)) (down e * 2 ^ 51)
 product-size s m e = ap absolute (product s m e) ∙ absolute-round binary64 (unlike s false) (m * up e * (numerator * 1)) (down e * 2 ^ 51)
 
 -- no more than at the bound B
@@ -69,6 +69,10 @@ not-beneath m e h = plain (m * up e) (down e) (ltb-false (177 * 4 * down e) (m *
     plain : (a d : ℕ) → a * 1 ≤ 177 * 4 * d → a ≤ 708 * d
     plain a d h = omega arith
 
+pub in-range : (s : Bool) (m : ℕ) (e : ℤ) → lt highest (fin s m e) ≡ false → lt (fin s m e) lowest ≡ false → m * up e ≤ 709 * down e
+in-range false m e a b = not-above m e a
+in-range true m e a b = le-trans (not-beneath m e b) (mul-le-mul-right (down e) (lit≤ tt))
+
 plus-not-below : (m : ℕ) (e : ℤ) → below (fin false m e) ≡ false
 unfolding below
 plus-not-below m e =
@@ -86,5 +90,12 @@ few-halvings (fin false m e) a b = rw (plus-not-below m e) (le-trans (halvings-a
 few-halvings (fin true m e) a b = either (below (fin true m e)) (le-trans (halvings-at-most 708 true m e (not-beneath m e b)) (le-of-eq at-708))
   where
     either : (b : Bool) {n : ℕ} → n ≤ 1021 → n ≤ cond b 1022 1023
+    either true h = omega arith
+    either false h = omega arith
+
+pub at-most-1023 : (x : Float) → lt highest x ≡ false → lt x lowest ≡ false → halvings x ≤ 1023
+at-most-1023 x a b = either (below x) (few-halvings x a b)
+  where
+    either : (b : Bool) {n : ℕ} → n ≤ cond b 1022 1023 → n ≤ 1023
     either true h = omega arith
     either false h = omega arith

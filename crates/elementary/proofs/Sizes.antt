@@ -1,8 +1,8 @@
 -- How many binary digits a whole number has, and the difference of two whole numbers as an integer. Assumes nothing.
-use mathlib.Core.Path.{_≡_, refl, sym, ap, _∙_, subst}
+use mathlib.Core.Path.{_≡_, refl, sym, ap, _∙_}
 use mathlib.Core.Bool.{Bool, true, false, not, cond}
-use Prim.Native.Nat.{ℕ, zero, suc, _+_, _-_, _*_, _/_, _^_, _≤_, _<_}
-use native.Mathlib.Nat.{le-antisymm, le-of-suc-le-suc, lt-of-not-le, lt-of-lt-of-le, not-le-of-lt, mul-le-mul-right, mul-div-cancel, mul-assoc, eq-of-mul-eq-mul-right, add-zero, sub-zero, zero-add}
+use Prim.Native.Nat.{ℕ, suc, _+_, _-_, _*_, _^_, _≤_, _<_}
+use native.Mathlib.Nat.{lt-of-not-le, lt-of-lt-of-le, not-le-of-lt, mul-le-mul-right, eq-of-mul-eq-mul-right, add-zero, sub-zero}
 use native.Mathlib.Omega.{arith}
 use lib.IntN.{ℤ, pos, negsuc, subℕ, _+ℤ_}
 use lib.Dec.{T, ltb, ltb→lt, nltb→le}
@@ -111,3 +111,28 @@ one-more a b = go (ltb a b) (ltb→lt a b) (nltb→le a b)
       where
         more : b ≤ a → a - b + 1 + b ≡ a + 1 + 0
         more h = omega arith
+
+-- ---- 2 ^ (p + k) is 2 ^ p times 2 ^ k
+pub power-sum : (p : ℕ) (k : ℤ) → up (pos p +ℤ k) * down k ≡ up k * 2 ^ p * down (pos p +ℤ k)
+power-sum p (pos a) = rw (pow-add 2 p a) (turn (2 ^ p) (2 ^ a))
+  where
+    turn : (x y : ℕ) → x * y * 1 ≡ y * x * 1
+    turn x y = omega arith
+power-sum p (negsuc a) = go (ltb p (suc a)) (ltb→lt p (suc a)) (nltb→le p (suc a))
+  where
+    go : (t : Bool) → (T t → p < suc a) → (T (not t) → suc a ≤ p)
+        → up (cond t (negsuc (suc a - suc p)) (pos (p - suc a))) * 2 ^ suc a ≡ 1 * 2 ^ p * down (cond t (negsuc (suc a - suc p)) (pos (p - suc a)))
+    go true h g = turn (2 ^ suc a) (2 ^ p) (2 ^ suc (suc a - suc p)) (ap (λ (i : ℕ). 2 ^ i) (left (h tt)) ∙ pow-add 2 p (suc (suc a - suc p)))
+      where
+        left : p < suc a → suc a ≡ p + suc (suc a - suc p)
+        left h = omega arith
+
+        turn : (x y z : ℕ) → x ≡ y * z → 1 * x ≡ 1 * y * z
+        turn x y z e = omega arith
+    go false h g = turn (2 ^ (p - suc a)) (2 ^ suc a) (2 ^ p) (ap (λ (i : ℕ). 2 ^ i) (left (g tt)) ∙ pow-add 2 (p - suc a) (suc a))
+      where
+        left : suc a ≤ p → p ≡ p - suc a + suc a
+        left h = omega arith
+
+        turn : (x y z : ℕ) → z ≡ x * y → x * y ≡ 1 * z * 1
+        turn x y z e = omega arith

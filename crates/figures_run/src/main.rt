@@ -26,12 +26,12 @@ fn say_drawn(drawing: Drawing) {
     }
 }
 
-// A loan of so many months, drawn into so many numbers of room, at most 6,000.
-fn draw(term: u32, places: usize) {
+// A loan of so many months, drawn once into the lent room.
+fn draw(term: u32, room: &mut [f64]) {
     io::write_all(STDOUT_FILENO, b"term ");
     io::print_decimal(STDOUT_FILENO, term as u64);
     io::write_all(STDOUT_FILENO, b" room ");
-    io::print_decimal(STDOUT_FILENO, places as u64);
+    io::print_decimal(STDOUT_FILENO, room.len() as u64);
     io::write_all(STDOUT_FILENO, b": ");
     let terms = Terms {
         principal: 100000.0,
@@ -40,18 +40,16 @@ fn draw(term: u32, places: usize) {
     };
     match mortgage::opening::open(terms) {
         Opening::Refused(refusal) => say_refused(refusal),
-        Opening::Open(loan) => {
-            let mut room = [0.0; 6000];
-            if places <= 6000 {
-                say_drawn(mortgage::draws::draw(loan, &mut room[..places]));
-            }
-        }
+        Opening::Open(loan) => say_drawn(mortgage::draws::draw(loan, room)),
     }
 }
 
 fn main() {
-    draw(1200, 6000);
-    draw(1201, 6000);
-    draw(3, 4);
-    draw(3, 5);
+    let mut whole = [0.0; 6000];
+    let mut four = [0.0; 4];
+    let mut five = [0.0; 5];
+    draw(1200, &mut whole);
+    draw(1201, &mut whole);
+    draw(3, &mut four);
+    draw(3, &mut five);
 }

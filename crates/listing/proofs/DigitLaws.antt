@@ -1,9 +1,9 @@
 -- Laws of digits: so many digits have that length, and the loop that puts the last one first has put, at each turn, the digits behind those that are left. Assumes nothing.
 use mathlib.Core.Path.{_≡_, refl, sym, ap, _∙_}
-use mathlib.Core.Bool.{Bool, true, false, cond}
+use mathlib.Core.Bool.{Bool, true, false}
 use mathlib.Core.List.{List, [], _∷_, _++_, append-assoc, append-nil}
-use Prim.Native.Nat.{ℕ, zero, suc, _+_, _-_, _*_, _/_, _%_, _^_, _<_, _≤_}
-use native.Mathlib.Nat.{add-zero, add-suc, suc-add, pow-suc, mod-eq-of-lt, div-lt-iff-lt-mul}
+use Prim.Native.Nat.{ℕ, zero, suc, _+_, _-_, _/_, _%_, _^_, _<_, _≤_}
+use native.Mathlib.Nat.{add-zero, add-suc, pow-suc, mod-eq-of-lt, div-lt-iff-lt-mul}
 use native.Mathlib.Numerals.{add-one}
 use native.Mathlib.Omega.{arith}
 use lib.Dec.{ltb, lit<}
@@ -59,9 +59,9 @@ hex-is (suc k) n = rw (hex-is k (n / 16))
 by-test : {P : Type 0} (a b : ℕ) → (a < b → P) → (b ≤ a → P) → P
 by-test {P} a b below above = go (ltb a b) (ltb-true a b) (ltb-false a b)
   where
-  go : (t : Bool) → (t ≡ true → a < b) → (t ≡ false → b ≤ a) → P
-  go true y n = below (y refl)
-  go false y n = above (n refl)
+    go : (t : Bool) → (t ≡ true → a < b) → (t ≡ false → b ≤ a) → P
+    go true y n = below (y refl)
+    go false y n = above (n refl)
 
 -- one step of the decimal digits, by the test
 pub small-decimal : (k n : ℕ) → n < 10 → decimalDigits (suc k) n ≡ digit n ∷ []
@@ -82,8 +82,8 @@ unfolding decimalDigits
 few-digits zero n = omega arith
 few-digits (suc k) n =
     by-test n 10 (λ s. rw (small-decimal k n s) (omega arith)) (λ l.
-      let e : length (decimalDigits k (n / 10)) ≤ k + 1 = few-digits k (n / 10) in
-      rw (large-decimal k n l, length-append) (omega arith))
+    let e : length (decimalDigits k (n / 10)) ≤ k + 1 = few-digits k (n / 10) in
+    rw (large-decimal k n l, length-append) (omega arith))
 
 -- a number of at most k + 1 decimal digits
 pub decimal-is : (k n : ℕ) → n < 10 ^ suc k → decimalDigits k n ≡ digitsIn 10 (length (decimalDigits k n)) n
@@ -91,9 +91,9 @@ unfolding decimalDigits digitsIn
 decimal-is zero n h = rw (mod-eq-of-lt h)
 decimal-is (suc k) n h =
     by-test n 10 (λ s. rw (small-decimal k n s, mod-eq-of-lt s)) (λ l.
-      let q : n / 10 < 10 ^ suc k = div-lt-iff-lt-mul (lit< tt) .1 (rw (pow-suc 10 (suc k)) at h) in
-      let e : length (decimalDigits k (n / 10) ++ digit (n % 10) ∷ []) ≡ suc (length (decimalDigits k (n / 10))) = length-append (decimalDigits k (n / 10)) _ ∙ omega arith in
-      rw (large-decimal k n l, e) (ap (λ (d : List ℕ). d ++ digit (n % 10) ∷ []) (decimal-is k (n / 10) q)))
+    let q : n / 10 < 10 ^ suc k = div-lt-iff-lt-mul (lit< tt) .1 (rw (pow-suc 10 (suc k)) at h) in
+    let e : length (decimalDigits k (n / 10) ++ digit (n % 10) ∷ []) ≡ suc (length (decimalDigits k (n / 10))) = length-append (decimalDigits k (n / 10)) _ ∙ omega arith in
+    rw (large-decimal k n l, e) (ap (λ (d : List ℕ). d ++ digit (n % 10) ∷ []) (decimal-is k (n / 10) q)))
 
 -- ---- the texts that the program puts
 
@@ -127,14 +127,14 @@ none-counted n h = record { left = 9; ten = refl; small = omega arith; digits = 
 pub one-counted : (n rest size : ℕ) → 10 ≤ rest → Counted n rest size → Counted n (rest / 10) (size + 1)
 one-counted n rest size h c = go (c .left) (c .ten) (c .small) (c .digits)
   where
-  go : (left : ℕ) → size + left ≡ 10 → rest < 10 ^ suc left → size + length (decimalDigits left rest) ≡ length (decimal n) + 1 → Counted n (rest / 10) (size + 1)
-  go zero t s d = absurd (omega arith)
-  go (suc k) t s d = record {
-    left = k;
-    ten = omega arith;
-    small = div-lt-iff-lt-mul (lit< tt) .1 (rw (pow-suc 10 (suc k)) at s);
-    digits = omega (arith, ap length (large-decimal k rest h) ∙ length-append (decimalDigits k (rest / 10)) (digit (rest % 10) ∷ []));
-  }
+    go : (left : ℕ) → size + left ≡ 10 → rest < 10 ^ suc left → size + length (decimalDigits left rest) ≡ length (decimal n) + 1 → Counted n (rest / 10) (size + 1)
+    go zero t s d = absurd (omega arith)
+    go (suc k) t s d = record {
+      left = k;
+      ten = omega arith;
+      small = div-lt-iff-lt-mul (lit< tt) .1 (rw (pow-suc 10 (suc k)) at s);
+      digits = omega (arith, ap length (large-decimal k rest h) ∙ length-append (decimalDigits k (rest / 10)) (digit (rest % 10) ∷ []));
+    }
 
 pub all-counted : (n rest size : ℕ) → rest < 10 → Counted n rest size → size ≡ length (decimal n)
 all-counted n rest size h c = omega (arith, c .digits, one-digit (c .left) rest h)

@@ -1,12 +1,16 @@
 -- How long the lines of a listing are, and that 96,000 bytes hold the listing of any loan. Assumes nothing.
-use mathlib.Core.Path.{_≡_, refl, sym, ap, _∙_}
+use mathlib.Core.Path.{_≡_}
 use mathlib.Core.List.{List, [], _∷_, _++_}
 use Prim.Native.Nat.{ℕ, zero, suc, _+_, _*_, _≤_}
 use native.Mathlib.Omega.{arith}
 use lib.ListN.{length, length-append}
 use Rattle.records.specs.declared.Row.{Row}
+use Rattle.mortgage.specs.declared.Loan.{Loan}
+use Rattle.mortgage.specs.RowRule.{rowOf}
+use Rattle.mortgage.specs.Steps.{written}
+use Rattle.mortgage.specs.Rows.{after}
 use Rattle.listing.specs.Digits.{decimal}
-use Rattle.listing.specs.Listing.{lineEnd, spaced, rowLine, footer, refusedLine}
+use Rattle.listing.specs.Listing.{lineEnd, spaced, rowLine, rowLines, footer, refusedLine}
 use Rattle.listing.specs.Portions.{lineRoom}
 use Rattle.listing.proofs.DigitLaws.{length-decimal, length-spaced}
 
@@ -43,3 +47,9 @@ length-refused number place = omega (arith, length-numbers (114 ∷ 101 ∷ 102 
 
 pub length-row : (r : Row) → length (rowLine r) ≤ lineRoom
 length-row r = omega (arith, row-lengths r, length-decimal (r .month))
+
+-- the lines of k rows, whatever they are
+pub length-lines : (k : ℕ) (l : Loan) → length (rowLines k l) ≤ k * lineRoom
+unfolding written
+length-lines zero l = omega arith
+length-lines (suc k) l = omega (arith, length-append (rowLines k l) (rowLine (rowOf (after k l))), length-lines k l, length-row (rowOf (after k l)))

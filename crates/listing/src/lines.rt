@@ -5,7 +5,6 @@ ghost use lib.ListN.{length};
 ghost use Rattle.listing.specs.Digits.{decimal};
 ghost use Rattle.listing.specs.Listing.{lineEnd, rowLine, footer, refusedLine};
 ghost use Rattle.listing.specs.Putting.{Put};
-
 use crate::text::put_decimal;
 use crate::text::put_spaced;
 use crate::text::put_text;
@@ -24,14 +23,7 @@ pub(crate) fn put_row(out: &mut [u8], at: usize, row: Row) -> usize
 }
 
 // A line of two numbers, each with its words in front.
-fn put_numbers(
-    out: &mut [u8],
-    at: usize,
-    first: &[u8],
-    a: u32,
-    second: &[u8],
-    b: u32,
-) -> usize
+fn put_numbers(out: &mut [u8], at: usize, first: &[u8], a: u32, second: &[u8], b: u32) -> usize
     requires { ⌜ at + length (now first ++ decimal a ++ now second ++ decimal b ++ lineEnd) ≤ length (now out) ⌝ }
     ensures { λ r. ⌜ Put (now (first .entry) ++ decimal a ++ now (second .entry) ++ decimal b ++ lineEnd) at (now (out .entry)) r (now (out .exit)) ⌝ }
 {
@@ -53,12 +45,5 @@ pub(crate) fn put_refused(out: &mut [u8], at: usize, refusal: refusals::Refusal)
     requires { ⌜ at + length (refusedLine (refusal .number) (refusal .place)) ≤ length (now out) ⌝ }
     ensures { λ r. ⌜ Put (refusedLine (refusal .number) (refusal .place)) at (now (out .entry)) r (now (out .exit)) ⌝ }
 {
-    put_numbers(
-        out,
-        at,
-        b"refused ",
-        refusal.number,
-        b" at ",
-        refusal.place,
-    )
+    put_numbers(out, at, b"refused ", refusal.number, b" at ", refusal.place)
 }

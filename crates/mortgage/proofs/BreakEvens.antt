@@ -1,7 +1,6 @@
 -- The last line that a break-even meets, cause by cause: a saving at or below zero, a month later than the new term, or neither. Assumes nothing.
 use mathlib.Core.Path.{_≡_}
 use mathlib.Core.Bool.{true, false, cond}
-use mathlib.Core.List.{[], _∷_}
 use Prim.Native.Nat.{ℕ, _<_, _≤_}
 use lib.Ieee.{Float, le}
 use borrow.Author.Tests.{lt-ltb, le-ltb}

@@ -1,5 +1,6 @@
--- Laws of a draw: the rows of a loan as pieces of a room, and what a draw answers and leaves in each case, in the order in which the code tests. Assumes nothing.
-use mathlib.Core.Path.{_≡_, refl, sym, ap, _∙_}
+-- The cases of a draw and of the next row alone, in the order in which the code tests: what is answered, and what the room holds then. Before them, a loop that lays a loan's rows
+-- into a room: what stands after each turn. Assumes nothing.
+use mathlib.Core.Path.{_≡_, refl, ap, _∙_}
 use mathlib.Core.Bool.{true, false}
 use mathlib.Core.List.{List}
 use Prim.Native.Nat.{ℕ, _+_, _-_, _*_, _/_, _<_, _≤_, zero-le, min}
@@ -18,7 +19,7 @@ use Rattle.mortgage.specs.declared.draws.Portion.{Portion}
 use Rattle.mortgage.specs.Row.{width, places}
 use Rattle.mortgage.specs.RowRule.{endMonth, due, rowOf, nextOf}
 use Rattle.mortgage.specs.Steps.{stepped, written, laid}
-use Rattle.mortgage.specs.Rows.{after, rows, NextRow, finished, next, nextRow}
+use Rattle.mortgage.specs.Rows.{after, rows, finished, next, nextRow}
 use Rattle.mortgage.specs.Draws.{portion, drawn, filledBy, filled}
 use Rattle.mortgage.proofs.Portions.{turn}
 
@@ -47,21 +48,21 @@ a-turn most room₀ room room′ l₀ l l′ at k row b i h m e n =
 
 -- ---- the next row alone
 module _ (l : Loan) where
-  pub next-bad-term : badTerm (l .term) ≡ true → refused 2 0 ≡ nextRow l
+  pub next-row-bad-term : badTerm (l .term) ≡ true → refused 2 0 ≡ nextRow l
   unfolding nextRow judged firstOr
-  next-bad-term t = rw t
+  next-row-bad-term t = rw t
 
-  pub next-past : badTerm (l .term) ≡ false → endMonth l < l .done → refused 10 0 ≡ nextRow l
+  pub next-row-past : badTerm (l .term) ≡ false → endMonth l < l .done → refused 10 0 ≡ nextRow l
   unfolding nextRow judged firstOr pastEnd
-  next-past t h = rw (t, lt-ltb _ _ h)
+  next-row-past t h = rw (t, lt-ltb _ _ h)
 
-  pub next-finished : badTerm (l .term) ≡ false → endMonth l ≡ l .done → accepted finished ≡ nextRow l
+  pub next-row-finished : badTerm (l .term) ≡ false → endMonth l ≡ l .done → accepted finished ≡ nextRow l
   unfolding nextRow judged firstOr pastEnd due
-  next-finished t h = rw (t, le-ltb (endMonth l) (l .done) (omega arith), eq-eqb (endMonth l - l .done) 0 (omega arith))
+  next-row-finished t h = rw (t, le-ltb (endMonth l) (l .done) (omega arith), eq-eqb (endMonth l - l .done) 0 (omega arith))
 
-  pub next-due : badTerm (l .term) ≡ false → l .done < endMonth l → accepted (next (rowOf l) (nextOf l)) ≡ nextRow l
+  pub next-row-due : badTerm (l .term) ≡ false → l .done < endMonth l → accepted (next (rowOf l) (nextOf l)) ≡ nextRow l
   unfolding nextRow judged firstOr pastEnd due
-  next-due t h = rw (t, le-ltb (endMonth l) (l .done) (omega arith), ne-eqb (endMonth l - l .done) 0 (λ e. omega arith))
+  next-row-due t h = rw (t, le-ltb (endMonth l) (l .done) (omega arith), ne-eqb (endMonth l - l .done) 0 (λ e. omega arith))
 
 -- ---- a draw
 module _ (l : Loan) (room : List Float) where

@@ -12,3 +12,4 @@ pub mod PayingDown
 pub mod BreakEvens
 pub mod Exactly
 pub mod Tight
+pub mod TightTotals

@@ -1,8 +1,8 @@
--- Paying down month by month: what each way through a month does to the run, for any payment, any monthly rate and any number of months. Assumes nothing.
-use mathlib.Core.Path.{_≡_, refl, sym, ap, _∙_}
+-- Paying down month by month: what each way through a month does to the run, for any payment, any monthly rate and any number of months; and accepted terms are short enough for it. Assumes nothing.
+use mathlib.Core.Path.{_≡_, refl, _∙_}
 use mathlib.Core.Bool.{Bool, true, false, cond, _||_}
 use mathlib.Core.List.{[], _∷_}
-use Prim.Native.Nat.{ℕ, zero, suc, _+_, _-_, _<_, _≤_}
+use Prim.Native.Nat.{ℕ, suc, _+_, _-_, _<_, _≤_}
 use native.Mathlib.Omega.{arith}
 use lib.Dec.{eqb, ltb}
 use lib.Ieee.{Float, lt, le}
@@ -16,35 +16,35 @@ use Rattle.mortgage.specs.declared.savings.Paydown.{Paydown}
 use Rattle.mortgage.specs.Terms.{termsLines}
 use Rattle.mortgage.specs.Savings.{millionth, paidDown, run}
 
-module _ (pay r : Float) (most k : ℕ) (s s′ : Paydown) where
-  -- no month is left
+another : (most k : ℕ) → k < most → most - k ≡ suc (most - (k + 1))
+another most k h = omega arith
+
+-- the state s in hand after k months, of which there are at most so many
+module _ (pay r : Float) (most k : ℕ) (s : Paydown) where
   pub months-up : most ≤ k → run pay r (most - k) s ≡ s
   unfolding run
   months-up h = let e : most - k ≡ 0 = omega arith in rw e
 
-  -- a month is left: the run's two tests, in its order
-  month-left : k < most → s′ ≡ paidDown pay r s
-      → run pay r (most - k) s ≡ cond (lt plusZero (s .balance)) (cond (le (s′ .balance) millionth) s′ (run pay r (most - (k + 1)) s′)) s
-  unfolding run
-  month-left h m = let e : most - k ≡ suc (most - (k + 1)) = omega arith in rw (e, m)
-
+  -- the balance is not above 0
   pub paid : k < most → lt plusZero (s .balance) ≡ false → run pay r (most - k) s ≡ s
   unfolding run
-  paid h z = let e : most - k ≡ suc (most - (k + 1)) = omega arith in rw (e, z)
+  paid h z = rw (another most k h, z)
 
-  -- the month leaves at most 1e-6
-  pub pays-off : k < most → s′ ≡ paidDown pay r s → lt plusZero (s .balance) ≡ true → le (s′ .balance) millionth ≡ true → run pay r (most - k) s ≡ s′
-  pays-off h m z e = month-left h m ∙ rw (z, e)
+  -- the balance is above 0, and the month leaves the state s′
+  module _ (s′ : Paydown) (month : s′ ≡ paidDown pay r s) (h : k < most) (owes : lt plusZero (s .balance) ≡ true) where
+    after-month : run pay r (most - k) s ≡ cond (le (s′ .balance) millionth) s′ (run pay r (most - (k + 1)) s′)
+    unfolding run
+    after-month = rw (another most k h, owes, month)
 
-  -- the month leaves more
-  pub goes-on : k < most → s′ ≡ paidDown pay r s → lt plusZero (s .balance) ≡ true → le (s′ .balance) millionth ≡ false
-      → run pay r (most - k) s ≡ run pay r (most - (k + 1)) s′
-  goes-on h m z e = month-left h m ∙ rw (z, e)
+    pub pays-off : le (s′ .balance) millionth ≡ true → run pay r (most - k) s ≡ s′
+    pays-off e = after-month ∙ rw e
 
-  -- and is counted
-  pub counted : s′ ≡ paidDown pay r s → s .months ≡ k → s′ .months ≡ k + 1
-  unfolding paidDown
-  counted m e = rw (m, e)
+    pub goes-on : le (s′ .balance) millionth ≡ false → run pay r (most - k) s ≡ run pay r (most - (k + 1)) s′
+    goes-on e = after-month ∙ rw e
+
+pub counted : (pay r : Float) (k : ℕ) (s s′ : Paydown) → s′ ≡ paidDown pay r s → s .months ≡ k → s′ .months ≡ k + 1
+unfolding paidDown
+counted pay r k s s′ month e = rw (month, e)
 
 -- ---- an accepted term is at most 1,200
 second-passes : (a b : Bool) → accepted tt ≡ verdict (line 1 a ∷ line 2 b ∷ []) → b ≡ false

@@ -1,11 +1,9 @@
 -- How tight the promises of payments, openings, rows and draws are: whatever a public function is given, any two results that its contract allows are equal, and for a draw so are
 -- any two rooms that it may leave. Assumes nothing.
 use mathlib.Core.Path.{_≡_, refl, sym, ap, _∙_}
-use borrow.Fn.Kinds.{Dens, resT, endedOf}
-use contract.Lifetimes.{Lfts}
-use denote.Ref.{now}
-use denote.Triple.Clauses.{AtExit}
-use Rattle.numbers.proofs.Tight.{Determined}
+use mathlib.Core.List.{List}
+use lib.Ieee.{Float}
+use Rattle.numbers.proofs.Determined.{Determined, Settled}
 use Rattle.refusals.proofs.OneToOne.{same-refusal, number-one-to-one}
 use Rattle.mortgage.specs.declared.opening.Opening.{Opening}
 use Rattle.mortgage.specs.declared.opening.Opening.the-variants as opening-is
@@ -67,7 +65,6 @@ next-row-determined κs a x y e e′ p q = next-one-to-one x y (p ∙ sym q)
 pub draw-determined : Determined 1 draw-kinds.ps draw-kinds.r draw.Post
 draw-determined κs a x y e e′ p q = drawing-one-to-one x y (p .0 ∙ sym (q .0))
 
--- and a draw's promise one room, the second parameter as it is at the exit
-pub draw-room-determined : (κs : Lfts 1) (a : Dens κs draw-kinds.ps) (x y : resT draw-kinds.r κs .Denot) (e e′ : AtExit (endedOf 1 draw-kinds.ps draw-kinds.r) κs)
-    → draw.Post κs a x e → draw.Post κs a y e′ → now (e .1 .0) ≡ now (e′ .1 .0)
-draw-room-determined κs a x y e e′ p q = p .1 ∙ sym (q .1)
+-- and a draw's promise one room, the second parameter
+pub draw-room-settled : Settled 1 draw-kinds.ps draw-kinds.r draw.Post
+draw-room-settled κs a x y w w′ p q = ap (λ (l : List Float). (tt, (l, tt))) (p .1 ∙ sym (q .1))

@@ -1,4 +1,6 @@
 -- What the proofs of several functions and of later crates use.
+pub mod Determined
+pub mod Nans
 pub mod Zeros
 pub mod Amounts
 pub mod Order

@@ -1,10 +1,6 @@
 -- How tight the promises are: whatever a public function is given, any two results that its contract allows are equal. Assumes nothing.
-use mathlib.Core.Path.{_≡_, sym, _∙_}
-use mathlib.Core.List.{List}
-use Prim.Native.Nat.{ℕ}
-use borrow.Fn.Kinds.{Out, PK, RK, Dens, resT, endedOf}
-use contract.Lifetimes.{Lfts}
-use denote.Triple.Clauses.{AtExit}
+use mathlib.Core.Path.{sym, _∙_}
+use Rattle.numbers.proofs.Determined.{Determined}
 use Rattle.numbers.proofs.clamps.raise_to_zero.Kinds as raise-to-zero-kinds
 use Rattle.numbers.proofs.clamps.raise_to_zero.Reads as raise-to-zero
 use Rattle.numbers.proofs.clamps.lower_to.Kinds as lower-to-kinds
@@ -23,10 +19,6 @@ use Rattle.numbers.proofs.whole.nearest_whole.Kinds as nearest-whole-ki
 use Rattle.numbers.proofs.whole.nearest_whole.Reads as nearest-whole
 use Rattle.numbers.proofs.whole.ceiling_to_u32.Kinds as ceiling-to-u32-kinds
 use Rattle.numbers.proofs.whole.ceiling_to_u32.Reads as ceiling-to-u32
-
--- of the arguments a, what a contract ensures (`Post`) leaves one result
-abbrev pub Determined : (n : ℕ) (ps : List (PK n)) (r : RK n) → Out n ps r → Type 0
-Determined n ps r promise = (κs : Lfts n) (a : Dens κs ps) (x y : resT r κs .Denot) (e e′ : AtExit (endedOf n ps r) κs) → promise κs a x e → promise κs a y e′ → x ≡ y
 
 pub raise-to-zero-determined : Determined 0 raise-to-zero-kinds.ps raise-to-zero-kinds.r raise-to-zero.Post
 raise-to-zero-determined κs a x y e e′ p q = p ∙ sym q

@@ -4,6 +4,7 @@ use mathlib.Core.List.{List, [], _∷_, map, append-nil, append-assoc}
 use Prim.Native.Nat.{ℕ}
 use lib.ListN.{getD}
 use lib.Seq.{drop-drop, getD-take}
+use lib.Ieee.{Float}
 use native.Mathlib.Omega.{arith}
 use Rattle.records.specs.declared.Terms.{Terms}
 use Rattle.records.specs.declared.Row.{Row}
@@ -17,10 +18,10 @@ pub record Layout (Value : Type 0) : Type 0 where
   pub kind : ℕ
   pub fields : List Field
   pub slots : ℕ → Value → List Slot
-  pub bytesOf : Value → List ℕ
+  pub recordOf : Value → List ℕ
   pub valueIn : List ℕ → Value
   pub shape : (k : ℕ) (v : Value) → map fieldOf (slots k v) ≡ fields
-  pub writes : (v : Value) → written (slots kind v) ≡ bytesOf v
+  pub writes : (v : Value) → written (slots kind v) ≡ recordOf v
   pub reads : (bytes : List ℕ) → slotsIn fields bytes ≡ slots (getD bytes 0 0) (valueIn bytes)
   pub same : (j k : ℕ) (v w : Value) → slots j v ≡ slots k w → (j ≡ k) × (v ≡ w)
 
@@ -37,9 +38,13 @@ pub terms-read : (bytes : List ℕ) → slotsIn termsFields bytes ≡ termsSlots
 unfolding slotIn slotsIn termsIn floatAt wholeAt
 terms-read bytes = rw (getD-take 1 bytes 0 0 (omega arith), drop-drop 8 1 bytes, drop-drop 8 9 bytes)
 
+termsOf : Float → Float → ℕ → Terms
+termsOf principal rate term = record { principal = principal; rate = rate; term = term }
+
 pub terms-same : (j k : ℕ) (v w : Terms) → termsSlots j v ≡ termsSlots k w → (j ≡ k) × (v ≡ w)
+unfolding termsOf
 terms-same j k v w e =
-    let fields : _≡_ {A = Terms} (record { principal = v .principal; rate = v .rate; term = v .term }) (record { principal = w .principal; rate = w .rate; term = w .term }) = cc in
+    let fields : termsOf (v .principal) (v .rate) (v .term) ≡ termsOf (w .principal) (w .rate) (w .term) = cc in
     (cc, fields)
 
 abbrev pub termsLayout : Layout Terms
@@ -47,7 +52,7 @@ termsLayout = record {
   kind = termsKind;
   fields = termsFields;
   slots = termsSlots;
-  bytesOf = termsBytes;
+  recordOf = termsBytes;
   valueIn = termsIn;
   shape = λ k t. refl;
   writes = terms-written;
@@ -70,9 +75,14 @@ unfolding slotIn slotsIn rowIn floatAt wholeAt
 row-read bytes =
     rw (getD-take 1 bytes 0 0 (omega arith), drop-drop 4 1 bytes, drop-drop 8 5 bytes, drop-drop 8 13 bytes, drop-drop 8 21 bytes)
 
+rowOf : ℕ → Float → Float → Float → Float → Row
+rowOf month payment principal interest balance = record { month = month; payment = payment; principal = principal; interest = interest; balance = balance }
+
 pub row-same : (j k : ℕ) (v w : Row) → rowSlots j v ≡ rowSlots k w → (j ≡ k) × (v ≡ w)
+unfolding rowOf
 row-same j k v w e =
-    let fields : _≡_ {A = Row} (record { month = v .month; payment = v .payment; principal = v .principal; interest = v .interest; balance = v .balance }) (record { month = w .month; payment = w .payment; principal = w .principal; interest = w .interest; balance = w .balance }) = cc in
+    let fields : rowOf (v .month) (v .payment) (v .principal) (v .interest) (v .balance)
+    ≡ rowOf (w .month) (w .payment) (w .principal) (w .interest) (w .balance) = cc in
     (cc, fields)
 
 abbrev pub rowLayout : Layout Row
@@ -80,7 +90,7 @@ rowLayout = record {
   kind = rowKind;
   fields = rowFields;
   slots = rowSlots;
-  bytesOf = rowBytes;
+  recordOf = rowBytes;
   valueIn = rowIn;
   shape = λ k r. refl;
   writes = row-written;

@@ -22,9 +22,9 @@ module _ {Value : Type 0} (l : Layout Value) where
   abbrev answer : List ℕ → Outcome Value
   answer bytes = judged (line 11 (badRecord (l .kind) (size (l .fields)) bytes) ∷ []) (l .valueIn bytes)
 
-  value-again : (v : Value) → Every Held (l .slots (l .kind) v) → answer (l .bytesOf v) ≡ accepted v
+  value-again : (v : Value) → Every Held (l .slots (l .kind) v) → answer (l .recordOf v) ≡ accepted v
   value-again v held =
-      let bytes = l .bytesOf v in
+      let bytes = l .recordOf v in
       let ss = l .slots (l .kind) v in
       let again : slotsIn (l .fields) bytes ≡ ss = rw (sym (l .shape (l .kind) v), sym (l .writes v)) (values-again ss held) in
       let is = l .same (getD bytes 0 0) (l .kind) (l .valueIn bytes) v (sym (l .reads bytes) ∙ again) in
@@ -37,12 +37,12 @@ module _ {Value : Type 0} (l : Layout Value) where
         let is = given-only (l .kind) (size (l .fields)) bytes (l .valueIn bytes) v reads in
         l .reads bytes ∙ rw (is .1 .0, is .1 .1)
 
-    record-again : l .bytesOf v ≡ oneNan (l .fields) bytes
+    record-again : l .recordOf v ≡ oneNan (l .fields) bytes
     record-again =
         let is = given-only (l .kind) (size (l .fields)) bytes (l .valueIn bytes) v reads in
         sym (l .writes v) ∙ ap written (sym slots-are) ∙ bytes-again (l .fields) bytes small (is .0)
 
-    same-record : Every NoNan (l .slots (l .kind) v) → l .bytesOf v ≡ bytes
+    same-record : Every NoNan (l .slots (l .kind) v) → l .recordOf v ≡ bytes
     same-record free = record-again ∙ bytes-stay (l .fields) bytes (subst (Every NoNan) (sym slots-are) free)
 
 -- ---- kind 1

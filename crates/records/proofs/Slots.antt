@@ -9,8 +9,9 @@ use native.Mathlib.Omega.{arith}
 use lib.Dec.{T}
 use lib.ListN.{length, take, drop, getD, length-append, length-drop, take-append-drop}
 use lib.Seq.{take-at, drop-at, drop-length, length-take-le, getD-drop, sets, sets-eq}
-use lib.Ieee.{Float, nan, inf, fin, binary64, fits, isNan, ofBits, toBits}
+use lib.Ieee.{Float, binary64, fits, isNan, ofBits, toBits}
 use lib.Ieee.Bits.{ofBits-toBits, toBits-lt, toBits-ofBits}
+use Rattle.numbers.proofs.Nans.{is-nan, pattern-of-nan}
 use Rattle.records.specs.Bytes.{valueOf, bytesOf, wholeBytes, floatBytes}
 use Rattle.records.specs.OneNan.{AreBytes, Field, sizeOf, oneNanIn, oneNan}
 use Rattle.records.specs.OneNan.{byte as byte-field, whole as whole-field, float as float-field}
@@ -75,17 +76,7 @@ one-byte [] h = absurd (omega arith)
 one-byte (b ∷ []) h = refl
 one-byte (b ∷ c ∷ bytes) h = absurd (omega arith)
 
-is-nan : (x : Float) → isNan x ≡ true → x ≡ nan
-unfolding isNan
-is-nan nan h = refl
-is-nan (inf s) h = cc
-is-nan (fin s m e) h = cc
-
-pattern-of-nan : toBits binary64 nan ≡ 0x7ff8_0000_0000_0000
-unfolding toBits
-pattern-of-nan = refl
-
--- the pattern n is written as itself or as the one NaN's
+-- a float's bytes, read and written again, are the same, or the one NaN's
 float-again : (bytes : List ℕ) → AreBytes bytes → length bytes ≡ 8
     → bytesOf 8 (toBits binary64 (ofBits binary64 (valueOf bytes))) ≡ oneNanIn float-field bytes
 unfolding oneNanIn

@@ -2,11 +2,8 @@
 use mathlib.Core.Path.{_≡_, sym, ap, _∙_}
 use mathlib.Core.List.{List}
 use Prim.Native.Nat.{ℕ}
-use borrow.Fn.Kinds.{Out, PK, RK, Dens, resT, endedOf}
-use contract.Lifetimes.{Lfts}
-use denote.Triple.Clauses.{Lasts, atExit}
-use Rattle.numbers.proofs.Tight.{Determined}
-use Rattle.refusals.specs.declared.Refusal.{Refusal}
+use Rattle.numbers.proofs.Determined.{Determined, Settled}
+use Rattle.refusals.proofs.OneToOne.{same-refusal}
 use Rattle.records.specs.declared.TermsRead.{TermsRead}
 use Rattle.records.specs.declared.TermsRead.the-variants as terms-is
 use Rattle.records.specs.declared.RowRead.{RowRead}
@@ -23,19 +20,14 @@ use Rattle.records.proofs.row_record.write_row.Reads as write-row
 
 -- ---- an answer's number, place and values tell the answer
 
-same-refusal : (a b : Refusal) → a .number ≡ b .number → a .place ≡ b .place → a ≡ b
-same-refusal a b n p =
-    let fields : _≡_ {A = Refusal} (record { number = a .number; place = a .place }) (record { number = b .number; place = b .place }) = cc in
-    fields
-
 pub terms-told : (a b : TermsRead) → termsOutcome a ≡ termsOutcome b → a ≡ b
-terms-told (terms-is.Refused a) (terms-is.Refused b) e = ap terms-is.Refused (same-refusal a b (cc) (cc))
+terms-told (terms-is.Refused a) (terms-is.Refused b) e = ap terms-is.Refused (same-refusal a b e)
 terms-told (terms-is.Given t) (terms-is.Given u) e = cc
 terms-told (terms-is.Refused a) (terms-is.Given u) e = cc
 terms-told (terms-is.Given t) (terms-is.Refused b) e = cc
 
 pub row-told : (a b : RowRead) → rowOutcome a ≡ rowOutcome b → a ≡ b
-row-told (row-is.Refused a) (row-is.Refused b) e = ap row-is.Refused (same-refusal a b (cc) (cc))
+row-told (row-is.Refused a) (row-is.Refused b) e = ap row-is.Refused (same-refusal a b e)
 row-told (row-is.Given r) (row-is.Given q) e = cc
 row-told (row-is.Refused a) (row-is.Given q) e = cc
 row-told (row-is.Given r) (row-is.Refused b) e = cc
@@ -47,12 +39,6 @@ pub read-row-determined : Determined 1 read-row-kinds.ps read-row-kinds.r read-r
 read-row-determined κs a x y e e′ p q = row-told x y (p ∙ sym q)
 
 -- ---- what is left in lent memory
-
--- of the arguments a, what a contract ensures leaves one last value to each lent place
-abbrev pub Settled : (n : ℕ) (ps : List (PK n)) (r : RK n) → Out n ps r → Type 0
-Settled n ps r promise =
-    (κs : Lfts n) (a : Dens κs ps) (x y : resT r κs .Denot) (w w′ : Lasts (endedOf n ps r) κs a)
-    → promise κs a x (atExit (endedOf n ps r) κs a w) → promise κs a y (atExit (endedOf n ps r) κs a w′) → w ≡ w′
 
 pub write-terms-settled : Settled 1 write-terms-kinds.ps write-terms-kinds.r write-terms.Post
 write-terms-settled κs a x y w w′ p q = ap (λ (l : List ℕ). (tt, (l, tt))) (p ∙ sym q)

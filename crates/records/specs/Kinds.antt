@@ -1,7 +1,6 @@
 -- The records of document 01: "Little-endian, one byte of kind, then a fixed body." Definitions only. Assumes nothing.
 use Prim.Native.Nat.{ℕ}
 use mathlib.Core.List.{List, [], _∷_, _++_}
-use lib.Ieee.{Float}
 use Rattle.refusals.specs.Outcome.{Outcome, refused, accepted, line, judged}
 use Rattle.refusals.specs.Table.{badRecord}
 use Rattle.records.specs.declared.Terms.{Terms}

@@ -29,12 +29,10 @@ rowFields = byte ∷ whole ∷ float ∷ float ∷ float ∷ float ∷ []
 
 -- a float's bytes that stand for a NaN give way to the one NaN's, and all others stay
 unfoldable pub oneNanIn : Field → List ℕ → List ℕ
-unfolding valueOf bytesOf
 oneNanIn float bytes = cond (isNan (ofBits binary64 (valueOf bytes))) (bytesOf 8 0x7ff8_0000_0000_0000) bytes
 oneNanIn byte bytes = bytes
 oneNanIn whole bytes = bytes
 
 unfoldable pub oneNan : List Field → List ℕ → List ℕ
-unfolding oneNanIn
 oneNan [] bytes = bytes
 oneNan (f ∷ fs) bytes = oneNanIn f (take (sizeOf f) bytes) ++ oneNan fs (drop (sizeOf f) bytes)

@@ -5,6 +5,7 @@ ghost use lib.ListN.{length};
 ghost use lib.Seq.{sets};
 ghost use Rattle.records.specs.Bytes.{valueOf, bytesOf, field, wholeAt, floatAt, wholeBytes, floatBytes};
 
+// The value of two bytes.
 fn pair_at(bytes: &[u8], at: usize) -> u16
     requires { ⌜ at + 2 ≤ length (now bytes) ⌝ }
     ensures { λ r. ⌜ r ≡ valueOf (field at 2 (now (bytes .entry))) ⌝ }
@@ -14,6 +15,7 @@ fn pair_at(bytes: &[u8], at: usize) -> u16
     low as u16 + 0x100 * (high as u16)
 }
 
+// A u32.
 pub(crate) fn whole_at(bytes: &[u8], at: usize) -> u32
     requires { ⌜ at + 4 ≤ length (now bytes) ⌝ }
     ensures { λ r. ⌜ r ≡ wholeAt at (now (bytes .entry)) ⌝ }
@@ -23,6 +25,7 @@ pub(crate) fn whole_at(bytes: &[u8], at: usize) -> u32
     low as u32 + 0x1_0000 * (high as u32)
 }
 
+// A float's pattern, as a number.
 fn pattern_at(bytes: &[u8], at: usize) -> u64
     requires { ⌜ at + 8 ≤ length (now bytes) ⌝ }
     ensures { λ r. ⌜ r ≡ valueOf (field at 8 (now (bytes .entry))) ⌝ }
@@ -32,6 +35,7 @@ fn pattern_at(bytes: &[u8], at: usize) -> u64
     low as u64 + 0x1_0000_0000 * (high as u64)
 }
 
+// An f64.
 pub(crate) fn float_at(bytes: &[u8], at: usize) -> f64
     requires { ⌜ at + 8 ≤ length (now bytes) ⌝ }
     ensures { λ r. ⌜ r ≡ floatAt at (now (bytes .entry)) ⌝ }
@@ -39,6 +43,7 @@ pub(crate) fn float_at(bytes: &[u8], at: usize) -> f64
     numbers::patterns::float_of(pattern_at(bytes, at))
 }
 
+// Two bytes of a number.
 fn put_pair(out: &mut [u8], at: usize, n: u16)
     requires { ⌜ at + 2 ≤ length (now out) ⌝ }
     ensures { λ _. ⌜ now (out .exit) ≡ sets (now (out .entry)) at (bytesOf 2 n) ⌝ }
@@ -49,6 +54,7 @@ fn put_pair(out: &mut [u8], at: usize, n: u16)
     out[at + 1] = high;
 }
 
+// A u32 in its four places: no other place changes.
 pub(crate) fn put_whole(out: &mut [u8], at: usize, n: u32)
     requires { ⌜ at + 4 ≤ length (now out) ⌝ }
     ensures { λ _. ⌜ now (out .exit) ≡ sets (now (out .entry)) at (wholeBytes n) ⌝ }
@@ -59,6 +65,7 @@ pub(crate) fn put_whole(out: &mut [u8], at: usize, n: u32)
     put_pair(out, at + 2, high);
 }
 
+// A float's pattern.
 fn put_pattern(out: &mut [u8], at: usize, n: u64)
     requires { ⌜ at + 8 ≤ length (now out) ⌝ }
     ensures { λ _. ⌜ now (out .exit) ≡ sets (now (out .entry)) at (bytesOf 8 n) ⌝ }
@@ -69,6 +76,7 @@ fn put_pattern(out: &mut [u8], at: usize, n: u64)
     put_whole(out, at + 4, high);
 }
 
+// An f64 in its eight places: no other place changes.
 pub(crate) fn put_float(out: &mut [u8], at: usize, x: f64)
     requires { ⌜ at + 8 ≤ length (now out) ⌝ }
     ensures { λ _. ⌜ now (out .exit) ≡ sets (now (out .entry)) at (floatBytes x) ⌝ }

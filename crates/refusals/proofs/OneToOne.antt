@@ -8,7 +8,7 @@ use Rattle.refusals.specs.declared.Number.{Number}
 use Rattle.refusals.specs.declared.Number.the-variants as number-is
 use Rattle.refusals.specs.declared.Count.{Count}
 use Rattle.refusals.specs.declared.Count.the-variants as count-is
-use Rattle.refusals.specs.Outcome.{Outcome, refused, accepted}
+use Rattle.refusals.specs.Outcome.{Outcome, refused}
 use Rattle.refusals.specs.Answers.{verdictOutcome, numberOutcome, countOutcome}
 
 pub same-parts : (r s : Refusal) → r .number ≡ s .number → r .place ≡ s .place → r ≡ s

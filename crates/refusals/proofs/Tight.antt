@@ -1,6 +1,6 @@
 -- How tight the promises are: whatever a public function is given, any two results that its contract allows are equal. Assumes nothing.
 use mathlib.Core.Path.{sym, _∙_}
-use Rattle.numbers.proofs.Tight.{Determined}
+use Rattle.numbers.proofs.Determined.{Determined}
 use Rattle.refusals.proofs.OneToOne.{same-parts}
 use Rattle.refusals.proofs.refuse.Kinds as refuse-kinds
 use Rattle.refusals.proofs.refuse.Reads as refuse

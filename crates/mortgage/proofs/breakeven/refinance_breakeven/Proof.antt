@@ -1,11 +1,10 @@
 -- `mortgage::breakeven::refinance_breakeven` meets its contract: its tests are the causes of lines 1, 2, 9 and 13, in that order, the old loan's before the new one's. Assumes nothing.
-use mathlib.Core.Path.{_≡_, sym, ap, _∙_}
-use mathlib.Core.Bool.{true, false}
-use lib.Ieee.{binary64, sub, div, le}
+use mathlib.Core.Path.{_≡_, sym, _∙_}
+use mathlib.Core.Bool.{false}
+use lib.Ieee.{binary64, sub}
 use borrow.Author.Needs.{needs}
-use Rattle.numbers.specs.Clamps.{plusZero}
 use Rattle.refusals.specs.Outcome.{firstOr, judged}
-use Rattle.refusals.specs.Table.{badAmount, badTerm, badNumber}
+use Rattle.refusals.specs.Table.{badAmount, badTerm}
 use Rattle.mortgage.specs.BreakEven.{saving, breakEvenMonth, refinanceBreakeven}
 use Rattle.mortgage.proofs.BreakEvens.{last-answer, saves-nothing, too-late, in-time}
 use Rattle.mortgage.proofs.breakeven.refinance_breakeven.Statement.{statement}

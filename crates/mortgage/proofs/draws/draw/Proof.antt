@@ -47,7 +47,7 @@ returns-4 c =
     let e = c .before .before .before .before .before .before in
     let b = e .before .before in
     let a = b .before .before .args in
-    refused-draw (a .loan) (now (a .room)) 3 _ (c .refuse3 .ensures) (drawn-short (a .loan) (now (a .room)) (sym (b .bad-term .ensures) ∙ e .before .if1 .left) (omega arith) (c .before .if4 .taken))
+    refused-draw (a .loan) (now (a .room)) 3 _ (c .refuse3 .ensures) (drawn-short (a .loan) (now (a .room)) (sym (b .bad-term .ensures) ∙ e .before .if1 .left) (omega arith) (omega (arith, c .before .if4 .taken)))
 
 fewer-requires : tie.Need-fewer-requires
 fewer-requires c κs = search needs

@@ -1,5 +1,5 @@
 -- `mortgage::rows::any_month` meets its contract: the test says whether the month is the last, and each arm has its steps. Assumes nothing.
-use mathlib.Core.Path.{_≡_, sym, ap, _∙_}
+use mathlib.Core.Path.{sym, ap, _∙_}
 use lib.Ieee.{Float}
 use Rattle.numbers.specs.Clamps.{lowered}
 use native.Mathlib.Omega.{arith}

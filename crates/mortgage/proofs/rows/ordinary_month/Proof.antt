@@ -1,5 +1,5 @@
 -- `mortgage::rows::ordinary_month` meets its contract: neither bound changes the principal, and what it leaves is above 0. Assumes nothing.
-use mathlib.Core.Path.{_≡_, sym, _∙_}
+use mathlib.Core.Path.{_∙_}
 use native.Mathlib.Omega.{arith}
 use Rattle.mortgage.proofs.RowLaws.{other-month, within, left-as-it-is}
 use borrow.Author.Needs.{needs}

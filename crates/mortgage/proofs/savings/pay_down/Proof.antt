@@ -1,6 +1,6 @@
 -- `mortgage::savings::pay_down` meets its contract: after k months the run that is left starts at the state in hand. Assumes nothing.
 use mathlib.Core.Path.{_≡_, refl, sym, _∙_}
-use Prim.Native.Nat.{ℕ, _-_, _<_}
+use Prim.Native.Nat.{_-_}
 use native.Mathlib.Omega.{arith}
 use lib.Ieee.{Float}
 use Rattle.numbers.specs.Clamps.{plusZero}
@@ -36,23 +36,23 @@ loop-again c =
     let month = c .before .before in
     let turn = month .before .before .before in
     let head = turn .before .loop in (
-      head .inv .0 ∙ goes-on _ _ _ _ _ _ (turn .loop-test .taken) (month .month-down .ensures) (month .before .if1 .taken) (c .if2 .left),
-      counted _ _ (turn .before .before .args .most) _ _ _ (month .month-down .ensures) (head .inv .1),
+      head .inv .0 ∙ goes-on _ _ _ _ _ _ (month .month-down .ensures) (turn .loop-test .taken) (month .before .if1 .taken) (c .if2 .left),
+      counted _ _ _ _ _ (month .month-down .ensures) (head .inv .1),
     )
 
 returns : tie.Need-returns Inv-loop μ-loop
-returns c = sym (c .before .loop .inv .0 ∙ months-up _ _ _ _ _ (c .before .loop .state) (c .loop-test .left))
+returns c = sym (c .before .loop .inv .0 ∙ months-up _ _ _ _ _ (c .loop-test .left))
 
 returns-2 : tie.Need-returns-2 Inv-loop μ-loop
 returns-2 c =
     let head = c .before .before .before .loop in
-    sym (head .inv .0 ∙ paid _ _ _ _ _ (head .state) (c .before .before .loop-test .taken) (c .if1 .left))
+    sym (head .inv .0 ∙ paid _ _ _ _ _ (c .before .before .loop-test .taken) (c .if1 .left))
 
 returns-3 : tie.Need-returns-3 Inv-loop μ-loop
 returns-3 c =
     let month = c .before .before in
     let turn = month .before .before .before in
-    sym (turn .before .loop .inv .0 ∙ pays-off _ _ _ _ _ _ (turn .loop-test .taken) (month .month-down .ensures) (month .before .if1 .taken) (c .if2 .taken))
+    sym (turn .before .loop .inv .0 ∙ pays-off _ _ _ _ _ _ (month .month-down .ensures) (turn .loop-test .taken) (month .before .if1 .taken) (c .if2 .taken))
 
 pub pay-down-spec : {M : Type 1} → statement M
 pay-down-spec =

@@ -1,7 +1,6 @@
 -- `mortgage::totals::total_interest` meets its contract: the verdict on the terms decides which answer it is. Assumes nothing.
 use borrow.Author.Needs.{needs}
 use Rattle.refusals.proofs.Verdicts.{refused-by, accepted-by}
-use Rattle.mortgage.specs.Terms.{termsLines}
 use Rattle.mortgage.specs.Totals.{totalInterest}
 use Rattle.mortgage.proofs.totals.total_interest.Statement.{statement}
 use Rattle.mortgage.proofs.totals.total_interest.Tie as tie

@@ -1,19 +1,14 @@
 -- `numbers::patterns::float_of` meets its contract: the test says which patterns are a NaN's, and 0 / 0 is the NaN. Assumes nothing.
 use mathlib.Core.Path.{_≡_, refl, sym, _∙_, subst}
-use mathlib.Core.Bool.{Bool, true, not}
+use mathlib.Core.Bool.{Bool, not}
 use lib.Dec.{T}
-use lib.Ieee.{Float, nan, inf, fin, binary64, isNan, div, ofBits}
+use lib.Ieee.{nan, binary64, div, ofBits}
 use lib.Ieee.Bits.{nanBits-is, nanBits-above}
 use borrow.Author.Needs.{needs}
 use borrow.Author.Tests.{lt-ltb, le-ltb}
+use Rattle.numbers.proofs.Nans.{is-nan}
 use Rattle.numbers.proofs.patterns.float_of.Statement.{statement}
 use Rattle.numbers.proofs.patterns.float_of.Tie as tie
-
-is-nan : (x : Float) → isNan x ≡ true → nan ≡ x
-unfolding isNan
-is-nan nan h = refl
-is-nan (inf s) h = cc
-is-nan (fin s m e) h = cc
 
 zero-by-zero : div binary64 (ofBits binary64 0) (ofBits binary64 0) ≡ nan
 unfolding div ofBits
@@ -26,7 +21,7 @@ float-from-bits-result c =
 returns : tie.Need-returns
 returns c =
     let n = c .before .args .pattern in
-    zero-by-zero ∙ is-nan (ofBits binary64 n) (sym (nanBits-is binary64 n) ∙ nanBits-above binary64 n ∙ lt-ltb _ _ (c .if1 .taken))
+    zero-by-zero ∙ sym (is-nan (ofBits binary64 n) (sym (nanBits-is binary64 n) ∙ nanBits-above binary64 n ∙ lt-ltb _ _ (c .if1 .taken)))
 
 returns-2 : tie.Need-returns-2
 returns-2 c = search needs

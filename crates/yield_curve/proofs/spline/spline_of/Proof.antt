@@ -1,8 +1,8 @@
 -- `yield_curve::spline::spline_of` meets its contract: a straight line through fewer than three knots; else flat outside, and the cubic of the segment that serves t. Assumes nothing.
-use mathlib.Core.Path.{sym, ap, _∙_}
+use mathlib.Core.Path.{ap, _∙_}
 use Prim.Native.Nat.{ℕ}
 use native.Mathlib.Omega.{arith}
-use lib.Ieee.{Float, binary64, sub}
+use lib.Ieee.{binary64, sub}
 use borrow.Author.Tests.{lt-ltb, le-ltb}
 use Rattle.yield_curve.specs.Segments.{knot}
 use Rattle.yield_curve.specs.Spline.{cubic, splineOf}
