@@ -1,5 +1,5 @@
 -- What a desk may lean on: outside its knots a curve is flat, straight or spline, and at time 0 a Nelson-Siegel yield and forward are the instantaneous forward. Assumes nothing.
-use mathlib.Core.Path.{_≡_, refl, sym, _∙_}
+use mathlib.Core.Path.{_≡_, refl, sym}
 use mathlib.Core.Bool.{Bool, true, false, cond}
 use mathlib.Core.List.{List, [], _∷_}
 use lib.Dec.{ltb}

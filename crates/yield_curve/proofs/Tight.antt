@@ -1,7 +1,7 @@
 -- How tight the promises are: whatever a public function is given, any two results that its contract allows are equal. Assumes nothing.
 use mathlib.Core.Path.{_≡_, sym, ap, _∙_}
 use lib.Ieee.{Float}
-use Rattle.numbers.proofs.Tight.{Determined}
+use Rattle.numbers.proofs.Determined.{Determined}
 use Rattle.refusals.proofs.OneToOne.{same-refusal, verdict-one-to-one, number-one-to-one}
 use Rattle.yield_curve.specs.declared.segments.Ends.{Ends}
 use Rattle.yield_curve.specs.declared.fitting.FitAnswer.{FitAnswer}
