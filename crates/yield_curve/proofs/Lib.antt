@@ -10,3 +10,6 @@ pub mod Pivots
 pub mod Points
 pub mod Filling
 pub mod Splines
+pub mod Outside
+pub mod Exactly
+pub mod Tight

@@ -21,24 +21,14 @@ module _ (times rates : List Float) where
     unfolding pivot guarded long
     pivot-is = is-p ∙ rw (is-h, is-far, is-near, add-one i)
 
-    pub mu-read : (g : Float) → g ≡ sub binary64 (knot times (suc (i + 1))) (knot times (i + 1))
-        → div binary64 g p ≡ div binary64 (long times rates (suc i)) (pivot times rates m i)
-    unfolding long
-    mu-read g is-g = rw (pivot-is, is-g, add-one i)
+    pub mu-next : m ≡ mu times rates i → (g : Float) → g ≡ sub binary64 (knot times (suc (i + 1))) (knot times (i + 1)) → div binary64 g p ≡ mu times rates (suc i)
+    unfolding mu long
+    mu-next is-m g is-g = rw (pivot-is, is-g, is-m, add-one i)
 
-    pub z-read : (a y : Float) → a ≡ bend times rates i
-        → div binary64 (sub binary64 a (mul binary64 h y)) p ≡ div binary64 (sub binary64 (bend times rates i) (mul binary64 (long times rates i) y)) (pivot times rates m i)
-    unfolding long
-    z-read a y is-a = rw (pivot-is, is-a, is-h)
-
-  pub mu-next : (i : ℕ) (m r : Float) → m ≡ mu times rates i → r ≡ div binary64 (long times rates (suc i)) (pivot times rates m i) → r ≡ mu times rates (i + 1)
-  unfolding mu
-  mu-next i m r is-m e = e ∙ rw (add-one i, is-m)
-
-  pub z-next : (i : ℕ) (m y r : Float) → m ≡ mu times rates i → y ≡ z times rates i
-      → r ≡ div binary64 (sub binary64 (bend times rates i) (mul binary64 (long times rates i) y)) (pivot times rates m i) → r ≡ z times rates (i + 1)
-  unfolding z
-  z-next i m y r is-m is-y e = e ∙ rw (add-one i, is-m, is-y)
+    pub z-next : m ≡ mu times rates i → (y : Float) → y ≡ z times rates i → (a : Float) → a ≡ bend times rates i
+        → div binary64 (sub binary64 a (mul binary64 h y)) p ≡ z times rates (suc i)
+    unfolding z long
+    z-next is-m y is-y a is-a = rw (pivot-is, is-a, is-h, is-m, is-y)
 
   -- ---- down: c of a knot from that of the one after it
   c-of : (n k : ℕ) → n ≡ length times → suc k < n → cAt times rates k

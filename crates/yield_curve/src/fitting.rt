@@ -44,24 +44,15 @@ fn with_point(e: Equation, g: f64, l: Loadings, rate: f64) -> Equation
 fn least_squares(times: &[f64], rates: &[f64]) -> System
     ensures { λ r. ⌜ r ≡ leastSquares (now (times .entry)) (now (rates .entry)) ⌝ }
 {
-    let mut first = Equation {
+    let none = Equation {
         x: 0.0,
         y: 0.0,
         z: 0.0,
         is: 0.0,
     };
-    let mut second = Equation {
-        x: 0.0,
-        y: 0.0,
-        z: 0.0,
-        is: 0.0,
-    };
-    let mut third = Equation {
-        x: 0.0,
-        y: 0.0,
-        z: 0.0,
-        is: 0.0,
-    };
+    let mut first = none;
+    let mut second = none;
+    let mut third = none;
     let mut i: usize = 0;
     while i < times.len() {
         let rate = knot_at(rates, i);

@@ -3,11 +3,11 @@ ghost use mathlib.Core.Path.{_≡_};
 ghost use mathlib.Core.Bool.{cond};
 ghost use Prim.Native.Nat.{ℕ, suc, _<_, _≤_};
 ghost use lib.ListN.{length, getD};
-ghost use lib.Ieee.{nan, binary64, sub, mul, div, lt};
+ghost use lib.Ieee.{nan, binary64, sub, lt};
 ghost use Rattle.numbers.specs.Sizes.{absolute};
 ghost use Rattle.refusals.specs.Answers.{numberOutcome};
 ghost use Rattle.yield_curve.specs.Segments.{knot};
-ghost use Rattle.yield_curve.specs.Spline.{guard, long, slope, bend, pivot, mu, z, cAt, cubic, splineOf, cubicSplineInterpolate};
+ghost use Rattle.yield_curve.specs.Spline.{guard, slope, bend, mu, z, cAt, cubic, splineOf, cubicSplineInterpolate};
 use crate::curve::bad_time;
 use crate::curve::judge_asked;
 use crate::linear::yield_of;
@@ -68,8 +68,8 @@ fn guarded(x: f64) -> f64
 
 // mu and z of the knot after i, by those of i.
 fn next_forward(times: &[f64], rates: &[f64], i: usize, f: Forward) -> Forward
-    requires { ⌜ i < 120 ⌝ }
-    ensures { λ r. ⌜ (r .mu ≡ div binary64 (long (now (times .entry)) (now (rates .entry)) (suc i)) (pivot (now (times .entry)) (now (rates .entry)) (f .mu) i)) × (r .z ≡ div binary64 (sub binary64 (bend (now (times .entry)) (now (rates .entry)) i) (mul binary64 (long (now (times .entry)) (now (rates .entry)) i) (f .z))) (pivot (now (times .entry)) (now (rates .entry)) (f .mu) i)) ⌝ }
+    requires { ⌜ (i < 120) × (f .mu ≡ mu (now times) (now rates) i) × (f .z ≡ z (now times) (now rates) i) ⌝ }
+    ensures { λ r. ⌜ (r .mu ≡ mu (now (times .entry)) (now (rates .entry)) (suc i)) × (r .z ≡ z (now (times .entry)) (now (rates .entry)) (suc i)) ⌝ }
 {
     let h = rise(times, i);
     let p = guarded(2.0 * (knot_after(times, i + 1) - knot_at(times, i)) - h * f.mu);

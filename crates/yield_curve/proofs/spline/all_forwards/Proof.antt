@@ -1,12 +1,12 @@
 -- `yield_curve::spline::all_forwards` meets its contract: each place up to the knot in hand holds its mu and its z. Assumes nothing.
-use mathlib.Core.Path.{_≡_, refl}
+use mathlib.Core.Path.{_≡_, refl, sym, ap, _∙_}
 use Prim.Native.Nat.{ℕ, suc, _+_, _-_, _<_, _≤_}
+use native.Mathlib.Numerals.{add-one}
 use native.Mathlib.Omega.{arith}
 use lib.ListN.{length, length-set, replicate}
 use Rattle.numbers.specs.Clamps.{plusZero}
 use Rattle.yield_curve.specs.Spline.{mu, z}
 use Rattle.yield_curve.proofs.Filling.{Holds, one-place, placed}
-use Rattle.yield_curve.proofs.Splines.{mu-next, z-next}
 use Rattle.yield_curve.proofs.spline.all_forwards.Statement.{statement}
 use Rattle.yield_curve.proofs.spline.all_forwards.Tie as tie
 
@@ -26,7 +26,7 @@ add-loop : tie.Need-add-loop Inv-loop μ-loop
 add-loop c = omega arith
 
 next-forward-requires : tie.Need-next-forward-requires Inv-loop μ-loop
-next-forward-requires c κs = omega arith
+next-forward-requires c κs = let head = c .before .loop in (omega arith, head .inv .1, head .inv .2)
 
 add-i : tie.Need-add-i Inv-loop μ-loop
 add-i c = omega arith
@@ -50,9 +50,9 @@ loop-again : tie.Need-loop-again Inv-loop μ-loop
 loop-again c =
     let head = c .before .before .loop in
     let a = c .before .before .before .before .before .args in
-    let next = c .next-forward .ensures in
-    let m = mu-next (a .times .now) (a .rates .now) (head .i) _ _ (head .inv .1) (next .0) in
-    let y = z-next (a .times .now) (a .rates .now) (head .i) _ _ _ (head .inv .1) (head .inv .2) (next .1) in (
+    let more = sym (add-one (head .i)) in
+    let m = c .next-forward .ensures .0 ∙ ap (mu (a .times .now) (a .rates .now)) more in
+    let y = c .next-forward .ensures .1 ∙ ap (z (a .times .now) (a .rates .now)) more in (
       omega arith,
       m,
       y,

@@ -1,5 +1,5 @@
 -- `yield_curve::spline::next_forward` meets its contract. Assumes nothing.
-use Rattle.yield_curve.proofs.Splines.{mu-read, z-read}
+use Rattle.yield_curve.proofs.Splines.{mu-next, z-next}
 use borrow.Author.Needs.{needs}
 use Rattle.yield_curve.proofs.spline.next_forward.Statement.{statement}
 use Rattle.yield_curve.proofs.spline.next_forward.Tie as tie
@@ -35,10 +35,10 @@ returns c =
     let near = p .before .before in
     let far = near .before in
     let h = far .before in
-    let a = h .before .before .before .args in
-    let f = a .f in (
-      mu-read (a .times .now) (a .rates .now) (a .i) _ _ _ (h .rise .ensures) (far .knot-after .ensures) (near .knot-at .ensures) (f .mu) _ (p .guarded .ensures) _ (after .rise2 .ensures),
-      z-read (a .times .now) (a .rates .now) (a .i) _ _ _ (h .rise .ensures) (far .knot-after .ensures) (near .knot-at .ensures) (f .mu) _ (p .guarded .ensures) _ (f .z) (c .before .bend .ensures),
+    let start = h .before .before .before in
+    let a = start .args in (
+      mu-next (a .times .now) (a .rates .now) (a .i) _ _ _ (h .rise .ensures) (far .knot-after .ensures) (near .knot-at .ensures) _ _ (p .guarded .ensures) (start .pre .1) _ (after .rise2 .ensures),
+      z-next (a .times .now) (a .rates .now) (a .i) _ _ _ (h .rise .ensures) (far .knot-after .ensures) (near .knot-at .ensures) _ _ (p .guarded .ensures) (start .pre .1) _ (start .pre .2) _ (c .before .bend .ensures),
     )
 
 pub next-forward-spec : {M : Type 1} → statement M

@@ -9,6 +9,12 @@ use Rattle.yield_curve.specs.Spline.{cubic, splineOf}
 use Rattle.yield_curve.proofs.Choices.{taken, left}
 use Rattle.yield_curve.proofs.Flat.{before-first, past-last, inside}
 use Rattle.yield_curve.proofs.Splines.{no-segment}
+use borrow.Author.Tests.{lt-ltb, le-ltb}
+use Rattle.yield_curve.specs.Segments.{knot}
+use Rattle.yield_curve.specs.Spline.{cubic, splineOf}
+use Rattle.yield_curve.proofs.Choices.{taken, left}
+use Rattle.yield_curve.proofs.Flat.{before-first, past-last, inside}
+use Rattle.yield_curve.proofs.Splines.{no-segment}
 use borrow.Author.Needs.{needs}
 use Rattle.yield_curve.proofs.spline.spline_of.Statement.{statement}
 use Rattle.yield_curve.proofs.spline.spline_of.Tie as tie
