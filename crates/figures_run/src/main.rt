@@ -45,17 +45,14 @@ fn draw(term: u32, room: &mut [f64]) {
     }
 }
 
-// Knots a year apart, each at the rate 0.5.
-fn set_knots(times: &mut [f64], rates: &mut [f64]) {
-    let mut i: u32 = 0;
+// Times a year apart, from 0.
+fn set_years(times: &mut [f64]) {
+    let mut year: u32 = 0;
     let mut k: usize = 0;
     while k < times.len() {
-        times[k] = i as f64;
-        if k < rates.len() {
-            rates[k] = 0.5;
-        }
-        if i < 1000 {
-            i += 1;
+        times[k] = year as f64;
+        if year < 1000 {
+            year += 1;
         }
         k += 1;
     }
@@ -86,12 +83,10 @@ fn main() {
     draw(1201, &mut whole);
     draw(3, &mut four);
     draw(3, &mut five);
-    let mut times = [0.0; 120];
-    let mut rates = [0.0; 120];
-    set_knots(&mut times, &mut rates);
-    ask(&times, &rates);
-    let mut more_times = [0.0; 121];
-    let mut more_rates = [0.0; 121];
-    set_knots(&mut more_times, &mut more_rates);
-    ask(&more_times, &more_rates);
+    let mut years = [0.0; 120];
+    set_years(&mut years);
+    ask(&years, &[0.5; 120]);
+    let mut more_years = [0.0; 121];
+    set_years(&mut more_years);
+    ask(&more_years, &[0.5; 121]);
 }
