@@ -1,4 +1,5 @@
 pub mod DayCounts
+pub mod Codes
 pub mod Discount
 pub mod Bootstrap
 pub mod Swap

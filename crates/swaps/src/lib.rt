@@ -1,5 +1,9 @@
 // Swaps: day counts, the discount curve and its bootstrap, legs and values.
 pub mod day_counts;
+pub mod discount;
+mod judging;
+pub mod legs;
+mod periods;
 pub mod valuation;
 
 // A fixed-for-floating swap.

@@ -1,0 +1,2 @@
+pub mod LaterLines
+pub mod PaymentSums
