@@ -1,3 +1,10 @@
+pub mod Choices
+pub mod Adding
 pub mod Serving
+pub mod Flat
 pub mod KnotLine
 pub mod CurveLines
+pub mod Forwards
+pub mod Pars
+pub mod Pivots
+pub mod Points
