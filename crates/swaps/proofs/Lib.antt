@@ -1,2 +1,3 @@
 pub mod LaterLines
 pub mod PaymentSums
+pub mod Bumps

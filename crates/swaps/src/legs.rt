@@ -33,7 +33,6 @@ fn payment_sums(swap: Swap, tenors: &[f64], zeros: &[f64]) -> PaymentSums
     let dt = period(swap);
     let part = fraction(swap);
     let payment = fixed_payment(swap);
-    let notional = swap.notional;
     let mut fixed = 0.0;
     let mut floating = 0.0;
     let mut annuity = 0.0;
@@ -46,7 +45,7 @@ fn payment_sums(swap: Swap, tenors: &[f64], zeros: &[f64]) -> PaymentSums
         let factor = discount_of(tenors, zeros, date);
         let forward = (before / factor - 1.0) / part;
         fixed = fixed + payment * factor;
-        floating = floating + notional * forward * part * factor;
+        floating = floating + swap.notional * forward * part * factor;
         annuity = annuity + factor * part;
         timed = timed + date * payment * factor;
         before = factor;

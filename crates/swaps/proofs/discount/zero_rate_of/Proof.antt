@@ -1,7 +1,8 @@
--- `swaps::discount::zero_rate_of` meets its contract: the tests are those of "flat outside", and the segment between is the one that ends at the time. Assumes nothing.
-use mathlib.Core.Path.{sym, _∙_}
-use Rattle.yield_curve.specs.Segments.{flatOutside}
-use Rattle.swaps.specs.Discount.{zeroRateOf}
+-- `swaps::discount::zero_rate_of` meets its contract: flat before the first knot and past the last, and between them by the segment that ends at or after the time. Assumes nothing.
+use mathlib.Core.Path.{ap, _∙_}
+use Rattle.yield_curve.specs.Segments.{Ends, endsOf}
+use Rattle.yield_curve.proofs.Flat.{before-first, past-last, inside, ends-are}
+use Rattle.swaps.specs.Discount.{alongZeros, zeroRateOf}
 use borrow.Author.Needs.{needs}
 use Rattle.swaps.proofs.discount.zero_rate_of.Statement.{statement}
 use Rattle.swaps.proofs.discount.zero_rate_of.Tie as tie
@@ -13,10 +14,11 @@ knot-at-requires-2 : tie.Need-knot-at-requires-2
 knot-at-requires-2 c κs = search needs
 
 returns : tie.Need-returns
-unfolding zeroRateOf flatOutside
+unfolding zeroRateOf
 returns c =
-    let e = c .before in
-    c .knot-at2 .ensures ∙ rw (sym (e .before .knot-at .ensures), e .if1 .taken)
+    let read = c .before .before in
+    let a = read .before .before .before .args in
+    before-first (a .tenors .now) (a .zeros .now) (a .t) _ _ (read .knot-at .ensures) _ (c .knot-at2 .ensures) (c .before .if1 .taken)
 
 last-knot-requires : tie.Need-last-knot-requires
 last-knot-requires c κs = search needs
@@ -25,10 +27,12 @@ last-knot-requires-2 : tie.Need-last-knot-requires-2
 last-knot-requires-2 c κs = search needs
 
 returns-2 : tie.Need-returns-2
-unfolding zeroRateOf flatOutside
+unfolding zeroRateOf
 returns-2 c =
-    let e = c .before .before in
-    c .last-knot2 .ensures ∙ rw (sym (e .before .before .knot-at .ensures), e .before .if1 .left, sym (e .last-knot .ensures), c .before .if2 .taken)
+    let last = c .before .before in
+    let read = last .before .before in
+    let a = read .before .before .before .args in
+    past-last (a .tenors .now) (a .zeros .now) (a .t) _ _ (read .knot-at .ensures) (last .before .if1 .left) _ (last .last-knot .ensures) _ (c .last-knot2 .ensures) (c .before .if2 .taken)
 
 segment-ending-requires : tie.Need-segment-ending-requires
 segment-ending-requires c κs = search needs
@@ -40,12 +44,17 @@ along-zeros-requires : tie.Need-along-zeros-requires
 along-zeros-requires c κs = search needs
 
 returns-3 : tie.Need-returns-3
-unfolding zeroRateOf flatOutside
+unfolding zeroRateOf
 returns-3 c =
-    let s = c .before .before in
-    let e = s .before .before in
-    let g = c .before .ends-of .ensures in
-    c .along-zeros .ensures ∙ simp (g .0, g .1, g .2, g .3, s .segment-ending .ensures, sym (e .before .before .knot-at .ensures), e .before .if1 .left, sym (e .last-knot .ensures), s .before .if2 .left)
+    let ends = c .before in
+    let served = ends .before in
+    let last = served .before .before in
+    let read = last .before .before in
+    let a = read .before .before .before .args in
+    inside (a .tenors .now) (a .zeros .now) (a .t) _ _ (read .knot-at .ensures) (last .before .if1 .left) _ (last .last-knot .ensures) _
+    (c .along-zeros .ensures
+    ∙ ap (λ (e : Ends). alongZeros e (a .t)) (ends-are (a .tenors .now) (a .zeros .now) _ _ _ _ _ (ends .ends-of .ensures) ∙ ap (endsOf (a .tenors .now) (a .zeros .now)) (served .segment-ending .ensures)))
+    (served .before .if2 .left)
 
 pub zero-rate-of-spec : {M : Type 1} → statement M
 zero-rate-of-spec =

@@ -14,7 +14,7 @@ refuse-requires : tie.Need-refuse-requires
 refuse-requires c κs = search needs
 
 returns : tie.Need-returns
-returns c = refused-as 1 _ _ (c .refuse .ensures) (caused 1 _ _ (sym (c .before .before .bad-amount .ensures) ∙ c .before .if1 .taken))
+returns c = refused-as 1 _ _ (c .refuse .ensures) (caused tt 1 _ _ (sym (c .before .before .bad-amount .ensures) ∙ c .before .if1 .taken))
 
 judge-curve-requires : tie.Need-judge-curve-requires
 judge-curve-requires c κs = search needs
@@ -33,7 +33,7 @@ returns-2 c =
     let j = c .before .before .before in
     let e = j .before in
     refused-first _ _ tt _ (j .judge-curve .ensures) _ (c .before .refusal .given .1)
-    ∙ clear 1 _ _ (sym (e .before .bad-amount .ensures) ∙ e .if1 .left)
+    ∙ clear tt 1 _ _ (sym (e .before .bad-amount .ensures) ∙ e .if1 .left)
 
 returns-3 : tie.Need-returns-3
 returns-3 c =
@@ -42,7 +42,7 @@ returns-3 c =
     let e = j .before in
     c .judge-terms .ensures
     ∙ accepted-first _ _ tt _ (j .judge-curve .ensures) (t .enum-told .given .1)
-    ∙ clear 1 _ _ (sym (e .before .bad-amount .ensures) ∙ e .if1 .left)
+    ∙ clear tt 1 _ _ (sym (e .before .bad-amount .ensures) ∙ e .if1 .left)
 
 pub judge-swap-spec : {M : Type 1} → statement M
 judge-swap-spec =

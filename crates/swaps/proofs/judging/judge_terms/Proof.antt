@@ -13,7 +13,7 @@ refuse-requires : tie.Need-refuse-requires
 refuse-requires c κs = search needs
 
 returns : tie.Need-returns
-returns c = refused-as 7 _ _ (c .refuse .ensures) (caused 7 _ _ (sym (c .before .before .bad-tenor .ensures) ∙ c .before .if1 .taken))
+returns c = refused-as 7 _ _ (c .refuse .ensures) (caused tt 7 _ _ (sym (c .before .before .bad-tenor .ensures) ∙ c .before .if1 .taken))
 
 bad-frequency-requires : tie.Need-bad-frequency-requires
 bad-frequency-requires c κs = search needs
@@ -25,8 +25,8 @@ returns-2 : tie.Need-returns-2
 returns-2 c =
     let e = c .before .before .before in
     refused-as 8 _ _ (c .refuse2 .ensures)
-    (caused 8 _ _ (sym (c .before .before .bad-frequency .ensures) ∙ c .before .if2 .taken)
-    ∙ clear 7 _ _ (sym (e .before .bad-tenor .ensures) ∙ e .if1 .left))
+    (caused tt 8 _ _ (sym (c .before .before .bad-frequency .ensures) ∙ c .before .if2 .taken)
+    ∙ clear tt 7 _ _ (sym (e .before .bad-tenor .ensures) ∙ e .if1 .left))
 
 bad-number-requires : tie.Need-bad-number-requires
 bad-number-requires c κs = search needs
@@ -39,17 +39,17 @@ returns-3 c =
     let g = c .before .before .before in
     let e = g .before .before in
     refused-as 9 _ _ (c .refuse3 .ensures)
-    (caused 9 _ _ (sym (c .before .before .bad-number .ensures) ∙ c .before .if3 .taken)
-    ∙ clear 8 _ _ (sym (g .before .bad-frequency .ensures) ∙ g .if2 .left)
-    ∙ clear 7 _ _ (sym (e .before .bad-tenor .ensures) ∙ e .if1 .left))
+    (caused tt 9 _ _ (sym (c .before .before .bad-number .ensures) ∙ c .before .if3 .taken)
+    ∙ clear tt 8 _ _ (sym (g .before .bad-frequency .ensures) ∙ g .if2 .left)
+    ∙ clear tt 7 _ _ (sym (e .before .bad-tenor .ensures) ∙ e .if1 .left))
 
 returns-4 : tie.Need-returns-4
 returns-4 c =
     let g = c .before .before in
     let e = g .before .before in
-    all-clear 9 _ (sym (c .before .bad-number .ensures) ∙ c .if3 .left)
-    ∙ clear 8 _ _ (sym (g .before .bad-frequency .ensures) ∙ g .if2 .left)
-    ∙ clear 7 _ _ (sym (e .before .bad-tenor .ensures) ∙ e .if1 .left)
+    all-clear tt 9 _ (sym (c .before .bad-number .ensures) ∙ c .if3 .left)
+    ∙ clear tt 8 _ _ (sym (g .before .bad-frequency .ensures) ∙ g .if2 .left)
+    ∙ clear tt 7 _ _ (sym (e .before .bad-tenor .ensures) ∙ e .if1 .left)
 
 pub judge-terms-spec : {M : Type 1} → statement M
 judge-terms-spec =

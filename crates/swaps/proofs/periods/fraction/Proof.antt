@@ -1,5 +1,6 @@
 -- `swaps::periods::fraction` meets its contract. Assumes nothing.
-use mathlib.Core.Path.{_∙_}
+use mathlib.Core.Path.{ap, _∙_}
+use Rattle.swaps.specs.DayCounts.{dayFraction}
 use Rattle.swaps.specs.Swap.{fraction}
 use borrow.Author.Needs.{needs}
 use Rattle.swaps.proofs.periods.fraction.Statement.{statement}
@@ -16,7 +17,7 @@ day-count-fraction-requires c κs = search needs
 
 returns : tie.Need-returns
 unfolding fraction
-returns c = ?
+returns c = c .day-count-fraction .ensures ∙ ap (dayFraction (c .before .before .before .args .swap .«day_count»)) (c .before .nearest-whole .ensures ∙ rw (c .before .before .period .ensures))
 
 pub fraction-spec : {M : Type 1} → statement M
 fraction-spec =

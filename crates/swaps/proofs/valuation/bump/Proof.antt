@@ -1,53 +1,55 @@
+-- `swaps::valuation::bump` meets its contract: the rates passed are raised. Assumes nothing.
+use mathlib.Core.Path.{_≡_, refl, _∙_}
+use Prim.Native.Nat.{_≤_, _-_}
+use native.Mathlib.Omega.{arith}
+use lib.ListN.{length, take, length-set}
+use Rattle.swaps.specs.Valuation.{bumped}
+use Rattle.swaps.proofs.Bumps.{one-higher, all-higher}
 use Rattle.swaps.proofs.valuation.bump.Statement.{statement}
 use Rattle.swaps.proofs.valuation.bump.Tie as tie
-use Rattle.swaps.proofs.valuation.bump.Reads as reads
-use Rattle.swaps.proofs.valuation.bump.Lts as lts
 
 abbrev Inv-loop : tie.InvT-loop
-Inv-loop zeros out₀ i₀ out i = ?
+Inv-loop zeros out₀ i₀ out i =
+    (i ≤ length zeros) × (length out ≡ length out₀) × (take i out ≡ bumped (take i zeros))
 
 abbrev μ-loop : tie.MeasureT-loop
-μ-loop zeros out₀ i₀ out i = ?
+μ-loop zeros out₀ i₀ out i =
+    length zeros - i
 
--- src/valuation.rt:71:5
 loop-holds : tie.Need-loop-holds Inv-loop μ-loop
-loop-holds c = ?
+unfolding bumped
+loop-holds c = (omega arith, refl, refl)
 
--- src/valuation.rt:72:18
 mul-out : tie.Need-mul-out Inv-loop μ-loop
-mul-out c = ?
+mul-out c = omega arith
 
--- src/valuation.rt:72:18
 shared-slice-read-out : tie.Need-shared-slice-read-out Inv-loop μ-loop
-shared-slice-read-out c = ?
+shared-slice-read-out c = omega arith
 
--- src/valuation.rt:72:9
 mul-out-2 : tie.Need-mul-out-2 Inv-loop μ-loop
-mul-out-2 c = ?
+mul-out-2 c = omega arith
 
--- src/valuation.rt:72:9
 slice-write-out : tie.Need-slice-write-out Inv-loop μ-loop
-slice-write-out c = ?
+slice-write-out c = omega arith
 
--- src/valuation.rt:73:9
 add-i : tie.Need-add-i Inv-loop μ-loop
-add-i c = ?
+add-i c = omega arith
 
--- src/valuation.rt:71:5
 loop-less : tie.Need-loop-less Inv-loop μ-loop
-loop-less c = ?
+loop-less c = omega arith
 
--- src/valuation.rt:71:5
 loop-again : tie.Need-loop-again Inv-loop μ-loop
-loop-again c = ?
+loop-again c =
+    let turn = c .before in
+    let l = turn .before .loop in
+    let same = turn .before .before .pre in
+    (omega arith, simp length-set (l .inv .1), one-higher _ (l .out) (l .i) (turn .loop-test .taken) (omega arith) (l .inv .2))
 
--- src/valuation.rt:66:1
 same-length : tie.Need-same-length Inv-loop μ-loop
-same-length c = ?
+same-length c = c .before .loop .inv .1
 
--- src/valuation.rt:66:1
 returns : tie.Need-returns Inv-loop μ-loop
-returns c = ?
+returns c = let l = c .before .loop in all-higher _ (l .out) (l .i) (omega arith) (omega arith) (l .inv .2)
 
 pub bump-spec : {M : Type 1} → statement M
 bump-spec =
