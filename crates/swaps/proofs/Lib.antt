@@ -1,3 +1,5 @@
 pub mod LaterLines
 pub mod PaymentSums
 pub mod Bumps
+pub mod Values
+pub mod Fronts

@@ -4,6 +4,7 @@ pub mod discount;
 mod judging;
 pub mod legs;
 mod periods;
+mod rooms;
 pub mod valuation;
 
 // A fixed-for-floating swap.

@@ -79,7 +79,7 @@ fn bumped_net(swap: Swap, tenors: &[f64], zeros: &[f64], receives_fixed: bool) -
     requires { ⌜ length (now zeros) ≤ 120 ⌝ }
     ensures { λ r. ⌜ r ≡ netValue swap (now (tenors .entry)) (bumped (now (zeros .entry))) «receives_fixed» ⌝ }
 {
-    let mut room = [0.0; 120];
+    let mut room = crate::rooms::empty_room();
     let n = zeros.len();
     bump(zeros, &mut room[..n]);
     net(legs_of(swap, tenors, &room[..n]), receives_fixed)

@@ -1,34 +1,34 @@
+-- `swaps::legs::floating_leg_pv` meets its contract: the verdict on the swap and the curve is its answer's. Assumes nothing.
+use mathlib.Core.Path.{ap, _∙_}
+use Rattle.refusals.specs.Outcome.{accepted}
+use Rattle.refusals.proofs.Verdicts.{refused-by, accepted-by}
+use Rattle.swaps.specs.Valuation.{floatingLegPv}
 use borrow.Author.Needs.{needs}
 use Rattle.swaps.proofs.legs.floating_leg_pv.Statement.{statement}
 use Rattle.swaps.proofs.legs.floating_leg_pv.Tie as tie
-use Rattle.swaps.proofs.legs.floating_leg_pv.Reads as reads
-use Rattle.swaps.proofs.legs.floating_leg_pv.Lts as lts
-use Rattle.swaps.proofs.judging.judge_swap.Reads as judge-swap-reads
-use Rattle.swaps.proofs.legs.legs_of.Reads as legs-of-reads
 
--- src/legs.rt:95:11
 judge-swap-requires : tie.Need-judge-swap-requires
 judge-swap-requires c κs = search needs
 
--- src/legs.rt:96:26
 enum-known-refusal : tie.Need-enum-known-refusal
 enum-known-refusal c = search needs
 
--- src/legs.rt:98:17
 enum-told : tie.Need-enum-told
 enum-told c = search needs
 
--- src/legs.rt:98:17
 legs-of-requires : tie.Need-legs-of-requires
 legs-of-requires c κs = search needs
 
--- src/legs.rt:92:1
 returns : tie.Need-returns
-returns c = ?
+unfolding floatingLegPv
+returns c = refused-by _ _ _ _ (c .before .refusal .given .1) (c .before .before .before .judge-swap .ensures)
 
--- src/legs.rt:92:1
 returns-2 : tie.Need-returns-2
-returns-2 c = ?
+unfolding floatingLegPv
+returns-2 c =
+    let told = c .before in
+    ap accepted (c .legs-of .ensures .1)
+    ∙ accepted-by _ _ _ (told .enum-told .given .1) (told .before .before .judge-swap .ensures)
 
 pub floating-leg-pv-spec : {M : Type 1} → statement M
 floating-leg-pv-spec =

@@ -1,22 +1,22 @@
+-- `swaps::legs::legs_of` meets its contract: the notional at the tenor is added to the sums. Assumes nothing.
+use Rattle.swaps.specs.Legs.{lastFactor, fixedLeg, floatingLeg, weighted}
 use borrow.Author.Needs.{needs}
 use Rattle.swaps.proofs.legs.legs_of.Statement.{statement}
 use Rattle.swaps.proofs.legs.legs_of.Tie as tie
-use Rattle.swaps.proofs.legs.legs_of.Reads as reads
-use Rattle.swaps.proofs.legs.legs_of.Lts as lts
-use Rattle.swaps.proofs.discount.discount_of.Reads as discount-of-reads
-use Rattle.swaps.proofs.legs.payment_sums.Reads as payment-sums-reads
 
--- src/legs.rt:69:9
 payment-sums-requires : tie.Need-payment-sums-requires
 payment-sums-requires c κs = search needs
 
--- src/legs.rt:70:9
 discount-of-requires : tie.Need-discount-of-requires
 discount-of-requires c κs = search needs
 
--- src/legs.rt:66:1
 returns : tie.Need-returns
-returns c = ?
+unfolding fixedLeg floatingLeg weighted lastFactor
+returns c =
+    let found = c .before .before .before .before .before .before in
+    let last = found .discount-of .ensures in
+    let sums = found .before .payment-sums .ensures in
+    (rw (sums .0, last), rw (sums .1, last), sums .2, rw (sums .3, last), last)
 
 pub legs-of-spec : {M : Type 1} → statement M
 legs-of-spec = tie.close (tie.spec payment-sums-requires discount-of-requires returns)

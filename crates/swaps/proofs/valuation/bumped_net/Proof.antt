@@ -1,48 +1,58 @@
+-- `swaps::valuation::bumped_net` meets its contract. Assumes nothing.
+use mathlib.Core.Path.{_≡_, sym, ap, _∙_}
+use mathlib.Core.List.{List}
+use Prim.Native.Nat.{_≤_}
+use native.Mathlib.Omega.{arith}
+use lib.ListN.{length}
+use lib.Ieee.{Float}
+use Rattle.swaps.specs.Legs.{netValue}
+use Rattle.swaps.proofs.Values.{net-is}
+use Rattle.swaps.proofs.Fronts.{of-120, counted, still-within, is-part, still-counted}
 use borrow.Author.Needs.{needs}
 use Rattle.swaps.proofs.valuation.bumped_net.Statement.{statement}
 use Rattle.swaps.proofs.valuation.bumped_net.Tie as tie
-use Rattle.swaps.proofs.valuation.bumped_net.Reads as reads
-use Rattle.swaps.proofs.valuation.bumped_net.Lts as lts
-use Rattle.swaps.proofs.legs.legs_of.Reads as legs-of-reads
-use Rattle.swaps.proofs.valuation.bump.Reads as bump-reads
-use Rattle.swaps.proofs.valuation.net.Reads as net-reads
 
--- src/valuation.rt:84:17
+fits : (c : tie.After-empty-room) → length (c .before .before .before .args .zeros .now) ≤ length (c .empty-room .result)
+fits c = let few = c .before .before .before .pre in let room = of-120 (c .empty-room .result) (c .empty-room .ensures) in omega arith
+
+empty-room-requires : tie.Need-empty-room-requires
+empty-room-requires c κs = search needs
+
 array-borrow-prefix-room : tie.Need-array-borrow-prefix-room
-array-borrow-prefix-room c = search needs
+array-borrow-prefix-room c = fits c
 
--- src/valuation.rt:84:17
 slice-aggregate-bump : tie.Need-slice-aggregate-bump
-slice-aggregate-bump c = ?
+slice-aggregate-bump c = counted _ _ (fits (c .before))
 
--- src/valuation.rt:84:5
 bump-requires : tie.Need-bump-requires
-bump-requires c κs = ?
+bump-requires c κs = counted _ _ (fits (c .before))
 
--- src/valuation.rt:85:31
 array-share-prefix-room : tie.Need-array-share-prefix-room
-array-share-prefix-room c = ?
+array-share-prefix-room c = still-within _ _ (fits (c .before .before .before)) (c .before .bump .last .1 .0) (c .before .bump .kept .1 .0)
 
--- src/valuation.rt:85:31
 slice-aggregate-legs-of : tie.Need-slice-aggregate-legs-of
-slice-aggregate-legs-of c = ?
+slice-aggregate-legs-of c = still-counted _ _ (fits (c .before .before .before .before)) (c .before .before .bump .last .1 .0) (c .before .before .bump .kept .1 .0)
 
--- src/valuation.rt:85:9
 legs-of-requires : tie.Need-legs-of-requires
 legs-of-requires c κs = search needs
 
--- src/valuation.rt:85:5
 net-requires : tie.Need-net-requires
 net-requires c κs = search needs
 
--- src/valuation.rt:78:1
 returns : tie.Need-returns
-returns c = ?
+returns c =
+    let legs = c .before .legs-of .ensures in
+    let room = c .before .before .before .before in
+    let a = room .before .before .before .before .before .args in
+    let part = is-part _ _ (fits (room .before .before)) (room .bump .last .1 .0) (room .bump .kept .1 .0) in
+    c .net .ensures ∙ net-is (a .swap) (a .tenors .now) _ (a .receives-fixed) (legs .0) (legs .1)
+    ∙ ap (λ (zeros : List Float). netValue (a .swap) (a .tenors .now) zeros (a .receives-fixed)) (part ∙ room .bump .ensures)
 
 pub bumped-net-spec : {M : Type 1} → statement M
 bumped-net-spec =
     tie.close
     (tie.spec
+    empty-room-requires
     array-borrow-prefix-room
     slice-aggregate-bump
     bump-requires

@@ -1,39 +1,38 @@
+-- `swaps::valuation::par_swap_rate` meets its contract: the verdict on the swap and the curve is its answer's. Assumes nothing.
+use mathlib.Core.Path.{ap, _∙_}
+use Rattle.refusals.specs.Outcome.{accepted}
+use Rattle.refusals.proofs.Verdicts.{refused-by, accepted-by}
+use Rattle.swaps.specs.Valuation.{parSwapRate}
+use Rattle.swaps.proofs.Values.{par-is}
 use borrow.Author.Needs.{needs}
 use Rattle.swaps.proofs.valuation.par_swap_rate.Statement.{statement}
 use Rattle.swaps.proofs.valuation.par_swap_rate.Tie as tie
-use Rattle.swaps.proofs.valuation.par_swap_rate.Reads as reads
-use Rattle.swaps.proofs.valuation.par_swap_rate.Lts as lts
-use Rattle.swaps.proofs.judging.judge_swap.Reads as judge-swap-reads
-use Rattle.swaps.proofs.legs.legs_of.Reads as legs-of-reads
-use Rattle.swaps.proofs.valuation.par_of.Reads as par-of-reads
 
--- src/valuation.rt:100:11
 judge-swap-requires : tie.Need-judge-swap-requires
 judge-swap-requires c κs = search needs
 
--- src/valuation.rt:101:26
 enum-known-refusal : tie.Need-enum-known-refusal
 enum-known-refusal c = search needs
 
--- src/valuation.rt:102:51
 enum-told : tie.Need-enum-told
 enum-told c = search needs
 
--- src/valuation.rt:102:51
 legs-of-requires : tie.Need-legs-of-requires
 legs-of-requires c κs = search needs
 
--- src/valuation.rt:102:44
 par-of-requires : tie.Need-par-of-requires
 par-of-requires c κs = search needs
 
--- src/valuation.rt:97:1
 returns : tie.Need-returns
-returns c = ?
+unfolding parSwapRate
+returns c = refused-by _ _ _ _ (c .before .refusal .given .1) (c .before .before .before .judge-swap .ensures)
 
--- src/valuation.rt:97:1
 returns-2 : tie.Need-returns-2
-returns-2 c = ?
+unfolding parSwapRate
+returns-2 c =
+    let told = c .before .before in
+    ap accepted (c .par-of .ensures ∙ par-is _ _ _ (c .before .legs-of .ensures .4) (c .before .legs-of .ensures .2))
+    ∙ accepted-by _ _ _ (told .enum-told .given .1) (told .before .before .judge-swap .ensures)
 
 pub par-swap-rate-spec : {M : Type 1} → statement M
 par-swap-rate-spec =

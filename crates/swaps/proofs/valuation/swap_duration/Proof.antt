@@ -1,39 +1,38 @@
+-- `swaps::valuation::swap_duration` meets its contract: the verdict on the swap and the curve is its answer's. Assumes nothing.
+use mathlib.Core.Path.{ap, _∙_}
+use Rattle.refusals.specs.Outcome.{accepted}
+use Rattle.refusals.proofs.Verdicts.{refused-by, accepted-by}
+use Rattle.swaps.specs.Valuation.{swapDuration}
+use Rattle.swaps.proofs.Values.{duration-is}
 use borrow.Author.Needs.{needs}
 use Rattle.swaps.proofs.valuation.swap_duration.Statement.{statement}
 use Rattle.swaps.proofs.valuation.swap_duration.Tie as tie
-use Rattle.swaps.proofs.valuation.swap_duration.Reads as reads
-use Rattle.swaps.proofs.valuation.swap_duration.Lts as lts
-use Rattle.swaps.proofs.judging.judge_swap.Reads as judge-swap-reads
-use Rattle.swaps.proofs.legs.legs_of.Reads as legs-of-reads
-use Rattle.swaps.proofs.valuation.duration_of.Reads as duration-of-reads
 
--- src/valuation.rt:122:11
 judge-swap-requires : tie.Need-judge-swap-requires
 judge-swap-requires c κs = search needs
 
--- src/valuation.rt:123:26
 enum-known-refusal : tie.Need-enum-known-refusal
 enum-known-refusal c = search needs
 
--- src/valuation.rt:124:77
 enum-told : tie.Need-enum-told
 enum-told c = search needs
 
--- src/valuation.rt:124:77
 legs-of-requires : tie.Need-legs-of-requires
 legs-of-requires c κs = search needs
 
--- src/valuation.rt:124:44
 duration-of-requires : tie.Need-duration-of-requires
 duration-of-requires c κs = search needs
 
--- src/valuation.rt:119:1
 returns : tie.Need-returns
-returns c = ?
+unfolding swapDuration
+returns c = refused-by _ _ _ _ (c .before .refusal .given .1) (c .before .before .before .judge-swap .ensures)
 
--- src/valuation.rt:119:1
 returns-2 : tie.Need-returns-2
-returns-2 c = ?
+unfolding swapDuration
+returns-2 c =
+    let told = c .before .before in
+    ap accepted (c .duration-of .ensures ∙ duration-is _ _ _ (c .before .legs-of .ensures .0) (c .before .legs-of .ensures .3))
+    ∙ accepted-by _ _ _ (told .enum-told .given .1) (told .before .before .judge-swap .ensures)
 
 pub swap-duration-spec : {M : Type 1} → statement M
 swap-duration-spec =

@@ -1,39 +1,38 @@
+-- `swaps::valuation::swap_npv` meets its contract: the verdict on the swap and the curve is its answer's. Assumes nothing.
+use mathlib.Core.Path.{ap, _∙_}
+use Rattle.refusals.specs.Outcome.{accepted}
+use Rattle.refusals.proofs.Verdicts.{refused-by, accepted-by}
+use Rattle.swaps.specs.Valuation.{swapNpv}
+use Rattle.swaps.proofs.Values.{net-is}
 use borrow.Author.Needs.{needs}
 use Rattle.swaps.proofs.valuation.swap_npv.Statement.{statement}
 use Rattle.swaps.proofs.valuation.swap_npv.Tie as tie
-use Rattle.swaps.proofs.valuation.swap_npv.Reads as reads
-use Rattle.swaps.proofs.valuation.swap_npv.Lts as lts
-use Rattle.swaps.proofs.judging.judge_swap.Reads as judge-swap-reads
-use Rattle.swaps.proofs.legs.legs_of.Reads as legs-of-reads
-use Rattle.swaps.proofs.valuation.net.Reads as net-reads
 
--- src/valuation.rt:91:11
 judge-swap-requires : tie.Need-judge-swap-requires
 judge-swap-requires c κs = search needs
 
--- src/valuation.rt:92:26
 enum-known-refusal : tie.Need-enum-known-refusal
 enum-known-refusal c = search needs
 
--- src/valuation.rt:93:48
 enum-told : tie.Need-enum-told
 enum-told c = search needs
 
--- src/valuation.rt:93:48
 legs-of-requires : tie.Need-legs-of-requires
 legs-of-requires c κs = search needs
 
--- src/valuation.rt:93:44
 net-requires : tie.Need-net-requires
 net-requires c κs = search needs
 
--- src/valuation.rt:88:1
 returns : tie.Need-returns
-returns c = ?
+unfolding swapNpv
+returns c = refused-by _ _ _ _ (c .before .refusal .given .1) (c .before .before .before .judge-swap .ensures)
 
--- src/valuation.rt:88:1
 returns-2 : tie.Need-returns-2
-returns-2 c = ?
+unfolding swapNpv
+returns-2 c =
+    let told = c .before .before in
+    ap accepted (c .net .ensures ∙ net-is _ _ _ _ (c .before .legs-of .ensures .0) (c .before .legs-of .ensures .1))
+    ∙ accepted-by _ _ _ (told .enum-told .given .1) (told .before .before .judge-swap .ensures)
 
 pub swap-npv-spec : {M : Type 1} → statement M
 swap-npv-spec =

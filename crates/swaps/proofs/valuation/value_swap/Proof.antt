@@ -1,34 +1,38 @@
+-- `swaps::valuation::value_swap` meets its contract: the verdict on the swap and the curve is its answer's. Assumes nothing.
+use mathlib.Core.Path.{ap, _∙_}
+use Rattle.refusals.specs.Outcome.{accepted}
+use Rattle.refusals.proofs.Verdicts.{refused-by, accepted-by}
+use Rattle.swaps.specs.Valuation.{valueSwap}
+use Rattle.swaps.proofs.Values.{few-knots}
 use borrow.Author.Needs.{needs}
 use Rattle.swaps.proofs.valuation.value_swap.Statement.{statement}
 use Rattle.swaps.proofs.valuation.value_swap.Tie as tie
-use Rattle.swaps.proofs.valuation.value_swap.Reads as reads
-use Rattle.swaps.proofs.valuation.value_swap.Lts as lts
-use Rattle.swaps.proofs.judging.judge_swap.Reads as judge-swap-reads
-use Rattle.swaps.proofs.valuation.valuation_of.Reads as valuation-of-reads
 
--- src/valuation.rt:148:11
 judge-swap-requires : tie.Need-judge-swap-requires
 judge-swap-requires c κs = search needs
 
--- src/valuation.rt:149:26
 enum-known-refusal : tie.Need-enum-known-refusal
 enum-known-refusal c = search needs
 
--- src/valuation.rt:150:53
 enum-told : tie.Need-enum-told
 enum-told c = search needs
 
--- src/valuation.rt:150:53
 valuation-of-requires : tie.Need-valuation-of-requires
-valuation-of-requires c κs = ?
+valuation-of-requires c κs =
+    let told = c in
+    let a = told .before .before .before .before .before .args in
+    few-knots (a .swap) (a .tenors .now) (a .zeros .now) (accepted-by _ _ _ (told .enum-told .given .1) (told .before .before .judge-swap .ensures))
 
--- src/valuation.rt:145:1
 returns : tie.Need-returns
-returns c = ?
+unfolding valueSwap
+returns c = refused-by _ _ _ _ (c .before .refusal .given .1) (c .before .before .before .judge-swap .ensures)
 
--- src/valuation.rt:145:1
 returns-2 : tie.Need-returns-2
-returns-2 c = ?
+unfolding valueSwap
+returns-2 c =
+    let told = c .before in
+    ap accepted (c .valuation-of .ensures)
+    ∙ accepted-by _ _ _ (told .enum-told .given .1) (told .before .before .judge-swap .ensures)
 
 pub value-swap-spec : {M : Type 1} → statement M
 value-swap-spec =

@@ -1,0 +1,27 @@
+-- The front of a room, lent as it was or written and come back. Assumes nothing.
+use mathlib.Core.Path.{_≡_, sym, ap, _∙_}
+use mathlib.Core.List.{List, _++_}
+use Prim.Native.Nat.{ℕ, _≤_}
+use native.Mathlib.Omega.{arith}
+use lib.ListN.{length, take, drop, replicate, length-replicate}
+use lib.Seq.{length-take-le, length-front, take-at}
+use lib.Ieee.{Float}
+use Rattle.numbers.specs.Clamps.{plusZero}
+
+-- there is room for 120
+pub of-120 : (room : List Float) → room ≡ replicate 120 plusZero → length room ≡ 120
+of-120 room e = ap length e ∙ length-replicate 120 plusZero
+
+module _ {A : Type 0} (room : List A) (n : ℕ) (within : n ≤ length room) where
+  pub counted : n ≡ length (take n room)
+  counted = sym (length-take-le n room within)
+
+  module _ (part : List A) (same : length part ≡ length (take n room)) where
+    pub still-within : n ≤ length (part ++ drop n room)
+    still-within = rw (length-front room part n same) within
+
+    pub is-part : take n (part ++ drop n room) ≡ part
+    is-part = take-at part (drop n room) n (same ∙ sym counted)
+
+    pub still-counted : n ≡ length (take n (part ++ drop n room))
+    still-counted = counted ∙ sym same ∙ ap length (sym is-part)
