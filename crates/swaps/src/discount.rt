@@ -13,7 +13,7 @@ use yield_curve::segments::last_knot;
 use yield_curve::segments::segment_ending;
 
 // z0·(1-w) + z1·w.
-fn along_zeros(e: Ends, t: f64) -> f64
+pub(crate) fn along_zeros(e: Ends, t: f64) -> f64
     ensures { λ r. ⌜ r ≡ alongZeros (record { t0 = e .t0; t1 = e .t1; r0 = e .r0; r1 = e .r1 }) t ⌝ }
 {
     let w = (t - e.t0) / (e.t1 - e.t0);
