@@ -1,5 +1,9 @@
 pub mod LaterLines
 pub mod PaymentSums
-pub mod Bumps
+pub mod Writing
 pub mod Values
 pub mod Fronts
+pub mod TriedRates
+pub mod Coupons
+pub mod ParLines
+pub mod Bisecting

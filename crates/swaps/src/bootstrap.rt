@@ -43,7 +43,7 @@ fn bad_tenor(tenor: f64) -> bool
 }
 
 fn bad_par(before: f64, tenor: f64, par: f64) -> bool
-    ensures { λ r. ⌜ r ≡ (badKnot tenor par || not (lt before tenor) || badTenor tenor) ⌝ }
+    ensures { λ r. ⌜ r ≡ ((badKnot tenor par || not (lt before tenor)) || badTenor tenor) ⌝ }
 {
     if bad_knot_after(before, tenor, par) {
         return true;

@@ -1,15 +1,15 @@
+-- `swaps::bootstrap::bad_tenor` meets its contract. Assumes nothing.
+use Rattle.swaps.specs.Bootstrap.{badTenor}
 use Rattle.swaps.proofs.bootstrap.bad_tenor.Statement.{statement}
 use Rattle.swaps.proofs.bootstrap.bad_tenor.Tie as tie
-use Rattle.swaps.proofs.bootstrap.bad_tenor.Reads as reads
-use Rattle.swaps.proofs.bootstrap.bad_tenor.Lts as lts
 
--- src/bootstrap.rt:40:9
 returns : tie.Need-returns
-returns c = ?
+unfolding badTenor
+returns c = rw (c .if1 .taken)
 
--- src/bootstrap.rt:36:1
 returns-2 : tie.Need-returns-2
-returns-2 c = ?
+unfolding badTenor
+returns-2 c = rw (c .if1 .left)
 
 pub bad-tenor-spec : {M : Type 1} → statement M
 bad-tenor-spec = tie.close (tie.spec returns returns-2)

@@ -1,53 +1,52 @@
+-- `swaps::bootstrap::copy_in` meets its contract: the numbers passed are copied. Assumes nothing.
+use mathlib.Core.Path.{_≡_, refl}
+use Prim.Native.Nat.{_≤_, _-_}
+use native.Mathlib.Omega.{arith}
+use lib.ListN.{length, take, length-set}
+use Rattle.swaps.proofs.Writing.{one-more-written, all-written}
 use Rattle.swaps.proofs.bootstrap.copy_in.Statement.{statement}
 use Rattle.swaps.proofs.bootstrap.copy_in.Tie as tie
-use Rattle.swaps.proofs.bootstrap.copy_in.Reads as reads
-use Rattle.swaps.proofs.bootstrap.copy_in.Lts as lts
 
 abbrev Inv-loop : tie.InvT-loop
-Inv-loop from to₀ i₀ to i = ?
+Inv-loop from to₀ i₀ to i =
+    (i ≤ length from) × (length to ≡ length to₀) × (take i to ≡ take i from)
 
 abbrev μ-loop : tie.MeasureT-loop
-μ-loop from to₀ i₀ to i = ?
+μ-loop from to₀ i₀ to i =
+    length from - i
 
--- src/bootstrap.rt:107:5
 loop-holds : tie.Need-loop-holds Inv-loop μ-loop
-loop-holds c = ?
+loop-holds c = (omega arith, refl, refl)
 
--- src/bootstrap.rt:108:17
 mul-to : tie.Need-mul-to Inv-loop μ-loop
-mul-to c = ?
+mul-to c = omega arith
 
--- src/bootstrap.rt:108:17
 shared-slice-read-to : tie.Need-shared-slice-read-to Inv-loop μ-loop
-shared-slice-read-to c = ?
+shared-slice-read-to c = omega arith
 
--- src/bootstrap.rt:108:9
 mul-to-2 : tie.Need-mul-to-2 Inv-loop μ-loop
-mul-to-2 c = ?
+mul-to-2 c = omega arith
 
--- src/bootstrap.rt:108:9
 slice-write-to : tie.Need-slice-write-to Inv-loop μ-loop
-slice-write-to c = ?
+slice-write-to c = omega arith
 
--- src/bootstrap.rt:109:9
 add-i : tie.Need-add-i Inv-loop μ-loop
-add-i c = ?
+add-i c = omega arith
 
--- src/bootstrap.rt:107:5
 loop-less : tie.Need-loop-less Inv-loop μ-loop
-loop-less c = ?
+loop-less c = omega arith
 
--- src/bootstrap.rt:107:5
 loop-again : tie.Need-loop-again Inv-loop μ-loop
-loop-again c = ?
+loop-again c =
+    let turn = c .before in
+    let l = turn .before .loop in
+    (omega arith, simp length-set (l .inv .1), one-more-written _ (l .to) (l .i) _ _ (turn .loop-test .taken) (omega arith) (l .inv .2) refl)
 
--- src/bootstrap.rt:102:1
 same-length : tie.Need-same-length Inv-loop μ-loop
-same-length c = ?
+same-length c = c .before .loop .inv .1
 
--- src/bootstrap.rt:102:1
 returns : tie.Need-returns Inv-loop μ-loop
-returns c = ?
+returns c = let l = c .before .loop in all-written _ (l .to) (l .i) (omega arith) (omega arith) (l .inv .2)
 
 pub copy-in-spec : {M : Type 1} → statement M
 copy-in-spec =

@@ -1,34 +1,37 @@
+-- `swaps::knots::coupon` meets its contract: the date is whole before the tenor, else it is the tenor, whose discount factor is at hand. Assumes nothing.
+use native.Mathlib.Omega.{arith}
+use Rattle.swaps.proofs.TriedRates.{withRate}
+use Rattle.swaps.proofs.Coupons.{coupon-before, coupon-at-tenor}
 use borrow.Author.Needs.{needs}
 use Rattle.swaps.proofs.knots.coupon.Statement.{statement}
 use Rattle.swaps.proofs.knots.coupon.Tie as tie
-use Rattle.swaps.proofs.knots.coupon.Reads as reads
-use Rattle.swaps.proofs.knots.coupon.Lts as lts
-use Rattle.swaps.proofs.knots.date.Reads as date-reads
-use Rattle.swaps.proofs.trials.discount_with.Reads as discount-with-reads
 
--- src/knots.rt:56:18
 add-whole : tie.Need-add-whole
-add-whole c = search needs
+add-whole c = omega arith
 
--- src/knots.rt:56:17
 int-to-float-whole : tie.Need-int-to-float-whole
 int-to-float-whole c = search needs
 
--- src/knots.rt:57:9
 date-requires : tie.Need-date-requires
 date-requires c κs = search needs
 
--- src/knots.rt:59:47
 discount-with-requires : tie.Need-discount-with-requires
 discount-with-requires c κs = search needs
 
--- src/knots.rt:59:9
 returns : tie.Need-returns
-returns c = ?
+returns c =
+    let t = c .before .before in
+    let d = t .before .before in
+    let a = d .before .before .before .before .args in
+    coupon-before (a .tenors .now) (withRate (a .earlier .now) (a .trial .rate)) (a .trial .tenor) (a .trial .par) (a .k) _ _ (t .if1 .taken) (d .date .ensures) (c .discount-with .ensures)
 
--- src/knots.rt:52:1
 returns-2 : tie.Need-returns-2
-returns-2 c = ?
+returns-2 c =
+    let t = c .before .before .before in
+    let d = t .before .before in
+    let s = d .before .before .before .before in
+    let a = s .args in
+    coupon-at-tenor (a .tenors .now) (withRate (a .earlier .now) (a .trial .rate)) (a .trial .tenor) (a .trial .par) (a .k) _ _ (t .if1 .left) (d .date .ensures) (s .pre .1)
 
 pub coupon-spec : {M : Type 1} → statement M
 coupon-spec =

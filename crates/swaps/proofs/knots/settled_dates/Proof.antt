@@ -1,50 +1,57 @@
+-- `swaps::knots::settled_dates` meets its contract: every date passed is settled. Assumes nothing.
+use mathlib.Core.Path.{_≡_}
+use mathlib.Core.Bool.{true, false}
+use Prim.Native.Nat.{ℕ, suc, _-_, _<_, _≤_}
+use native.Mathlib.Omega.{arith}
+use lib.Ieee.{le}
+use borrow.Author.Count.{below-more}
+use borrow.Author.Tests.{not-false}
+use Rattle.swaps.specs.Bootstrap.{date}
+use Rattle.swaps.proofs.Coupons.{settled-here}
+use borrow.Author.Needs.{needs}
 use Rattle.swaps.proofs.knots.settled_dates.Statement.{statement}
 use Rattle.swaps.proofs.knots.settled_dates.Tie as tie
-use Rattle.swaps.proofs.knots.settled_dates.Reads as reads
-use Rattle.swaps.proofs.knots.settled_dates.Lts as lts
-use Rattle.swaps.proofs.knots.date.Reads as date-reads
 
 abbrev Inv-loop : tie.InvT-loop
-Inv-loop tenor dates previous k₀ k = ?
+Inv-loop tenor dates previous k₀ k =
+    (k ≤ dates) × ((j : ℕ) → j < k → (le (date tenor (suc j)) previous ≡ true) × (le tenor (date tenor (suc j)) ≡ false))
 
 abbrev μ-loop : tie.MeasureT-loop
-μ-loop tenor dates previous k₀ k = ?
+μ-loop tenor dates previous k₀ k =
+    dates - k
 
--- src/knots.rt:83:5
 loop-holds : tie.Need-loop-holds Inv-loop μ-loop
-loop-holds c = ?
+loop-holds c = (omega arith, λ j h. absurd (omega arith))
 
--- src/knots.rt:84:32
 add-date : tie.Need-add-date Inv-loop μ-loop
-add-date c = ?
+add-date c = record { fits = omega arith }
 
--- src/knots.rt:84:13
 date-requires : tie.Need-date-requires Inv-loop μ-loop
-date-requires c κs = ?
+date-requires c κs = search needs
 
--- src/knots.rt:86:13
 returns : tie.Need-returns Inv-loop μ-loop
-returns c = ?
+returns c = c .before .before .before .loop .inv
 
--- src/knots.rt:89:13
 returns-2 : tie.Need-returns-2 Inv-loop μ-loop
-returns-2 c = ?
+returns-2 c = c .before .before .before .before .loop .inv
 
--- src/knots.rt:91:9
 add-k : tie.Need-add-k Inv-loop μ-loop
-add-k c = ?
+add-k c = record { fits = omega arith }
 
--- src/knots.rt:83:5
 loop-less : tie.Need-loop-less Inv-loop μ-loop
-loop-less c = ?
+loop-less c = omega arith
 
--- src/knots.rt:83:5
 loop-again : tie.Need-loop-again Inv-loop μ-loop
-loop-again c = ?
+loop-again c =
+    let passed = c .before in
+    let found = passed .before in
+    let l = found .before .before .loop in
+    let a = found .before .before .before .args in
+    (omega arith, below-more (λ (j : ℕ). (le (date (a .tenor) (suc j)) (a .previous) ≡ true) × (le (a .tenor) (date (a .tenor) (suc j)) ≡ false)) (l .k) (l .inv .1)
+    (settled-here _ _ _ (l .k) (found .date .ensures) (not-false _ (passed .if1 .left)) (c .if2 .left)))
 
--- src/knots.rt:79:1
 returns-3 : tie.Need-returns-3 Inv-loop μ-loop
-returns-3 c = ?
+returns-3 c = c .before .loop .inv
 
 pub settled-dates-spec : {M : Type 1} → statement M
 settled-dates-spec =

@@ -1,63 +1,74 @@
+-- `swaps::trials::zero_rate_with` meets its contract: flat before the first knot and past the last, and between them by the segment that ends at or after the time. Assumes nothing.
+use mathlib.Core.Path.{ap, _∙_}
+use Rattle.yield_curve.specs.Segments.{Ends, endsOf}
+use Rattle.yield_curve.proofs.Flat.{before-first, past-last, inside, ends-are}
+use Rattle.swaps.specs.Discount.{alongZeros, zeroRateOf}
+use Rattle.swaps.proofs.TriedRates.{withRate, last-tried}
 use borrow.Author.Needs.{needs}
 use Rattle.swaps.proofs.trials.zero_rate_with.Statement.{statement}
 use Rattle.swaps.proofs.trials.zero_rate_with.Tie as tie
-use Rattle.swaps.proofs.trials.zero_rate_with.Reads as reads
-use Rattle.swaps.proofs.trials.zero_rate_with.Lts as lts
-use Rattle.swaps.proofs.discount.along_zeros.Reads as along-zeros-reads
-use Rattle.swaps.proofs.trials.rate_after.Reads as rate-after-reads
-use Rattle.swaps.proofs.trials.rate_with.Reads as rate-with-reads
-use Rattle.yield_curve.proofs.segments.knot_after.Reads as knot-after-reads
-use Rattle.yield_curve.proofs.segments.knot_at.Reads as knot-at-reads
-use Rattle.yield_curve.proofs.segments.last_knot.Reads as last-knot-reads
-use Rattle.yield_curve.proofs.segments.segment_ending.Reads as segment-ending-reads
 
--- src/trials.rt:38:13
 knot-at-requires : tie.Need-knot-at-requires
 knot-at-requires c κs = search needs
 
--- src/trials.rt:39:9
 rate-with-requires : tie.Need-rate-with-requires
 rate-with-requires c κs = search needs
 
--- src/trials.rt:39:9
 returns : tie.Need-returns
-returns c = ?
+unfolding zeroRateOf
+returns c =
+    let read = c .before .before in
+    let a = read .before .before .before .args in
+    before-first (a .tenors .now) (withRate (a .earlier .now) (a .rate)) (a .t) _ _ (read .knot-at .ensures) _ (c .rate-with .ensures) (c .before .if1 .taken)
 
--- src/trials.rt:41:8
 last-knot-requires : tie.Need-last-knot-requires
 last-knot-requires c κs = search needs
 
--- src/trials.rt:42:9
 returns-2 : tie.Need-returns-2
-returns-2 c = ?
+unfolding zeroRateOf
+returns-2 c =
+    let last = c .before in
+    let read = last .before .before in
+    let a = read .before .before .before .args in
+    past-last (a .tenors .now) (withRate (a .earlier .now) (a .rate)) (a .t) _ _ (read .knot-at .ensures) (last .before .if1 .left) _ (last .last-knot .ensures)
+    _ (last-tried (a .earlier .now) (a .rate)) (c .if2 .taken)
 
--- src/trials.rt:44:9
 segment-ending-requires : tie.Need-segment-ending-requires
 segment-ending-requires c κs = search needs
 
--- src/trials.rt:47:17
 knot-at-requires-2 : tie.Need-knot-at-requires-2
 knot-at-requires-2 c κs = search needs
 
--- src/trials.rt:48:17
 knot-after-requires : tie.Need-knot-after-requires
 knot-after-requires c κs = search needs
 
--- src/trials.rt:49:17
 rate-with-requires-2 : tie.Need-rate-with-requires-2
 rate-with-requires-2 c κs = search needs
 
--- src/trials.rt:50:17
 rate-after-requires : tie.Need-rate-after-requires
 rate-after-requires c κs = search needs
 
--- src/trials.rt:45:5
 along-zeros-requires : tie.Need-along-zeros-requires
 along-zeros-requires c κs = search needs
 
--- src/trials.rt:35:1
 returns-3 : tie.Need-returns-3
-returns-3 c = ?
+unfolding zeroRateOf
+returns-3 c =
+    let r1 = c .before in
+    let r0 = r1 .before in
+    let t1 = r0 .before in
+    let t0 = t1 .before in
+    let served = t0 .before in
+    let last = served .before .before in
+    let read = last .before .before in
+    let a = read .before .before .before .args in
+    let rates = withRate (a .earlier .now) (a .rate) in
+    inside (a .tenors .now) rates (a .t) _ _ (read .knot-at .ensures) (last .before .if1 .left) _ (last .last-knot .ensures) _
+    (c .along-zeros .ensures
+    ∙ ap (λ (e : Ends). alongZeros e (a .t))
+    (ends-are (a .tenors .now) rates _ _ _ _ _ (t0 .knot-at2 .ensures, t1 .knot-after .ensures, r0 .rate-with2 .ensures, r1 .rate-after .ensures)
+    ∙ ap (endsOf (a .tenors .now) rates) (served .segment-ending .ensures)))
+    (served .before .if2 .left)
 
 pub zero-rate-with-spec : {M : Type 1} → statement M
 zero-rate-with-spec =

@@ -1,23 +1,22 @@
 -- `swaps::valuation::bump` meets its contract: the rates passed are raised. Assumes nothing.
-use mathlib.Core.Path.{_≡_, refl, _∙_}
+use mathlib.Core.Path.{_≡_, refl}
 use Prim.Native.Nat.{_≤_, _-_}
 use native.Mathlib.Omega.{arith}
 use lib.ListN.{length, take, length-set}
 use Rattle.swaps.specs.Valuation.{bumped}
-use Rattle.swaps.proofs.Bumps.{one-higher, all-higher}
+use Rattle.swaps.proofs.Writing.{one-more-written, all-written, bumped-length, bumped-at}
 use Rattle.swaps.proofs.valuation.bump.Statement.{statement}
 use Rattle.swaps.proofs.valuation.bump.Tie as tie
 
 abbrev Inv-loop : tie.InvT-loop
 Inv-loop zeros out₀ i₀ out i =
-    (i ≤ length zeros) × (length out ≡ length out₀) × (take i out ≡ bumped (take i zeros))
+    (i ≤ length zeros) × (length out ≡ length out₀) × (take i out ≡ take i (bumped zeros))
 
 abbrev μ-loop : tie.MeasureT-loop
 μ-loop zeros out₀ i₀ out i =
     length zeros - i
 
 loop-holds : tie.Need-loop-holds Inv-loop μ-loop
-unfolding bumped
 loop-holds c = (omega arith, refl, refl)
 
 mul-out : tie.Need-mul-out Inv-loop μ-loop
@@ -42,14 +41,18 @@ loop-again : tie.Need-loop-again Inv-loop μ-loop
 loop-again c =
     let turn = c .before in
     let l = turn .before .loop in
-    let same = turn .before .before .pre in
-    (omega arith, simp length-set (l .inv .1), one-higher _ (l .out) (l .i) (turn .loop-test .taken) (omega arith) (l .inv .2))
+    let zeros = turn .before .before .args .zeros .now in
+    let same = bumped-length zeros in
+    (omega arith, simp length-set (l .inv .1), one-more-written _ (l .out) (l .i) _ _ (omega arith) (omega arith) (l .inv .2) (bumped-at zeros (l .i)))
 
 same-length : tie.Need-same-length Inv-loop μ-loop
 same-length c = c .before .loop .inv .1
 
 returns : tie.Need-returns Inv-loop μ-loop
-returns c = let l = c .before .loop in all-higher _ (l .out) (l .i) (omega arith) (omega arith) (l .inv .2)
+returns c =
+    let l = c .before .loop in
+    let same = bumped-length (c .before .before .args .zeros .now) in
+    all-written _ (l .out) (l .i) (omega arith) (omega arith) (l .inv .2)
 
 pub bump-spec : {M : Type 1} → statement M
 bump-spec =
