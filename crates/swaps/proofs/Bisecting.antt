@@ -4,12 +4,13 @@ use mathlib.Core.Bool.{Bool, true, false, cond}
 use mathlib.Core.List.{List, [], _∷_, _++_}
 use Prim.Native.Nat.{ℕ, zero, suc, _-_, _<_}
 use native.Mathlib.Omega.{arith}
-use lib.Ieee.{Float, binary64, add, sub, lt}
+use lib.Ieee.{Float, binary64, neg, add, sub, lt, ofBits}
 use Rattle.numbers.specs.Clamps.{plusZero}
 use Rattle.numbers.specs.Sums.{addedUp}
 use Rattle.elementary.specs.WholePower.{one}
+use Rattle.yield_curve.proofs.Choices.{by-first, by-second}
 use Rattle.swaps.specs.Discount.{discountOf}
-use Rattle.swaps.specs.Bootstrap.{narrow, dates, couponAt, parError, middle, lowerEnd, upperEnd, halved, solvedOr}
+use Rattle.swaps.specs.Bootstrap.{lowest, highest, narrow, dates, couponAt, parError, middle, lowerEnd, upperEnd, halved, noChange, solvedOr}
 
 module _ (error : Float → Float) (lo hi : Float) where
   module _ (mid missed : Float) (is-mid : mid ≡ middle error lo hi) (is-missed : missed ≡ error mid) where
@@ -28,7 +29,9 @@ module _ (error : Float → Float) (lo hi : Float) where
     turn : (n : ℕ) (b : Bool) → 0 < n → lt (sub binary64 hi′ lo′) narrow ≡ b → halved error n lo hi ≡ cond b (middle error lo′ hi′) (halved error (n - 1) lo′ hi′)
     unfolding halved
     turn zero b h e = absurd (omega arith)
-    turn (suc n) b h e = let less : n ≡ suc n - 1 = omega arith in rw (sym is-lo, sym is-hi, e, less)
+    turn (suc n) b h e =
+        let less : n ≡ suc n - 1 = omega arith in
+        rw (sym is-lo, sym is-hi, e) (ap (λ (k : ℕ). cond b (middle error lo′ hi′) (halved error k lo′ hi′)) less)
 
     pub stops : (n : ℕ) → 0 < n → lt (sub binary64 hi′ lo′) narrow ≡ true → halved error n lo hi ≡ middle error lo′ hi′
     stops n h e = turn n true h e
@@ -39,6 +42,28 @@ module _ (error : Float → Float) (lo hi : Float) where
   pub all-halved : (n : ℕ) → n ≡ 0 → halved error n lo hi ≡ middle error lo hi
   unfolding halved
   all-halved n e = rw e
+
+-- the lower end as the code has it
+pub minus-one : neg one ≡ lowest
+unfolding neg ofBits
+minus-one = refl
+
+module _ (error : Float → Float) where
+  pub too-low : (missed : Float) → missed ≡ error (neg one) → lt missed plusZero ≡ true → true ≡ noChange error
+  unfolding noChange
+  too-low missed e t = by-first _ _ (ap (λ (x : Float). lt x plusZero) (ap error (sym minus-one) ∙ sym e) ∙ t)
+
+  pub too-high : (missed above : Float) → missed ≡ error (neg one) → lt missed plusZero ≡ false → above ≡ error highest → lt plusZero above ≡ noChange error
+  unfolding noChange
+  too-high missed above e t a = ap (lt plusZero) a ∙ by-second _ _ (ap (λ (x : Float). lt x plusZero) (ap error (sym minus-one) ∙ sym e) ∙ t)
+
+  pub not-solved : (other : Float) → noChange error ≡ true → other ≡ solvedOr error other
+  unfolding solvedOr
+  not-solved other e = rw e
+
+  pub solved : (other : Float) → noChange error ≡ false → halved error 200 lowest highest ≡ solvedOr error other
+  unfolding solvedOr
+  solved other e = rw e
 
 -- ---- a trial's own numbers, T′, c′ and r′, are the knot's and the rate in hand
 module _ (tenors earlier : List Float) {T c r T′ c′ r′ : Float} (is-T : T′ ≡ T) (is-c : c′ ≡ c) (is-r : r′ ≡ r) where

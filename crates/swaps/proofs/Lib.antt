@@ -7,3 +7,4 @@ pub mod TriedRates
 pub mod Coupons
 pub mod ParLines
 pub mod Bisecting
+pub mod SolvedKnots

@@ -8,11 +8,12 @@ use native.Mathlib.Omega.{arith}
 use lib.ListN.{length, getD, drop, drop-of-length-le}
 use lib.Seq.{drop-cons}
 use lib.Ieee.{Float, nan, inf, fin, lt}
-use borrow.Author.Tests.{eq-eqb, ne-eqb}
+use borrow.Author.Tests.{eq-eqb, ne-eqb, eqb-true, not-false}
 use Rattle.refusals.specs.Outcome.{Outcome, refused, accepted, Line, firstOr, judged}
 use Rattle.refusals.specs.Table.{unequal, badKnotCount, badKnot, badKnotsAfter, badKnots}
+use Rattle.refusals.proofs.Judging.{none-is, passed}
 use Rattle.refusals.proofs.Verdicts.{verdict}
-use Rattle.yield_curve.proofs.CurveLines.{caused, clear}
+use Rattle.yield_curve.proofs.CurveLines.{caused, clear, at-most-120}
 use Rattle.yield_curve.proofs.KnotLine.{later}
 use Rattle.swaps.specs.Bootstrap.{badTenor, eitherOf, parLines}
 
@@ -76,3 +77,14 @@ module _ (tenors pars : List Float) where
 
   pub by-line-6 : length tenors ≡ length pars → badKnotCount (length tenors) ≡ false → verdict (knotLine tenors pars ∷ []) ≡ verdict (parLines tenors pars)
   by-line-6 h b = clear tt 5 _ (knotLine tenors pars ∷ []) b ∙ clear tt 4 _ _ (equal _ _ h)
+
+  -- what is accepted has as many rates as tenors, and at most 120
+  same-count : unequal (length tenors) (length pars) ≡ false → length tenors ≡ length pars
+  unfolding unequal
+  same-count e = eqb-true _ _ (not-false _ e)
+
+  pub accepted-counts : accepted tt ≡ verdict (parLines tenors pars) → (length tenors ≡ length pars) × (length tenors ≤ 120)
+  accepted-counts e =
+      let equal = passed tt tt _ _ e in
+      let counted = passed tt tt _ _ (equal .1) in
+      (same-count (none-is (equal .0) 0), at-most-120 _ (none-is (counted .0) 0))

@@ -1,39 +1,53 @@
+-- `swaps::bootstrap::from_par_rates` meets its contract: the verdict is the lines', and the curve goes with it. Assumes nothing.
+use mathlib.Core.Path.{ap, _∙_}
+use lib.ListN.{length}
+use Rattle.refusals.proofs.Verdicts.{refused-by, accepted-by}
+use Rattle.swaps.specs.Bootstrap.{zerosUpTo, parLines, fromParRates}
+use Rattle.swaps.specs.Bootstrapped.{curveOf, bootstrapped}
+use Rattle.swaps.proofs.ParLines.{accepted-counts}
 use borrow.Author.Needs.{needs}
 use Rattle.swaps.proofs.bootstrap.from_par_rates.Statement.{statement}
 use Rattle.swaps.proofs.bootstrap.from_par_rates.Tie as tie
-use Rattle.swaps.proofs.bootstrap.from_par_rates.Reads as reads
-use Rattle.swaps.proofs.bootstrap.from_par_rates.Lts as lts
-use Rattle.swaps.proofs.bootstrap.judge_pars.Reads as judge-pars-reads
-use Rattle.swaps.proofs.bootstrap.no_curve.Reads as no-curve-reads
-use Rattle.swaps.proofs.bootstrap.solved_curve.Reads as solved-curve-reads
 
--- src/bootstrap.rt:143:11
 judge-pars-requires : tie.Need-judge-pars-requires
 judge-pars-requires c κs = search needs
 
--- src/bootstrap.rt:144:26
 enum-known-refusal : tie.Need-enum-known-refusal
 enum-known-refusal c = search needs
 
--- src/bootstrap.rt:146:20
 no-curve-requires : tie.Need-no-curve-requires
 no-curve-requires c κs = search needs
 
--- src/bootstrap.rt:149:22
 enum-told : tie.Need-enum-told
 enum-told c = search needs
 
--- src/bootstrap.rt:150:20
 solved-curve-requires : tie.Need-solved-curve-requires
-solved-curve-requires c κs = ?
+solved-curve-requires c κs =
+    let j = c .before .before in
+    let a = j .before .before .before .args in
+    accepted-counts (a .tenors .now) (a .pars .now) (accepted-by _ _ _ (c .enum-told .given .1) (j .judge-pars .ensures))
 
--- src/bootstrap.rt:140:1
 returns : tie.Need-returns
-returns c = ?
+unfolding curveOf bootstrapped fromParRates
+returns c =
+    let told = c .before .before in
+    let j = told .before .before in
+    let a = j .before .before .before .args in
+    let tenors = a .tenors .now in
+    let pars = a .pars .now in
+    (refused-by (parLines tenors pars) tt _ _ (told .refusal .given .1) (j .judge-pars .ensures),
+    c .no-curve .ensures ∙ ap (curveOf tenors) (refused-by (parLines tenors pars) (zerosUpTo tenors pars (length tenors)) _ _ (told .refusal .given .1) (j .judge-pars .ensures)))
 
--- src/bootstrap.rt:140:1
 returns-2 : tie.Need-returns-2
-returns-2 c = ?
+unfolding curveOf bootstrapped fromParRates
+returns-2 c =
+    let told = c .before in
+    let j = told .before .before in
+    let a = j .before .before .before .args in
+    let tenors = a .tenors .now in
+    let pars = a .pars .now in
+    (accepted-by (parLines tenors pars) tt _ (told .enum-told .given .1) (j .judge-pars .ensures),
+    c .solved-curve .ensures ∙ ap (curveOf tenors) (accepted-by (parLines tenors pars) (zerosUpTo tenors pars (length tenors)) _ (told .enum-told .given .1) (j .judge-pars .ensures)))
 
 pub from-par-rates-spec : {M : Type 1} → statement M
 from-par-rates-spec =

@@ -1,70 +1,70 @@
+-- `swaps::bootstrap::solve_knots` meets its contract: the zero rates up to the knot in hand stand in front. Assumes nothing.
+use mathlib.Core.Path.{_≡_, refl}
+use Prim.Native.Nat.{_-_, _≤_}
+use native.Mathlib.Omega.{arith}
+use lib.ListN.{length, take, length-set}
+use Rattle.swaps.specs.Bootstrap.{zerosUpTo}
+use Rattle.swaps.proofs.Fronts.{counted}
+use Rattle.swaps.proofs.SolvedKnots.{one-knot-more, knot-solved, all-solved}
 use Rattle.swaps.proofs.bootstrap.solve_knots.Statement.{statement}
 use Rattle.swaps.proofs.bootstrap.solve_knots.Tie as tie
-use Rattle.swaps.proofs.bootstrap.solve_knots.Reads as reads
-use Rattle.swaps.proofs.bootstrap.solve_knots.Lts as lts
-use Rattle.swaps.proofs.knots.next_zero.Reads as next-zero-reads
 
 abbrev Inv-loop : tie.InvT-loop
-Inv-loop tenors pars zeros₀ i₀ zeros i = ?
+Inv-loop tenors pars zeros₀ i₀ zeros i =
+    (i ≤ length tenors) × (length zeros ≡ length zeros₀) × (take i zeros ≡ zerosUpTo tenors pars i)
 
 abbrev μ-loop : tie.MeasureT-loop
-μ-loop tenors pars zeros₀ i₀ zeros i = ?
+μ-loop tenors pars zeros₀ i₀ zeros i =
+    length tenors - i
 
--- src/bootstrap.rt:94:5
 loop-holds : tie.Need-loop-holds Inv-loop μ-loop
-loop-holds c = ?
+unfolding zerosUpTo
+loop-holds c = (omega arith, refl, refl)
 
--- src/bootstrap.rt:95:19
 add-end : tie.Need-add-end Inv-loop μ-loop
-add-end c = ?
+add-end c = omega arith
 
--- src/bootstrap.rt:96:30
 slice-aggregate-next-zero : tie.Need-slice-aggregate-next-zero Inv-loop μ-loop
-slice-aggregate-next-zero c = ?
+slice-aggregate-next-zero c = counted _ _ (omega arith)
 
--- src/bootstrap.rt:96:46
 slice-reshare-prefix-next-zero : tie.Need-slice-reshare-prefix-next-zero Inv-loop μ-loop
-slice-reshare-prefix-next-zero c = ?
+slice-reshare-prefix-next-zero c = omega arith
 
--- src/bootstrap.rt:96:46
 slice-aggregate-next-zero-2 : tie.Need-slice-aggregate-next-zero-2 Inv-loop μ-loop
-slice-aggregate-next-zero-2 c = ?
+slice-aggregate-next-zero-2 c = counted _ _ (omega arith)
 
--- src/bootstrap.rt:96:59
 mul-next-zero : tie.Need-mul-next-zero Inv-loop μ-loop
-mul-next-zero c = ?
+mul-next-zero c = omega arith
 
--- src/bootstrap.rt:96:59
 shared-slice-read-next-zero : tie.Need-shared-slice-read-next-zero Inv-loop μ-loop
-shared-slice-read-next-zero c = ?
+shared-slice-read-next-zero c = omega arith
 
--- src/bootstrap.rt:96:13
 next-zero-requires : tie.Need-next-zero-requires Inv-loop μ-loop
-next-zero-requires c κs = ?
+next-zero-requires c κs =
+    let turn = c .before .before .before in
+    let l = turn .before .loop in
+    one-knot-more _ (turn .before .before .before .before .before .args .pars .now) (l .zeros) (l .i) (turn .loop-test .taken) (omega arith)
 
--- src/bootstrap.rt:97:9
 mul-zeros : tie.Need-mul-zeros Inv-loop μ-loop
-mul-zeros c = ?
+mul-zeros c = omega arith
 
--- src/bootstrap.rt:97:9
 slice-write-zeros : tie.Need-slice-write-zeros Inv-loop μ-loop
-slice-write-zeros c = ?
+slice-write-zeros c = omega arith
 
--- src/bootstrap.rt:94:5
 loop-less : tie.Need-loop-less Inv-loop μ-loop
-loop-less c = ?
+loop-less c = omega arith
 
--- src/bootstrap.rt:94:5
 loop-again : tie.Need-loop-again Inv-loop μ-loop
-loop-again c = ?
+loop-again c =
+    let turn = c .before .before .before .before in
+    let l = turn .before .loop in
+    (omega arith, simp length-set (l .inv .1), knot-solved _ _ (l .zeros) (l .i) (turn .loop-test .taken) (omega arith) _ (l .inv .2) (c .next-zero .ensures))
 
--- src/bootstrap.rt:89:1
 same-length : tie.Need-same-length Inv-loop μ-loop
-same-length c = ?
+same-length c = c .before .loop .inv .1
 
--- src/bootstrap.rt:89:1
 returns : tie.Need-returns Inv-loop μ-loop
-returns c = ?
+returns c = let l = c .before .loop in all-solved _ _ (l .zeros) (l .i) (omega arith) (omega arith) (l .inv .2)
 
 pub solve-knots-spec : {M : Type 1} → statement M
 solve-knots-spec =

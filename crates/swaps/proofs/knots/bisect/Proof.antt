@@ -1,6 +1,7 @@
 -- `swaps::knots::bisect` meets its contract: the halvings that are left, from the bracket in hand, give the answer. Assumes nothing.
 use mathlib.Core.Path.{_≡_, refl, sym, _∙_}
 use native.Mathlib.Omega.{arith}
+use lib.Ieee.{neg, ofBits}
 use Rattle.swaps.specs.Bootstrap.{lowest, highest, halved}
 use Rattle.swaps.specs.Knots.{errorOf}
 use Rattle.swaps.proofs.Bisecting.{stops, goes-on, all-halved}
@@ -17,6 +18,7 @@ abbrev μ-loop : tie.MeasureT-loop
     left
 
 loop-holds : tie.Need-loop-holds Inv-loop μ-loop
+unfolding neg ofBits
 loop-holds c = refl
 
 halve-requires : tie.Need-halve-requires Inv-loop μ-loop

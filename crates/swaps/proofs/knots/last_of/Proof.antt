@@ -25,7 +25,8 @@ add-coupons-requires : tie.Need-add-coupons-requires
 unfolding addedUp
 add-coupons-requires c κs =
     let e = c .try-rate .ensures in
-    (omega arith, last-is _ _ (e .0) (e .1) (e .2) (e .3), refl)
+    let a = c .before .before .before .before .before .before .args in
+    (omega arith, last-is (a .tenors .now) (a .earlier .now) (e .0) (e .1) (e .2) (e .3), refl)
 
 returns : tie.Need-returns
 unfolding dates

@@ -10,8 +10,9 @@ try-rate-requires c κs = search needs
 add-coupons-requires : tie.Need-add-coupons-requires
 add-coupons-requires c κs =
     let e = c .try-rate .ensures in
-    let ready = c .before .before .before .pre in
-    (ready .within, last-is _ _ (e .0) (e .1) (e .2) (e .3), sum-is _ _ (e .0) (e .1) (e .2) _ (ready .summed _))
+    let s = c .before .before .before in
+    let a = s .args in
+    (s .pre .within, last-is (a .tenors .now) (a .earlier .now) (e .0) (e .1) (e .2) (e .3), sum-is (a .tenors .now) (a .earlier .now) (e .0) (e .1) (e .2) (a .knot .settled) (s .pre .summed (c .try-rate .result .rate)))
 
 returns : tie.Need-returns
 returns c =
