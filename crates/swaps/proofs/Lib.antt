@@ -8,3 +8,6 @@ pub mod Coupons
 pub mod ParLines
 pub mod Bisecting
 pub mod SolvedKnots
+pub mod CodeTrips
+pub mod Exactly
+pub mod Tight

@@ -50,7 +50,12 @@ fn payment_sums(swap: Swap, tenors: &[f64], zeros: &[f64]) -> PaymentSums
         timed = timed + date * payment * factor;
         before = factor;
     }
-    PaymentSums { fixed, floating, annuity, timed }
+    PaymentSums {
+        fixed,
+        floating,
+        annuity,
+        timed,
+    }
 }
 
 // The legs, with the notional at the tenor; the annuity; the fixed leg with each amount times its date; and the discount factor of the tenor.

@@ -121,7 +121,12 @@ pub fn swap_duration(swap: Swap, tenors: &[f64], zeros: &[f64]) -> Number
 {
     match judge_swap(swap, tenors, zeros) {
         Verdict::Refused(refusal) => Number::Refused(refusal),
-        Verdict::Accepted => Number::Given(duration_of(swap, tenors, zeros, legs_of(swap, tenors, zeros))),
+        Verdict::Accepted => Number::Given(duration_of(
+            swap,
+            tenors,
+            zeros,
+            legs_of(swap, tenors, zeros),
+        )),
     }
 }
 
@@ -142,11 +147,21 @@ fn valuation_of(swap: Swap, tenors: &[f64], zeros: &[f64], receives_fixed: bool)
     }
 }
 
-pub fn value_swap(swap: Swap, tenors: &[f64], zeros: &[f64], receives_fixed: bool) -> ValuationAnswer
+pub fn value_swap(
+    swap: Swap,
+    tenors: &[f64],
+    zeros: &[f64],
+    receives_fixed: bool,
+) -> ValuationAnswer
     ensures { λ r. ⌜ valuationOutcome r ≡ valueSwap swap (now (tenors .entry)) (now (zeros .entry)) «receives_fixed» ⌝ }
 {
     match judge_swap(swap, tenors, zeros) {
         Verdict::Refused(refusal) => ValuationAnswer::Refused(refusal),
-        Verdict::Accepted => ValuationAnswer::Given(valuation_of(swap, tenors, zeros, receives_fixed)),
+        Verdict::Accepted => ValuationAnswer::Given(valuation_of(
+            swap,
+            tenors,
+            zeros,
+            receives_fixed,
+        )),
     }
 }

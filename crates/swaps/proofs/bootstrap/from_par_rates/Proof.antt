@@ -34,9 +34,10 @@ returns c =
     let j = told .before .before in
     let a = j .before .before .before .args in
     let tenors = a .tenors .now in
-    let pars = a .pars .now in
-    (refused-by (parLines tenors pars) tt _ _ (told .refusal .given .1) (j .judge-pars .ensures),
-    c .no-curve .ensures ∙ ap (curveOf tenors) (refused-by (parLines tenors pars) (zerosUpTo tenors pars (length tenors)) _ _ (told .refusal .given .1) (j .judge-pars .ensures)))
+    let pars = a .pars .now in (
+      refused-by (parLines tenors pars) tt _ _ (told .refusal .given .1) (j .judge-pars .ensures),
+      c .no-curve .ensures ∙ ap (curveOf tenors) (refused-by (parLines tenors pars) (zerosUpTo tenors pars (length tenors)) _ _ (told .refusal .given .1) (j .judge-pars .ensures)),
+    )
 
 returns-2 : tie.Need-returns-2
 unfolding curveOf bootstrapped fromParRates
@@ -45,9 +46,10 @@ returns-2 c =
     let j = told .before .before in
     let a = j .before .before .before .args in
     let tenors = a .tenors .now in
-    let pars = a .pars .now in
-    (accepted-by (parLines tenors pars) tt _ (told .enum-told .given .1) (j .judge-pars .ensures),
-    c .solved-curve .ensures ∙ ap (curveOf tenors) (accepted-by (parLines tenors pars) (zerosUpTo tenors pars (length tenors)) _ (told .enum-told .given .1) (j .judge-pars .ensures)))
+    let pars = a .pars .now in (
+      accepted-by (parLines tenors pars) tt _ (told .enum-told .given .1) (j .judge-pars .ensures),
+      c .solved-curve .ensures ∙ ap (curveOf tenors) (accepted-by (parLines tenors pars) (zerosUpTo tenors pars (length tenors)) _ (told .enum-told .given .1) (j .judge-pars .ensures)),
+    )
 
 pub from-par-rates-spec : {M : Type 1} → statement M
 from-par-rates-spec =

@@ -35,13 +35,16 @@ returns c =
     let e = tried .try-rate .ensures in
     let settled = tried .before in
     let last = settled .before .before in
-    let a = last .before .before .before .args in
-    (last .last-knot .ensures, refl, record {
-      counted = settled .before .ceiling-to-u32 .ensures;
-      within = settled .settled-at .ensures .0;
-      summed = λ r. sum-was (a .tenors .now) (a .earlier .now) (e .0) (e .1) (e .2) _ (c .add-coupons .ensures)
-          ∙ settled-sum (a .tenors .now) (a .earlier .now) _ _ _ (last .before .before .before .pre) (last .last-knot .ensures) (settled .settled-at .ensures .1) _ r;
-    })
+    let a = last .before .before .before .args in (
+      last .last-knot .ensures,
+      refl,
+      record {
+        counted = settled .before .ceiling-to-u32 .ensures;
+        within = settled .settled-at .ensures .0;
+        summed = λ r. sum-was (a .tenors .now) (a .earlier .now) (e .0) (e .1) (e .2) _ (c .add-coupons .ensures)
+            ∙ settled-sum (a .tenors .now) (a .earlier .now) _ _ _ (last .before .before .before .pre) (last .last-knot .ensures) (settled .settled-at .ensures .1) _ r;
+      },
+    )
 
 pub last-of-spec : {M : Type 1} → statement M
 last-of-spec =

@@ -46,9 +46,11 @@ loop-again c =
     let passed = c .before in
     let found = passed .before in
     let l = found .before .before .loop in
-    let a = found .before .before .before .args in
-    (omega arith, below-more (λ (j : ℕ). (le (date (a .tenor) (suc j)) (a .previous) ≡ true) × (le (a .tenor) (date (a .tenor) (suc j)) ≡ false)) (l .k) (l .inv .1)
-    (settled-here _ _ _ (l .k) (found .date .ensures) (not-false _ (passed .if1 .left)) (c .if2 .left)))
+    let a = found .before .before .before .args in (
+      omega arith,
+      below-more (λ (j : ℕ). (le (date (a .tenor) (suc j)) (a .previous) ≡ true) × (le (a .tenor) (date (a .tenor) (suc j)) ≡ false)) (l .k) (l .inv .1)
+          (settled-here _ _ _ (l .k) (found .date .ensures) (not-false _ (passed .if1 .left)) (c .if2 .left)),
+    )
 
 returns-3 : tie.Need-returns-3 Inv-loop μ-loop
 returns-3 c = c .before .loop .inv
