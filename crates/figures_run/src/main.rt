@@ -1,8 +1,9 @@
-// Document 01's figures that are run only: terms of 1,200 and 1,201, and room for 4 and 5 numbers.
+// Document 01's figures that are run only: terms of 1,200 and 1,201, room for 4 and 5 numbers, and curves of 120 and 121 knots.
 use libc::STDOUT_FILENO;
 use mortgage::draws::Drawing;
 use mortgage::opening::Opening;
 use records::Terms;
+use refusals::Number;
 use refusals::Refusal;
 
 fn say_refused(refusal: Refusal) {
@@ -44,6 +45,39 @@ fn draw(term: u32, room: &mut [f64]) {
     }
 }
 
+// Knots a year apart, each at the rate 0.5.
+fn set_knots(times: &mut [f64], rates: &mut [f64]) {
+    let mut i: u32 = 0;
+    let mut k: usize = 0;
+    while k < times.len() {
+        times[k] = i as f64;
+        if k < rates.len() {
+            rates[k] = 0.5;
+        }
+        if i < 1000 {
+            i += 1;
+        }
+        k += 1;
+    }
+}
+
+// A curve asked at a time between its first two knots.
+fn ask(times: &[f64], rates: &[f64]) {
+    io::write_all(STDOUT_FILENO, b"knots ");
+    io::print_decimal(STDOUT_FILENO, times.len() as u64);
+    io::write_all(STDOUT_FILENO, b": ");
+    match yield_curve::linear::linear_interpolate(times, rates, 0.25) {
+        Number::Refused(refusal) => say_refused(refusal),
+        Number::Given(rate) => {
+            if rate == 0.5 {
+                io::write_all(STDOUT_FILENO, b"rate 0.5\n");
+            } else {
+                io::write_all(STDOUT_FILENO, b"another rate\n");
+            }
+        }
+    }
+}
+
 fn main() {
     let mut whole = [0.0; 6000];
     let mut four = [0.0; 4];
@@ -52,4 +86,12 @@ fn main() {
     draw(1201, &mut whole);
     draw(3, &mut four);
     draw(3, &mut five);
+    let mut times = [0.0; 120];
+    let mut rates = [0.0; 120];
+    set_knots(&mut times, &mut rates);
+    ask(&times, &rates);
+    let mut more_times = [0.0; 121];
+    let mut more_rates = [0.0; 121];
+    set_knots(&mut more_times, &mut more_rates);
+    ask(&more_times, &more_rates);
 }

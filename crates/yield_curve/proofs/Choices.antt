@@ -1,5 +1,5 @@
 -- Which arm of a choice is taken. Assumes nothing.
-use mathlib.Core.Path.{_≡_, refl}
+use mathlib.Core.Path.{_≡_}
 use mathlib.Core.Bool.{Bool, true, false, cond, _||_}
 
 module _ {Value : Type 0} (b : Bool) (x y : Value) where

@@ -10,8 +10,12 @@ use lib.Ieee.{Float}
 use borrow.Author.Tests.{eq-eqb, ne-eqb, ltb-false}
 use Rattle.refusals.specs.Outcome.{Outcome, refused, accepted, Line, line, firstOr, judged}
 use Rattle.refusals.specs.Table.{unequal, badKnotCount, badKnots}
-use Rattle.refusals.proofs.Verdicts.{verdict}
-use Rattle.refusals.proofs.Judging.{followed, judged-in-parts}
+use Rattle.refusals.specs.declared.Refusal.{Refusal}
+use Rattle.refusals.specs.declared.Verdict.{Verdict}
+use Rattle.refusals.specs.declared.Verdict.the-variants as verdict-is
+use Rattle.refusals.specs.Answers.{verdictOutcome}
+use Rattle.refusals.proofs.Verdicts.{verdict, refused-by, accepted-by}
+use Rattle.refusals.proofs.Judging.{none-is, passed, followed, judged-in-parts}
 use Rattle.yield_curve.specs.Curve.{curveLines}
 
 -- a line of one thing that has its cause, one that has not, and one that has not and is the last
@@ -68,3 +72,18 @@ module _ (times rates : List Float) where
 
     pub by-last-line : accepted tt ≡ verdict (curveLines times rates) → verdict (line k b ∷ []) ≡ verdict (curveLines times rates ++ line k b ∷ [])
     by-last-line e = ap (λ (o : Outcome Unit). followed o (verdict (line k b ∷ []))) e ∙ sym (judged-in-parts (curveLines times rates) (line k b ∷ []) tt)
+
+  -- ---- what is accepted has at most 120 knots
+  pub accepted-at-most-120 : (ms : List Line) → accepted tt ≡ verdict (curveLines times rates ++ ms) → length times ≤ 120
+  accepted-at-most-120 ms e = at-most-120 (length times) (none-is (passed tt tt _ _ (passed tt tt _ _ e .1) .0) 0)
+
+  -- ---- the answer of a function that asks line 7 after the curve: the verdict's refusal, or the value
+  module _ {Value : Type 0} (v : Value) (x : Verdict) (asked bad : Bool) (is-asked : asked ≡ bad) (judge : verdictOutcome x ≡ verdict (curveLines times rates ++ line 7 asked ∷ [])) where
+    by-bad : verdictOutcome x ≡ verdict (curveLines times rates ++ line 7 bad ∷ [])
+    by-bad = judge ∙ ap (λ (b : Bool). verdict (curveLines times rates ++ line 7 b ∷ [])) is-asked
+
+    pub answer-refused : (r : Refusal) → x ≡ verdict-is.Refused r → refused (r .number) (r .place) ≡ judged (curveLines times rates ++ line 7 bad ∷ []) v
+    answer-refused r h = refused-by _ v x r h by-bad
+
+    pub answer-given : (w : Value) → w ≡ v → x ≡ verdict-is.Accepted → accepted w ≡ judged (curveLines times rates ++ line 7 bad ∷ []) v
+    answer-given w e h = ap accepted e ∙ accepted-by _ v x h by-bad

@@ -1,10 +1,10 @@
 -- A curve before its first knot, past its last, and between them, for any formula between; and the four numbers of a segment. Assumes nothing.
-use mathlib.Core.Path.{_≡_, refl, sym, ap, _∙_}
+use mathlib.Core.Path.{_≡_, sym, ap, _∙_}
 use mathlib.Core.Bool.{Bool, true, false, cond}
 use mathlib.Core.List.{List}
 use Prim.Native.Nat.{ℕ, suc}
 use lib.Ieee.{Float, le}
-use Rattle.yield_curve.specs.Segments.{knot, lastOf, flatOutside, Ends, endsOf}
+use Rattle.yield_curve.specs.Segments.{knot, lastOf, flatOutside, endsOf}
 
 module _ (times rates : List Float) (t between : Float) (first : Float) (is-first : first ≡ knot times 0) where
   abbrev after : Float

@@ -8,3 +8,8 @@ pub mod Forwards
 pub mod Pars
 pub mod Pivots
 pub mod Points
+pub mod Filling
+pub mod Splines
+pub mod Outside
+pub mod Exactly
+pub mod Tight

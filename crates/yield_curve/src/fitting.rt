@@ -20,7 +20,10 @@ fn loadings_at(t: f64) -> Loadings
     ensures { λ l. ⌜ (l .slope ≡ slopeAt t) × (l .hump ≡ humpAt t) ⌝ }
 {
     if t < 1e-10 {
-        return Loadings { slope: 1.0, hump: 0.0 };
+        return Loadings {
+            slope: 1.0,
+            hump: 0.0,
+        };
     }
     crate::nelson_siegel::loadings_of(t / 0.5)
 }
@@ -41,9 +44,15 @@ fn with_point(e: Equation, g: f64, l: Loadings, rate: f64) -> Equation
 fn least_squares(times: &[f64], rates: &[f64]) -> System
     ensures { λ r. ⌜ r ≡ leastSquares (now (times .entry)) (now (rates .entry)) ⌝ }
 {
-    let mut first = Equation { x: 0.0, y: 0.0, z: 0.0, is: 0.0 };
-    let mut second = Equation { x: 0.0, y: 0.0, z: 0.0, is: 0.0 };
-    let mut third = Equation { x: 0.0, y: 0.0, z: 0.0, is: 0.0 };
+    let none = Equation {
+        x: 0.0,
+        y: 0.0,
+        z: 0.0,
+        is: 0.0,
+    };
+    let mut first = none;
+    let mut second = none;
+    let mut third = none;
     let mut i: usize = 0;
     while i < times.len() {
         let rate = knot_at(rates, i);
@@ -53,7 +62,11 @@ fn least_squares(times: &[f64], rates: &[f64]) -> System
         third = with_point(third, l.hump, l, rate);
         i += 1;
     }
-    System { first, second, third }
+    System {
+        first,
+        second,
+        third,
+    }
 }
 
 // The model of a curve, whatever the lists are.

@@ -5,3 +5,4 @@ pub mod linear;
 pub mod nelson_siegel;
 pub mod segments;
 pub mod solve;
+pub mod spline;

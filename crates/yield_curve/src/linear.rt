@@ -100,7 +100,11 @@ fn bad_times(t1: f64, t2: f64) -> bool
 fn bad_maturity(t: f64) -> bool
     ensures { λ r. ⌜ r ≡ (badTime t || tooManyPeriods (halfYears t)) ⌝ }
 {
-    if bad_time(t) { true } else { half_years(t) > 1200 }
+    if bad_time(t) {
+        true
+    } else {
+        half_years(t) > 1200
+    }
 }
 
 pub fn linear_interpolate(times: &[f64], rates: &[f64], t: f64) -> Number

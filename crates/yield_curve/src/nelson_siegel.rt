@@ -31,7 +31,10 @@ pub(crate) fn loadings_of(x: f64) -> Loadings
 {
     let left = exp(-x);
     let slope = (1.0 - left) / x;
-    Loadings { slope, hump: slope - left }
+    Loadings {
+        slope,
+        hump: slope - left,
+    }
 }
 
 // The forward rate as t goes to 0.

@@ -46,12 +46,24 @@ fn pivot_x(s: System) -> System
     let third = s.third;
     if is_larger(second.x, first.x) {
         if is_larger(third.x, second.x) {
-            return System { first: third, second, third: first };
+            return System {
+                first: third,
+                second,
+                third: first,
+            };
         }
-        return System { first: second, second: first, third };
+        return System {
+            first: second,
+            second: first,
+            third,
+        };
     }
     if is_larger(third.x, first.x) {
-        return System { first: third, second, third: first };
+        return System {
+            first: third,
+            second,
+            third: first,
+        };
     }
     s
 }
@@ -64,7 +76,11 @@ fn pivot_y(s: System) -> System
     let second = s.second;
     let third = s.third;
     if is_larger(third.y, second.y) {
-        return System { first, second: third, third: second };
+        return System {
+            first,
+            second: third,
+            third: second,
+        };
     }
     s
 }
@@ -122,7 +138,11 @@ fn clear_y(s: System) -> System
 fn no_solution() -> Unknowns
     ensures { λ r. ⌜ r ≡ zeros ⌝ }
 {
-    Unknowns { x: 0.0, y: 0.0, z: 0.0 }
+    Unknowns {
+        x: 0.0,
+        y: 0.0,
+        z: 0.0,
+    }
 }
 
 // Back from the last: z, then y, then x, each less what is known.

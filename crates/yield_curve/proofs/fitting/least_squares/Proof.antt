@@ -1,11 +1,10 @@
 -- `yield_curve::fitting::least_squares` meets its contract: after i points each equation has their sums. Assumes nothing.
 use mathlib.Core.Path.{_≡_, refl, ap, _∙_}
-use Prim.Native.Nat.{ℕ, _-_, _≤_}
+use Prim.Native.Nat.{_-_, _≤_}
 use native.Mathlib.Omega.{arith}
 use lib.ListN.{length}
 use lib.Ieee.{Float}
 use Rattle.elementary.specs.WholePower.{one}
-use Rattle.yield_curve.specs.declared.solve.System.{System}
 use Rattle.yield_curve.specs.Fit.{slopeAt, humpAt, leastSquares}
 use Rattle.yield_curve.proofs.Points.{upTo, no-point, all-points, one-point-more}
 use Rattle.yield_curve.proofs.fitting.least_squares.Statement.{statement}

@@ -3,9 +3,8 @@ use mathlib.Core.Path.{_≡_, refl, ap, _∙_}
 use Prim.Native.Nat.{ℕ, suc, _-_, _≤_}
 use native.Mathlib.Numerals.{add-one}
 use native.Mathlib.Omega.{arith}
-use mathlib.Core.List.{List}
 use lib.IntN.{pos}
-use lib.Ieee.{Float, binary64, mul, ofInt}
+use lib.Ieee.{binary64, mul, ofInt}
 use Rattle.numbers.specs.Sums.{addedUp}
 use Rattle.yield_curve.specs.Linear.{discountOf}
 use Rattle.yield_curve.proofs.Adding.{one-more}

@@ -1,11 +1,6 @@
 -- `yield_curve::linear::linear_interpolate` meets its contract: the verdict on the curve and on what is asked decides which answer it is. Assumes nothing.
-use mathlib.Core.Path.{ap, _∙_}
-use mathlib.Core.Bool.{Bool}
-use mathlib.Core.List.{[], _∷_, _++_}
-use Rattle.refusals.specs.Outcome.{line, judged}
-use Rattle.refusals.proofs.Verdicts.{verdict, refused-by, accepted-by}
-use Rattle.yield_curve.specs.Curve.{curveLines}
 use Rattle.yield_curve.specs.Linear.{linearInterpolate}
+use Rattle.yield_curve.proofs.CurveLines.{answer-refused, answer-given}
 use borrow.Author.Needs.{needs}
 use Rattle.yield_curve.proofs.linear.linear_interpolate.Statement.{statement}
 use Rattle.yield_curve.proofs.linear.linear_interpolate.Tie as tie
@@ -30,18 +25,14 @@ unfolding linearInterpolate
 returns c =
     let judge = c .before .before .before in
     let a = judge .before .before .before .before .args in
-    refused-by _ _ _ _ (c .before .refusal .given .1)
-    (judge .judge-asked .ensures ∙ ap (λ (b : Bool). verdict (curveLines (a .times .now) (a .rates .now) ++ line 7 b ∷ [])) (judge .before .bad-time .ensures))
+    answer-refused (a .times .now) (a .rates .now) _ _ _ _ (judge .before .bad-time .ensures) (judge .judge-asked .ensures) _ (c .before .refusal .given .1)
 
 returns-2 : tie.Need-returns-2
 unfolding linearInterpolate
 returns-2 c =
-    let told = c .before in
-    let judge = told .before .before in
+    let judge = c .before .before .before in
     let a = judge .before .before .before .before .args in
-    rw (c .yield-of .ensures)
-    (accepted-by _ _ _ (told .enum-told .given .1)
-    (judge .judge-asked .ensures ∙ ap (λ (b : Bool). verdict (curveLines (a .times .now) (a .rates .now) ++ line 7 b ∷ [])) (judge .before .bad-time .ensures)))
+    answer-given (a .times .now) (a .rates .now) _ _ _ _ (judge .before .bad-time .ensures) (judge .judge-asked .ensures) _ (c .yield-of .ensures) (c .before .enum-told .given .1)
 
 pub linear-interpolate-spec : {M : Type 1} → statement M
 linear-interpolate-spec =

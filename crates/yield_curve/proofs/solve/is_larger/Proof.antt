@@ -1,5 +1,4 @@
 -- `yield_curve::solve::is_larger` meets its contract. Assumes nothing.
-use mathlib.Core.Path.{refl}
 use borrow.Author.Needs.{needs}
 use Rattle.yield_curve.proofs.solve.is_larger.Statement.{statement}
 use Rattle.yield_curve.proofs.solve.is_larger.Tie as tie

@@ -1,5 +1,4 @@
 -- `yield_curve::solve::is_small` meets its contract. Assumes nothing.
-use mathlib.Core.Path.{refl}
 use borrow.Author.Needs.{needs}
 use Rattle.yield_curve.proofs.solve.is_small.Statement.{statement}
 use Rattle.yield_curve.proofs.solve.is_small.Tie as tie

@@ -1,7 +1,7 @@
 -- `yield_curve::solve::solve_system` meets its contract. Assumes nothing.
 use mathlib.Core.Path.{sym, ap, _∙_}
 use Rattle.yield_curve.specs.declared.solve.System.{System}
-use Rattle.yield_curve.specs.Solve.{small, pivotedA, pivotedB, clearedA, solvedA, solved}
+use Rattle.yield_curve.specs.Solve.{small, pivotedB, clearedA, solvedA, solved}
 use Rattle.yield_curve.proofs.Choices.{taken, left}
 use borrow.Author.Needs.{needs}
 use Rattle.yield_curve.proofs.solve.solve_system.Statement.{statement}
