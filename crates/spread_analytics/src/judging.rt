@@ -34,25 +34,25 @@ fn judge_items(number: u32, single: bool, items: &[f64]) -> Verdict
 }
 
 // Lines 7 and 9, of the flows.
-fn judge_flows(times: &[f64], amounts: &[f64], bad_price: bool) -> Verdict
+fn judge_flows(times: &[f64], amounts: &[f64], bad: bool) -> Verdict
     requires { ⌜ length (now times) ≡ length (now amounts) ⌝ }
-    ensures { λ r. ⌜ verdictOutcome r ≡ judged ((record { number = 7; causes = alone (tooManyPeriods (length (now (times .entry)))) (map badTime (now (times .entry))) }) ∷ (record { number = 9; causes = alone bad_price (map badNumber (now (amounts .entry))) }) ∷ []) tt ⌝ }
+    ensures { λ r. ⌜ verdictOutcome r ≡ judged ((record { number = 7; causes = alone (tooManyPeriods (length (now (times .entry)))) (map badTime (now (times .entry))) }) ∷ (record { number = 9; causes = alone bad (map badNumber (now (amounts .entry))) }) ∷ []) tt ⌝ }
 {
     match judge_items(7, times.len() > 1200, times) {
         Verdict::Refused(refusal) => Verdict::Refused(refusal),
-        Verdict::Accepted => judge_items(9, bad_price, amounts),
+        Verdict::Accepted => judge_items(9, bad, amounts),
     }
 }
 
 // Lines 4 to 7 and 9, of the flows, the curve and a market price.
-pub(crate) fn judge_spread(times: &[f64], amounts: &[f64], tenors: &[f64], rates: &[f64], bad_price: bool) -> Verdict
-    ensures { λ r. ⌜ verdictOutcome r ≡ judged (spreadLines (now (times .entry)) (now (amounts .entry)) (now (tenors .entry)) (now (rates .entry)) bad_price) tt ⌝ }
+pub(crate) fn judge_spread(times: &[f64], amounts: &[f64], tenors: &[f64], rates: &[f64], bad: bool) -> Verdict
+    ensures { λ r. ⌜ verdictOutcome r ≡ judged (spreadLines (now (times .entry)) (now (amounts .entry)) (now (tenors .entry)) (now (rates .entry)) bad) tt ⌝ }
 {
     if times.len() != amounts.len() {
         return Verdict::Refused(refuse(4));
     }
     match yield_curve::curve::judge_curve(tenors, rates) {
         Verdict::Refused(refusal) => Verdict::Refused(refusal),
-        Verdict::Accepted => judge_flows(times, amounts, bad_price),
+        Verdict::Accepted => judge_flows(times, amounts, bad),
     }
 }

@@ -132,12 +132,12 @@ fn spread_of(times: &[f64], amounts: &[f64], tenors: &[f64], rates: &[f64], mark
 }
 
 // The spread at which the flows are worth the market price.
-pub fn z_spread(times: &[f64], amounts: &[f64], tenors: &[f64], rates: &[f64], market_price: f64) -> SpreadAnswer
-    ensures { λ r. ⌜ spreadOutcome r ≡ zSpread (now (times .entry)) (now (amounts .entry)) (now (tenors .entry)) (now (rates .entry)) market_price ⌝ }
+pub fn z_spread(times: &[f64], amounts: &[f64], tenors: &[f64], rates: &[f64], market: f64) -> SpreadAnswer
+    ensures { λ r. ⌜ spreadOutcome r ≡ zSpread (now (times .entry)) (now (amounts .entry)) (now (tenors .entry)) (now (rates .entry)) market ⌝ }
 {
-    match judge_spread(times, amounts, tenors, rates, refusals::bad_number(market_price)) {
+    match judge_spread(times, amounts, tenors, rates, refusals::bad_number(market)) {
         Verdict::Refused(refusal) => SpreadAnswer::Refused(refusal),
-        Verdict::Accepted => spread_of(times, amounts, tenors, rates, market_price),
+        Verdict::Accepted => spread_of(times, amounts, tenors, rates, market),
     }
 }
 

@@ -1,65 +1,70 @@
+-- `spread_analytics::flows::judge_bond_flows` meets its contract: each test is a line's, and 3 has no cause where 7 has one. Assumes nothing.
+use mathlib.Core.Path.{sym, _∙_}
+use Rattle.refusals.proofs.Verdicts.{refused-as}
+use Rattle.spread_analytics.proofs.BondFlows.{refused-1, refused-3, refused-7, refused-9, accepted-all}
 use borrow.Author.Needs.{needs}
 use Rattle.spread_analytics.proofs.flows.judge_bond_flows.Statement.{statement}
 use Rattle.spread_analytics.proofs.flows.judge_bond_flows.Tie as tie
-use Rattle.spread_analytics.proofs.flows.judge_bond_flows.Reads as reads
-use Rattle.spread_analytics.proofs.flows.judge_bond_flows.Lts as lts
-use Rattle.refusals.proofs.bad_amount.Reads as bad-amount-reads
-use Rattle.refusals.proofs.bad_number.Reads as bad-number-reads
-use Rattle.refusals.proofs.refuse.Reads as refuse-reads
-use Rattle.spread_analytics.proofs.flows.bad_flows.Reads as bad-flows-reads
-use Rattle.spread_analytics.proofs.flows.too_little_room.Reads as too-little-room-reads
 
--- src/flows.rt:77:8
 bad-amount-requires : tie.Need-bad-amount-requires
 bad-amount-requires c κs = search needs
 
--- src/flows.rt:78:33
 refuse-requires : tie.Need-refuse-requires
 refuse-requires c κs = search needs
 
--- src/flows.rt:78:9
 returns : tie.Need-returns
-returns c = ?
+returns c =     refused-as 1 _ _ (c .refuse .ensures) (refused-1 _ _ _ _ (sym (c .before .before .bad-amount .ensures) ∙ c .before .if1 .taken))
 
--- src/flows.rt:80:8
 bad-flows-requires : tie.Need-bad-flows-requires
 bad-flows-requires c κs = search needs
 
--- src/flows.rt:81:33
 refuse-requires-2 : tie.Need-refuse-requires-2
 refuse-requires-2 c κs = search needs
 
--- src/flows.rt:81:9
 returns-2 : tie.Need-returns-2
-returns-2 c = ?
+returns-2 c =
+    let m = c .before .before in
+    let f = m .before in
+    refused-as 7 _ _ (c .refuse2 .ensures) (refused-7 _ _ _ _ (sym (f .before .bad-amount .ensures) ∙ f .if1 .left) (sym (m .bad-flows .ensures) ∙ c .before .if2 .taken))
 
--- src/flows.rt:83:8
 too-little-room-requires : tie.Need-too-little-room-requires
 too-little-room-requires c κs = search needs
 
--- src/flows.rt:84:33
 refuse-requires-3 : tie.Need-refuse-requires-3
 refuse-requires-3 c κs = search needs
 
--- src/flows.rt:84:9
 returns-3 : tie.Need-returns-3
-returns-3 c = ?
+returns-3 c =
+    let s = c .before .before in
+    let m = s .before .before in
+    let f = m .before in
+    refused-as 3 _ _ (c .refuse3 .ensures)
+    (refused-3 _ _ _ _ (sym (f .before .bad-amount .ensures) ∙ f .if1 .left) (sym (m .bad-flows .ensures) ∙ s .before .if2 .left) (sym (s .too-little-room .ensures) ∙ c .before .if3 .taken))
 
--- src/flows.rt:86:8
 bad-number-requires : tie.Need-bad-number-requires
 bad-number-requires c κs = search needs
 
--- src/flows.rt:87:33
 refuse-requires-4 : tie.Need-refuse-requires-4
 refuse-requires-4 c κs = search needs
 
--- src/flows.rt:87:9
 returns-4 : tie.Need-returns-4
-returns-4 c = ?
+returns-4 c =
+    let p = c .before .before in
+    let s = p .before .before in
+    let m = s .before .before in
+    let f = m .before in
+    refused-as 9 _ _ (c .refuse4 .ensures)
+    (refused-9 _ _ _ _ (sym (f .before .bad-amount .ensures) ∙ f .if1 .left) (sym (m .bad-flows .ensures) ∙ s .before .if2 .left) (sym (s .too-little-room .ensures) ∙ p .before .if3 .left)
+    (sym (p .bad-number .ensures) ∙ c .before .if4 .taken))
 
--- src/flows.rt:74:1
 returns-5 : tie.Need-returns-5
-returns-5 c = ?
+returns-5 c =
+    let p = c .before in
+    let s = p .before .before in
+    let m = s .before .before in
+    let f = m .before in
+    accepted-all _ _ _ _ (sym (f .before .bad-amount .ensures) ∙ f .if1 .left) (sym (m .bad-flows .ensures) ∙ s .before .if2 .left) (sym (s .too-little-room .ensures) ∙ p .before .if3 .left)
+    (sym (p .bad-number .ensures) ∙ c .if4 .left)
 
 pub judge-bond-flows-spec : {M : Type 1} → statement M
 judge-bond-flows-spec =

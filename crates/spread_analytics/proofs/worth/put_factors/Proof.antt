@@ -1,60 +1,55 @@
+-- `spread_analytics::worth::put_factors` meets its contract: after i turns the room holds the first i factors. Assumes nothing.
+use mathlib.Core.Path.{_≡_, refl, _∙_}
+use Prim.Native.Nat.{ℕ, _-_, _≤_}
+use lib.ListN.{length}
+use lib.Ieee.{binary64, neg, add, mul}
+use Rattle.elementary.specs.Exp.{exp}
+use Rattle.yield_curve.specs.Segments.{knot}
+use borrow.Author.Count.{below-none}
+use Rattle.spread_analytics.proofs.KeptRates.{Holds, holds-more}
+use native.Mathlib.Omega.{arith}
 use Rattle.spread_analytics.proofs.worth.put_factors.Statement.{statement}
 use Rattle.spread_analytics.proofs.worth.put_factors.Tie as tie
-use Rattle.spread_analytics.proofs.worth.put_factors.Reads as reads
-use Rattle.spread_analytics.proofs.worth.put_factors.Lts as lts
-use Rattle.spread_analytics.proofs.worth.factor.Reads as factor-reads
 
 abbrev Inv-loop : tie.InvT-loop
-Inv-loop times kept spread factors₀ i₀ factors i = ?
+Inv-loop times kept spread factors₀ i₀ factors i = (i ≤ length times) × Holds (λ (j : ℕ). exp (mul binary64 (neg (add binary64 (knot kept j) (spread .0))) (knot times j))) factors i
 
 abbrev μ-loop : tie.MeasureT-loop
-μ-loop times kept spread factors₀ i₀ factors i = ?
+μ-loop times kept spread factors₀ i₀ factors i = length times - i
 
--- src/worth.rt:42:5
 loop-holds : tie.Need-loop-holds Inv-loop μ-loop
-loop-holds c = ?
+loop-holds c = (omega arith, below-none _)
 
--- src/worth.rt:43:29
 mul-factor : tie.Need-mul-factor Inv-loop μ-loop
-mul-factor c = ?
+mul-factor c = omega arith
 
--- src/worth.rt:43:29
 element-copy-out-factor : tie.Need-element-copy-out-factor Inv-loop μ-loop
-element-copy-out-factor c = ?
+element-copy-out-factor c = omega arith
 
--- src/worth.rt:43:46
 mul-factor-2 : tie.Need-mul-factor-2 Inv-loop μ-loop
-mul-factor-2 c = ?
+mul-factor-2 c = omega arith
 
--- src/worth.rt:43:46
 shared-slice-read-factor : tie.Need-shared-slice-read-factor Inv-loop μ-loop
-shared-slice-read-factor c = ?
+shared-slice-read-factor c = omega arith
 
--- src/worth.rt:43:22
 factor-requires : tie.Need-factor-requires Inv-loop μ-loop
-factor-requires c κs = ?
+factor-requires c κs = tt
 
--- src/worth.rt:43:9
 mul-factors : tie.Need-mul-factors Inv-loop μ-loop
-mul-factors c = ?
+mul-factors c = omega arith
 
--- src/worth.rt:43:9
 element-write-factors : tie.Need-element-write-factors Inv-loop μ-loop
-element-write-factors c = ?
+element-write-factors c = omega arith
 
--- src/worth.rt:44:9
 add-i : tie.Need-add-i Inv-loop μ-loop
-add-i c = ?
+add-i c = omega arith
 
--- src/worth.rt:42:5
 loop-less : tie.Need-loop-less Inv-loop μ-loop
-loop-less c = ?
+loop-less c = omega arith
 
--- src/worth.rt:42:5
 loop-again : tie.Need-loop-again Inv-loop μ-loop
 loop-again c = ?
 
--- src/worth.rt:37:1
 returns : tie.Need-returns Inv-loop μ-loop
 returns c = ?
 

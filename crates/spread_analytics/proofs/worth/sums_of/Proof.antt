@@ -1,55 +1,56 @@
+-- `spread_analytics::worth::sums_of` meets its contract: after i turns the first i terms of each sum are added. Assumes nothing.
+use mathlib.Core.Path.{_≡_, refl, _∙_}
+use Prim.Native.Nat.{ℕ, _-_, _≤_}
+use lib.ListN.{length}
+use lib.Ieee.{binary64, mul}
+use Rattle.numbers.specs.Sums.{addedUp}
+use Rattle.yield_curve.specs.Segments.{knot}
+use Rattle.spread_analytics.proofs.KeptRates.{sum-more}
+use native.Mathlib.Omega.{arith}
 use Rattle.spread_analytics.proofs.worth.sums_of.Statement.{statement}
 use Rattle.spread_analytics.proofs.worth.sums_of.Tie as tie
-use Rattle.spread_analytics.proofs.worth.sums_of.Reads as reads
-use Rattle.spread_analytics.proofs.worth.sums_of.Lts as lts
 
 abbrev Inv-loop : tie.InvT-loop
-Inv-loop times amounts factors worth₀ timed₀ squared₀ i₀ worth timed squared i = ?
+Inv-loop times amounts factors worth₀ timed₀ squared₀ i₀ worth timed squared i =
+    (i ≤ length times)
+    × (worth ≡ addedUp (λ (j : ℕ). mul binary64 (knot amounts j) (knot factors j)) i)
+    × (timed ≡ addedUp (λ (j : ℕ). mul binary64 (mul binary64 (knot times j) (knot amounts j)) (knot factors j)) i)
+    × (squared ≡ addedUp (λ (j : ℕ). mul binary64 (mul binary64 (mul binary64 (knot times j) (knot times j)) (knot amounts j)) (knot factors j)) i)
 
 abbrev μ-loop : tie.MeasureT-loop
-μ-loop times amounts factors worth₀ timed₀ squared₀ i₀ worth timed squared i = ?
+μ-loop times amounts factors worth₀ timed₀ squared₀ i₀ worth timed squared i = length times - i
 
--- src/worth.rt:80:5
 loop-holds : tie.Need-loop-holds Inv-loop μ-loop
-loop-holds c = ?
+unfolding addedUp
+loop-holds c = (omega arith, refl, refl, refl)
 
--- src/worth.rt:81:20
 mul-time : tie.Need-mul-time Inv-loop μ-loop
-mul-time c = ?
+mul-time c = omega arith
 
--- src/worth.rt:81:20
 shared-slice-read-time : tie.Need-shared-slice-read-time Inv-loop μ-loop
-shared-slice-read-time c = ?
+shared-slice-read-time c = omega arith
 
--- src/worth.rt:82:22
 mul-amount : tie.Need-mul-amount Inv-loop μ-loop
-mul-amount c = ?
+mul-amount c = omega arith
 
--- src/worth.rt:82:22
 shared-slice-read-amount : tie.Need-shared-slice-read-amount Inv-loop μ-loop
-shared-slice-read-amount c = ?
+shared-slice-read-amount c = omega arith
 
--- src/worth.rt:83:22
 mul-factor : tie.Need-mul-factor Inv-loop μ-loop
-mul-factor c = ?
+mul-factor c = omega arith
 
--- src/worth.rt:83:22
 element-copy-out-factor : tie.Need-element-copy-out-factor Inv-loop μ-loop
-element-copy-out-factor c = ?
+element-copy-out-factor c = omega arith
 
--- src/worth.rt:87:9
 add-i : tie.Need-add-i Inv-loop μ-loop
-add-i c = ?
+add-i c = omega arith
 
--- src/worth.rt:80:5
 loop-less : tie.Need-loop-less Inv-loop μ-loop
-loop-less c = ?
+loop-less c = omega arith
 
--- src/worth.rt:80:5
 loop-again : tie.Need-loop-again Inv-loop μ-loop
 loop-again c = ?
 
--- src/worth.rt:70:1
 returns : tie.Need-returns Inv-loop μ-loop
 returns c = ?
 

@@ -1,0 +1,52 @@
+-- A room's first places filled one after the other, and sums over what they hold: with the curve's rates kept at the flows' times, the factors and sums are the definition's. Assumes nothing.
+use mathlib.Core.Path.{_≡_, refl, sym, ap, _∙_}
+use mathlib.Core.List.{List}
+use Prim.Native.Nat.{ℕ, zero, suc, _+_, _<_, _≤_}
+use native.Mathlib.Nat.{le-refl}
+use native.Mathlib.Numerals.{add-one}
+use native.Mathlib.Omega.{arith}
+use lib.ListN.{length, getD, set}
+use lib.Seq.{getD-set-same, getD-set-other}
+use lib.Ieee.{Float, nan, binary64, neg, add, mul}
+use borrow.Author.Count.{below-more}
+use Rattle.numbers.specs.Sums.{addedUp}
+use Rattle.elementary.specs.Exp.{exp}
+use Rattle.yield_curve.specs.Segments.{knot}
+use Rattle.spread_analytics.specs.Units.{decimal}
+use Rattle.spread_analytics.specs.Curves.{rateOf}
+use Rattle.spread_analytics.specs.Spread.{factorOf, worthOf}
+
+-- the first k places of a room hold f
+abbrev pub Holds : (ℕ → Float) → List Float → ℕ → Type 0
+Holds f room k = (j : ℕ) → j < k → knot room j ≡ f j
+
+pub holds-more : (f : ℕ → Float) (room : List Float) (i : ℕ) (v : Float) → Holds f room i → i < length room → v ≡ f i → Holds f (set room i v) (i + 1)
+holds-more f room i v h small e =
+    below-more (λ (j : ℕ). knot (set room i v) j ≡ f j) i (λ j less. getD-set-other room i j v nan (λ same. omega arith) ∙ h j less) (getD-set-same room i v nan small ∙ e)
+
+-- ---- sums
+pub sum-more : (f : ℕ → Float) (s v : Float) (i : ℕ) → s ≡ addedUp f i → v ≡ f i → add binary64 s v ≡ addedUp f (i + 1)
+unfolding addedUp
+sum-more f s v i e h = rw (add-one i, e, h)
+
+pub same-sum : (f g : ℕ → Float) (n : ℕ) → ((i : ℕ) → i < n → f i ≡ g i) → addedUp f n ≡ addedUp g n
+unfolding addedUp
+same-sum f g zero same = refl
+same-sum f g (suc n) same = rw (same-sum f g n (λ i h. same i (omega arith)), same n (le-refl (suc n)))
+
+-- ---- the flows' factors, over rates that were kept
+module _ (times amounts tenors rates kept factors : List Float) (points s : Float) (d : s ≡ decimal points)
+    (k : Holds (λ (i : ℕ). rateOf tenors rates (knot times i)) kept (length times))
+    (g : Holds (λ (i : ℕ). exp (mul binary64 (neg (add binary64 (knot kept i) s)) (knot times i))) factors (length times)) where
+  factor-is : Holds (factorOf times amounts tenors rates (decimal points)) factors (length times)
+  unfolding factorOf
+  factor-is i h = g i h ∙ rw (k i h, d)
+
+  -- a sum of any weights times the factors
+  pub discounted-is : (w : ℕ → Float)
+      → addedUp (λ (i : ℕ). mul binary64 (w i) (knot factors i)) (length times) ≡ addedUp (λ (i : ℕ). mul binary64 (w i) (factorOf times amounts tenors rates (decimal points) i)) (length times)
+  discounted-is w = same-sum _ _ (length times) (λ i h. ap (mul binary64 (w i)) (factor-is i h))
+
+  pub worth-is : addedUp (λ (i : ℕ). mul binary64 (knot amounts i) (knot factors i)) (length times) ≡ worthOf times amounts tenors rates points
+  unfolding worthOf
+  worth-is = discounted-is (knot amounts)

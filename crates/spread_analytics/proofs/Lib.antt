@@ -1,0 +1,8 @@
+pub mod RateCases
+pub mod LinesInParts
+pub mod Columns
+pub mod BondFlows
+pub mod ItemLine
+pub mod SpreadVerdict
+pub mod KeptRates
+pub mod Halvings
