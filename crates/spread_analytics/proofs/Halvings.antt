@@ -14,9 +14,9 @@ abbrev pub middle : Float → Float → Float
 middle lo hi = div binary64 (add binary64 lo hi) two
 
 module _ (times amounts tenors rates : List Float) (market lo hi : Float) where
-  pub no-turn : middle lo hi ≡ halved times amounts tenors rates market 0 lo hi
+  pub no-turn : (n : ℕ) → n ≡ 0 → middle lo hi ≡ halved times amounts tenors rates market n lo hi
   unfolding halved
-  no-turn = refl
+  no-turn n e = rw e
 
   module _ (n : ℕ) (more : 0 < n) (width : Float) (w : width ≡ absolute (sub binary64 hi lo)) where
     pub close : lt width narrow ≡ true → middle lo hi ≡ halved times amounts tenors rates market n lo hi

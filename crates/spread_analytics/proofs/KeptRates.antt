@@ -1,5 +1,6 @@
 -- A room's first places filled one after the other, and sums over what they hold: with the curve's rates kept at the flows' times, the factors and sums are the definition's. Assumes nothing.
 use mathlib.Core.Path.{_≡_, refl, sym, ap, _∙_}
+use mathlib.Core.Bool.{true, false}
 use mathlib.Core.List.{List}
 use Prim.Native.Nat.{ℕ, zero, suc, _+_, _<_, _≤_}
 use native.Mathlib.Nat.{le-refl}
@@ -7,14 +8,16 @@ use native.Mathlib.Numerals.{add-one}
 use native.Mathlib.Omega.{arith}
 use lib.ListN.{length, getD, set}
 use lib.Seq.{getD-set-same, getD-set-other}
-use lib.Ieee.{Float, nan, binary64, neg, add, mul}
+use lib.Ieee.{Float, nan, binary64, neg, add, mul, div, lt}
 use borrow.Author.Count.{below-more}
+use Rattle.numbers.specs.Clamps.{plusZero}
+use Rattle.numbers.specs.Sizes.{absolute}
 use Rattle.numbers.specs.Sums.{addedUp}
 use Rattle.elementary.specs.Exp.{exp}
 use Rattle.yield_curve.specs.Segments.{knot}
 use Rattle.spread_analytics.specs.Units.{decimal}
-use Rattle.spread_analytics.specs.Curves.{rateOf}
-use Rattle.spread_analytics.specs.Spread.{factorOf, worthOf}
+use Rattle.spread_analytics.specs.Curves.{tiny, rateOf}
+use Rattle.spread_analytics.specs.Spread.{factorOf, worthOf, durationOf, convexityOf, sensitivityOf}
 
 -- the first k places of a room hold f
 abbrev pub Holds : (ℕ → Float) → List Float → ℕ → Type 0
@@ -43,10 +46,36 @@ module _ (times amounts tenors rates kept factors : List Float) (points s : Floa
   factor-is i h = g i h ∙ rw (k i h, d)
 
   -- a sum of any weights times the factors
-  pub discounted-is : (w : ℕ → Float)
-      → addedUp (λ (i : ℕ). mul binary64 (w i) (knot factors i)) (length times) ≡ addedUp (λ (i : ℕ). mul binary64 (w i) (factorOf times amounts tenors rates (decimal points) i)) (length times)
-  discounted-is w = same-sum _ _ (length times) (λ i h. ap (mul binary64 (w i)) (factor-is i h))
+  pub discounted-is : (w : ℕ → Float) (n : ℕ) → n ≡ length times
+      → addedUp (λ (i : ℕ). mul binary64 (w i) (knot factors i)) n ≡ addedUp (λ (i : ℕ). mul binary64 (w i) (factorOf times amounts tenors rates (decimal points) i)) (length times)
+  discounted-is w n e =
+      ap (addedUp (λ (i : ℕ). mul binary64 (w i) (knot factors i))) e
+      ∙ same-sum (λ (i : ℕ). mul binary64 (w i) (knot factors i)) (λ (i : ℕ). mul binary64 (w i) (factorOf times amounts tenors rates (decimal points) i)) (length times)
+      (λ i h. ap (mul binary64 (w i)) (factor-is i h))
 
-  pub worth-is : addedUp (λ (i : ℕ). mul binary64 (knot amounts i) (knot factors i)) (length times) ≡ worthOf times amounts tenors rates points
+  pub worth-is : (n : ℕ) → n ≡ length times → addedUp (λ (i : ℕ). mul binary64 (knot amounts i) (knot factors i)) n ≡ worthOf times amounts tenors rates points
   unfolding worthOf
-  worth-is = discounted-is (knot amounts)
+  worth-is n e = discounted-is (knot amounts) n e
+
+  -- duration and convexity, where the worth is next to nothing and where it is not
+  module _ (worth size : Float) (w : worth ≡ addedUp (λ (i : ℕ). mul binary64 (knot amounts i) (knot factors i)) (length times)) (a : size ≡ absolute worth) where
+    is-worth : worth ≡ worthOf times amounts tenors rates points
+    is-worth = w ∙ worth-is (length times) refl
+
+    pub no-sensitivity : lt size tiny ≡ true → record { duration = plusZero; convexity = plusZero } ≡ sensitivityOf times amounts tenors rates points
+    unfolding sensitivityOf
+    no-sensitivity h = rw (sym is-worth, sym a, h)
+
+    pub sensitivity-is : lt size tiny ≡ false → (timed squared : Float)
+        → timed ≡ addedUp (λ (i : ℕ). mul binary64 (mul binary64 (knot times i) (knot amounts i)) (knot factors i)) (length times)
+        → squared ≡ addedUp (λ (i : ℕ). mul binary64 (mul binary64 (mul binary64 (knot times i) (knot times i)) (knot amounts i)) (knot factors i)) (length times)
+        → record { duration = div binary64 timed worth; convexity = div binary64 squared worth } ≡ sensitivityOf times amounts tenors rates points
+    unfolding sensitivityOf durationOf convexityOf
+    sensitivity-is h timed squared t q =
+        rw (
+          sym is-worth,
+          sym a,
+          h,
+          t ∙ discounted-is (λ (i : ℕ). mul binary64 (knot times i) (knot amounts i)) (length times) refl,
+          q ∙ discounted-is (λ (i : ℕ). mul binary64 (mul binary64 (knot times i) (knot times i)) (knot amounts i)) (length times) refl,
+        )

@@ -1,61 +1,58 @@
+-- `spread_analytics::flows::bond_cash_flows` meets its contract: a refusal leaves both lists, and else both columns are put. Assumes nothing.
+use denote.Ref.{now}
+use Rattle.spread_analytics.proofs.BondFlows.{room-for-all, refused-untouched, accepted-put}
+use borrow.Author.Needs.{needs}
 use Rattle.spread_analytics.proofs.flows.bond_cash_flows.Statement.{statement}
 use Rattle.spread_analytics.proofs.flows.bond_cash_flows.Tie as tie
-use Rattle.spread_analytics.proofs.flows.bond_cash_flows.Reads as reads
-use Rattle.spread_analytics.proofs.flows.bond_cash_flows.Lts as lts
-use Rattle.spread_analytics.proofs.flows.flow_count.Reads as flow-count-reads
-use Rattle.spread_analytics.proofs.flows.flow_coupon.Reads as flow-coupon-reads
-use Rattle.spread_analytics.proofs.flows.flow_period.Reads as flow-period-reads
-use Rattle.spread_analytics.proofs.flows.judge_bond_flows.Reads as judge-bond-flows-reads
-use Rattle.spread_analytics.proofs.flows.put_amounts.Reads as put-amounts-reads
-use Rattle.spread_analytics.proofs.flows.put_times.Reads as put-times-reads
 
--- src/flows.rt:134:9
 flow-count-requires : tie.Need-flow-count-requires
-flow-count-requires c κs = ?
+flow-count-requires c κs = tt
 
--- src/flows.rt:135:11
 judge-bond-flows-requires : tie.Need-judge-bond-flows-requires
-judge-bond-flows-requires c κs = ?
+judge-bond-flows-requires c κs = tt
 
--- src/flows.rt:136:26
 enum-known-refusal : tie.Need-enum-known-refusal
-enum-known-refusal c = ?
+enum-known-refusal c = search needs
 
--- src/flows.rt:138:23
 enum-told : tie.Need-enum-told
-enum-told c = ?
+enum-told c = search needs
 
--- src/flows.rt:138:37
 flow-period-requires : tie.Need-flow-period-requires
-flow-period-requires c κs = ?
+flow-period-requires c κs = tt
 
--- src/flows.rt:138:13
 put-times-requires : tie.Need-put-times-requires
-put-times-requires c κs = ?
+put-times-requires c κs =
+    let j = c .before .before .before .before in
+    room-for-all _ _ _ _ _ _ _ (c .before .before .enum-told .given .1) (j .judge-bond-flows .ensures) .0
 
--- src/flows.rt:139:41
 flow-coupon-requires : tie.Need-flow-coupon-requires
-flow-coupon-requires c κs = ?
+flow-coupon-requires c κs = tt
 
--- src/flows.rt:139:13
 put-amounts-requires : tie.Need-put-amounts-requires
-put-amounts-requires c κs = ?
+put-amounts-requires c κs =
+    let j = c .before .before .before .before .before .before .before .before .before in
+    room-for-all _ _ _ _ _ _ _ (c .before .before .before .before .before .before .before .enum-told .given .1) (j .judge-bond-flows .ensures) .1
 
--- src/flows.rt:129:1
 returns : tie.Need-returns
-returns c = ?
+returns c =
+    let j = c .before .before .before in
+    let a = j .before .before .before .before .args in
+    refused-untouched (a .face) (a .coupon) (a .tenor) (a .frequency) _ (now (a .times)) (now (a .amounts)) _ (j .before .flow-count .ensures) (j .judge-bond-flows .ensures) _ (c .before .refusal .given .1)
 
--- src/flows.rt:129:1
 same-length : tie.Need-same-length
-same-length c = ?
+same-length c = search needs
 
--- src/flows.rt:129:1
 same-length-2 : tie.Need-same-length-2
-same-length-2 c = ?
+same-length-2 c = search needs
 
--- src/flows.rt:129:1
 returns-2 : tie.Need-returns-2
-returns-2 c = ?
+returns-2 c =
+    let p = c .before .before in
+    let t = p .before .before .before .before .before in
+    let j = t .before .before .before .before .before in
+    let a = j .before .before .before .before .args in
+    accepted-put (a .face) (a .coupon) (a .tenor) (a .frequency) _ (now (a .times)) (now (a .amounts)) _ (j .before .flow-count .ensures) (j .judge-bond-flows .ensures) (t .before .before .before .enum-told .given .1)
+    _ _ (t .before .flow-period .ensures) (p .before .flow-coupon .ensures) _ _ (t .put-times .ensures) (p .put-amounts .ensures)
 
 pub bond-cash-flows-spec : {M : Type 1} → statement M
 bond-cash-flows-spec =

@@ -1,5 +1,8 @@
 -- `spread_analytics::flows::judge_bond_flows` meets its contract: each test is a line's, and 3 has no cause where 7 has one. Assumes nothing.
 use mathlib.Core.Path.{sym, _∙_}
+use mathlib.Core.Bool.{_||_}
+use lib.Dec.{ltb}
+use Rattle.refusals.specs.Table.{badAmount, badTime, tooManyPeriods, badNumber}
 use Rattle.refusals.proofs.Verdicts.{refused-as}
 use Rattle.spread_analytics.proofs.BondFlows.{refused-1, refused-3, refused-7, refused-9, accepted-all}
 use borrow.Author.Needs.{needs}
@@ -13,7 +16,12 @@ refuse-requires : tie.Need-refuse-requires
 refuse-requires c κs = search needs
 
 returns : tie.Need-returns
-returns c =     refused-as 1 _ _ (c .refuse .ensures) (refused-1 _ _ _ _ (sym (c .before .before .bad-amount .ensures) ∙ c .before .if1 .taken))
+returns c =
+    let f = c .before .before in
+    let a = f .before .args in
+    refused-as 1 _ _ (c .refuse .ensures)
+    (refused-1 (badAmount (a .face)) (badTime (a .tenor) || tooManyPeriods (a .count)) (ltb (a .times) (a .count) || ltb (a .amounts) (a .count)) (badNumber (a .coupon))
+    (sym (f .bad-amount .ensures) ∙ c .before .if1 .taken))
 
 bad-flows-requires : tie.Need-bad-flows-requires
 bad-flows-requires c κs = search needs

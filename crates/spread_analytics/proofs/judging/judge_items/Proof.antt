@@ -19,10 +19,10 @@ refuse-requires : tie.Need-refuse-requires Inv-loop μ-loop
 refuse-requires c κs = tt
 
 returns : tie.Need-returns Inv-loop μ-loop
-returns c = refused-as _ _ _ (c .refuse .ensures) (at-single _ _ _ (c .before .if1 .taken))
+returns c = refused-as _ _ _ (c .refuse .ensures) (at-single _ _ (c .before .before .before .args .items .now) (c .before .if1 .taken))
 
 loop-holds : tie.Need-loop-holds Inv-loop μ-loop
-loop-holds c = (omega arith, at-start _ _ _ (c .if1 .left))
+loop-holds c = (omega arith, at-start _ _ (c .before .before .args .items .now) (c .if1 .left))
 
 mul-bad-number : tie.Need-mul-bad-number Inv-loop μ-loop
 mul-bad-number c = omega arith

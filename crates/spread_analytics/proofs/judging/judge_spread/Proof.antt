@@ -1,43 +1,49 @@
+-- `spread_analytics::judging::judge_spread` meets its contract: line 4 of the flows, the lines of the curve, and then those of the flows. Assumes nothing.
+use mathlib.Core.Path.{_∙_}
+use mathlib.Core.List.{[], _∷_}
+use denote.Ref.{now}
+use Rattle.refusals.proofs.Verdicts.{refused-as}
+use Rattle.yield_curve.specs.Curve.{curveLines}
+use Rattle.spread_analytics.proofs.LinesInParts.{refused-first, accepted-first}
+use Rattle.spread_analytics.proofs.SpreadVerdict.{timesLine, amountsLine, refused-4, in-parts}
 use borrow.Author.Needs.{needs}
 use Rattle.spread_analytics.proofs.judging.judge_spread.Statement.{statement}
 use Rattle.spread_analytics.proofs.judging.judge_spread.Tie as tie
-use Rattle.spread_analytics.proofs.judging.judge_spread.Reads as reads
-use Rattle.spread_analytics.proofs.judging.judge_spread.Lts as lts
-use Rattle.refusals.proofs.refuse.Reads as refuse-reads
-use Rattle.spread_analytics.proofs.judging.judge_flows.Reads as judge-flows-reads
-use Rattle.yield_curve.proofs.curve.judge_curve.Reads as judge-curve-reads
 
--- src/judging.rt:52:33
 refuse-requires : tie.Need-refuse-requires
 refuse-requires c κs = search needs
 
--- src/judging.rt:52:9
 returns : tie.Need-returns
-returns c = ?
+returns c =
+    let a = c .before .before .before .before .before .before .args in
+    refused-as 4 _ _ (c .refuse .ensures) (refused-4 (now (a .times)) (now (a .amounts)) (now (a .tenors)) (now (a .rates)) (a .bad) (c .before .if1 .taken))
 
--- src/judging.rt:54:11
 judge-curve-requires : tie.Need-judge-curve-requires
 judge-curve-requires c κs = search needs
 
--- src/judging.rt:55:26
 enum-known-refusal : tie.Need-enum-known-refusal
 enum-known-refusal c = search needs
 
--- src/judging.rt:56:30
 enum-told : tie.Need-enum-told
 enum-told c = search needs
 
--- src/judging.rt:56:30
 judge-flows-requires : tie.Need-judge-flows-requires
-judge-flows-requires c κs = search needs
+judge-flows-requires c κs = c .before .before .before .if1 .left
 
--- src/judging.rt:48:1
 returns-2 : tie.Need-returns-2
-returns-2 c = ?
+returns-2 c =
+    let j = c .before .before .before in
+    let a = j .before .before .before .before .before .before .args in
+    refused-first (curveLines (now (a .tenors)) (now (a .rates))) (timesLine (now (a .times)) ∷ amountsLine (a .bad) (now (a .amounts)) ∷ []) tt _ (j .judge-curve .ensures) _ (c .before .refusal .given .1)
+    ∙ in-parts (now (a .times)) (now (a .amounts)) (now (a .tenors)) (now (a .rates)) (a .bad) (j .before .if1 .left)
 
--- src/judging.rt:48:1
 returns-3 : tie.Need-returns-3
-returns-3 c = ?
+returns-3 c =
+    let j = c .before .before .before in
+    let a = j .before .before .before .before .before .before .args in
+    c .judge-flows .ensures
+    ∙ accepted-first (curveLines (now (a .tenors)) (now (a .rates))) (timesLine (now (a .times)) ∷ amountsLine (a .bad) (now (a .amounts)) ∷ []) tt _ (j .judge-curve .ensures) (c .before .enum-told .given .1)
+    ∙ in-parts (now (a .times)) (now (a .amounts)) (now (a .tenors)) (now (a .rates)) (a .bad) (j .before .if1 .left)
 
 pub judge-spread-spec : {M : Type 1} → statement M
 judge-spread-spec =

@@ -1,33 +1,37 @@
+-- `spread_analytics::spread::duration_convexity` meets its contract: the verdict on the flows and the curve is its answer's. Assumes nothing.
+use mathlib.Core.Path.{ap, _∙_}
+use denote.Ref.{now}
+use mathlib.Core.Bool.{false}
+use Rattle.refusals.specs.Outcome.{accepted}
+use Rattle.refusals.proofs.Verdicts.{refused-by, accepted-by}
+use Rattle.spread_analytics.specs.Spread.{durationConvexity}
+use Rattle.spread_analytics.proofs.SpreadVerdict.{flows-listed}
+use borrow.Author.Needs.{needs}
 use Rattle.spread_analytics.proofs.spread.duration_convexity.Statement.{statement}
 use Rattle.spread_analytics.proofs.spread.duration_convexity.Tie as tie
-use Rattle.spread_analytics.proofs.spread.duration_convexity.Reads as reads
-use Rattle.spread_analytics.proofs.spread.duration_convexity.Lts as lts
-use Rattle.spread_analytics.proofs.judging.judge_spread.Reads as judge-spread-reads
-use Rattle.spread_analytics.proofs.spread.sensitivity_of.Reads as sensitivity-of-reads
 
--- src/spread.rt:169:11
 judge-spread-requires : tie.Need-judge-spread-requires
-judge-spread-requires c κs = ?
+judge-spread-requires c κs = tt
 
--- src/spread.rt:170:26
 enum-known-refusal : tie.Need-enum-known-refusal
-enum-known-refusal c = ?
+enum-known-refusal c = search needs
 
--- src/spread.rt:171:55
 enum-told : tie.Need-enum-told
-enum-told c = ?
+enum-told c = search needs
 
--- src/spread.rt:171:55
 sensitivity-of-requires : tie.Need-sensitivity-of-requires
-sensitivity-of-requires c κs = ?
+sensitivity-of-requires c κs =
+    let j = c .before .before in
+    let a = j .before .before .before .before .before .args in
+    flows-listed (now (a .times)) (now (a .amounts)) (now (a .tenors)) (now (a .rates)) false _ (c .enum-told .given .1) (j .judge-spread .ensures)
 
--- src/spread.rt:166:1
 returns : tie.Need-returns
-returns c = ?
+unfolding durationConvexity
+returns c = refused-by _ _ _ _ (c .before .refusal .given .1) (c .before .before .before .judge-spread .ensures)
 
--- src/spread.rt:166:1
 returns-2 : tie.Need-returns-2
-returns-2 c = ?
+unfolding durationConvexity
+returns-2 c = ap accepted (c .sensitivity-of .ensures) ∙ accepted-by _ _ _ (c .before .enum-told .given .1) (c .before .before .before .judge-spread .ensures)
 
 pub duration-convexity-spec : {M : Type 1} → statement M
 duration-convexity-spec =

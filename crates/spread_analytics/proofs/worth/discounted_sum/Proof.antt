@@ -1,5 +1,5 @@
 -- `spread_analytics::worth::discounted_sum` meets its contract: after i turns the first i terms are added. Assumes nothing.
-use mathlib.Core.Path.{_≡_, refl, _∙_}
+use mathlib.Core.Path.{_≡_, refl, ap, _∙_}
 use Prim.Native.Nat.{ℕ, _-_, _≤_}
 use lib.ListN.{length}
 use lib.Ieee.{binary64, mul}
@@ -39,10 +39,13 @@ loop-less : tie.Need-loop-less Inv-loop μ-loop
 loop-less c = omega arith
 
 loop-again : tie.Need-loop-again Inv-loop μ-loop
-loop-again c = ?
+loop-again c = (omega arith, sum-more _ _ _ _ (c .before .before .before .loop .inv .1) refl)
 
 returns : tie.Need-returns Inv-loop μ-loop
-returns c = ?
+returns c =
+    let h = c .before in
+    let e : h .loop .i ≡ length (h .before .args .amounts .now) = omega arith in
+    h .loop .inv .1 ∙ ap (addedUp _) e
 
 pub discounted-sum-spec : {M : Type 1} → statement M
 discounted-sum-spec =

@@ -1,6 +1,6 @@
--- `spread_analytics::worth::keep_rates` meets its contract: after i turns the room holds the rates at the first i times. Assumes nothing.
-use mathlib.Core.Path.{_≡_, refl, _∙_}
-use Prim.Native.Nat.{ℕ, _-_, _≤_}
+-- `spread_analytics::worth::keep_rates` meets its contract: after i turns the room holds the first i rates. Assumes nothing.
+use mathlib.Core.Path.{_≡_}
+use Prim.Native.Nat.{ℕ, _-_, _<_, _≤_}
 use lib.ListN.{length}
 use Rattle.yield_curve.specs.Segments.{knot}
 use borrow.Author.Count.{below-none}
@@ -41,10 +41,10 @@ loop-less : tie.Need-loop-less Inv-loop μ-loop
 loop-less c = omega arith
 
 loop-again : tie.Need-loop-again Inv-loop μ-loop
-loop-again c = ?
+loop-again c = let h = c .before .before .before .loop in (omega arith, holds-more _ _ _ _ (h .inv .1) (omega arith) (c .rate-of .ensures))
 
 returns : tie.Need-returns Inv-loop μ-loop
-returns c = ?
+returns c =     λ j small. c .before .loop .inv .1 j (omega arith)
 
 pub keep-rates-spec : {M : Type 1} → statement M
 keep-rates-spec =

@@ -1,11 +1,11 @@
 -- `spread_analytics::worth::put_factors` meets its contract: after i turns the room holds the first i factors. Assumes nothing.
-use mathlib.Core.Path.{_≡_, refl, _∙_}
-use Prim.Native.Nat.{ℕ, _-_, _≤_}
+use mathlib.Core.Path.{_≡_}
+use Prim.Native.Nat.{ℕ, _-_, _<_, _≤_}
 use lib.ListN.{length}
-use lib.Ieee.{binary64, neg, add, mul}
-use Rattle.elementary.specs.Exp.{exp}
 use Rattle.yield_curve.specs.Segments.{knot}
 use borrow.Author.Count.{below-none}
+use lib.Ieee.{binary64, neg, add, mul}
+use Rattle.elementary.specs.Exp.{exp}
 use Rattle.spread_analytics.proofs.KeptRates.{Holds, holds-more}
 use native.Mathlib.Omega.{arith}
 use Rattle.spread_analytics.proofs.worth.put_factors.Statement.{statement}
@@ -48,10 +48,10 @@ loop-less : tie.Need-loop-less Inv-loop μ-loop
 loop-less c = omega arith
 
 loop-again : tie.Need-loop-again Inv-loop μ-loop
-loop-again c = ?
+loop-again c = let h = c .before .before .before .before .loop in (omega arith, holds-more _ _ _ _ (h .inv .1) (omega arith) (c .factor .ensures))
 
 returns : tie.Need-returns Inv-loop μ-loop
-returns c = ?
+returns c =     λ j small. c .before .loop .inv .1 j (omega arith)
 
 pub put-factors-spec : {M : Type 1} → statement M
 put-factors-spec =

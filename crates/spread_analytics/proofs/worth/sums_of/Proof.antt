@@ -1,5 +1,5 @@
 -- `spread_analytics::worth::sums_of` meets its contract: after i turns the first i terms of each sum are added. Assumes nothing.
-use mathlib.Core.Path.{_≡_, refl, _∙_}
+use mathlib.Core.Path.{_≡_, refl, ap, _∙_}
 use Prim.Native.Nat.{ℕ, _-_, _≤_}
 use lib.ListN.{length}
 use lib.Ieee.{binary64, mul}
@@ -49,10 +49,16 @@ loop-less : tie.Need-loop-less Inv-loop μ-loop
 loop-less c = omega arith
 
 loop-again : tie.Need-loop-again Inv-loop μ-loop
-loop-again c = ?
+loop-again c =
+    let i = c .before .before .before .before .loop .inv in
+    (omega arith, sum-more _ _ _ _ (i .1) refl, sum-more _ _ _ _ (i .2) refl, sum-more _ _ _ _ (i .3) refl)
 
 returns : tie.Need-returns Inv-loop μ-loop
-returns c = ?
+returns c =
+    let h = c .before in
+    let i = h .loop .inv in
+    let e : h .loop .i ≡ length (h .before .args .times .now) = omega arith in
+    (i .1 ∙ ap (addedUp _) e, i .2 ∙ ap (addedUp _) e, i .3 ∙ ap (addedUp _) e)
 
 pub sums-of-spec : {M : Type 1} → statement M
 sums-of-spec =
