@@ -108,21 +108,21 @@ module _ (face coupon tenor : Float) (frequency count : ℕ) (times amounts : Li
 
   pub refused-untouched : (r : Refusal) → x ≡ verdict-is.Refused r
       → (refused (r .number) (r .place) ≡ outcome)
-      × (times ≡ columnIn outcome (flowTime face coupon tenor frequency) times)
-      × (amounts ≡ columnIn outcome (flowAmount face coupon tenor frequency) amounts)
+      × ((times ≡ columnIn outcome (flowTime face coupon tenor frequency) times)
+      × (amounts ≡ columnIn outcome (flowAmount face coupon tenor frequency) amounts))
   refused-untouched r h =
       let o = refused-is r h in
-      (o, ap (λ (y : Outcome ℕ). columnIn y (flowTime face coupon tenor frequency) times) o, ap (λ (y : Outcome ℕ). columnIn y (flowAmount face coupon tenor frequency) amounts) o)
+      (o, (ap (λ (y : Outcome ℕ). columnIn y (flowTime face coupon tenor frequency) times) o, ap (λ (y : Outcome ℕ). columnIn y (flowAmount face coupon tenor frequency) amounts) o))
 
   pub accepted-put : x ≡ verdict-is.Accepted → (period paid : Float) → period ≡ div binary64 one (perYear frequency) → paid ≡ div binary64 (mul binary64 face coupon) (perYear frequency)
       → (times′ amounts′ : List Float)
       → times′ ≡ firstOf (λ (i : ℕ). mul binary64 (ofInt binary64 (pos i)) period) count ++ drop count times
       → amounts′ ≡ firstOf (λ (i : ℕ). cond (eqb i count) (add binary64 paid face) paid) count ++ drop count amounts
       → (accepted count ≡ outcome)
-      × (times′ ≡ columnIn outcome (flowTime face coupon tenor frequency) times)
-      × (amounts′ ≡ columnIn outcome (flowAmount face coupon tenor frequency) amounts)
+      × ((times′ ≡ columnIn outcome (flowTime face coupon tenor frequency) times)
+      × (amounts′ ≡ columnIn outcome (flowAmount face coupon tenor frequency) amounts))
   accepted-put h period paid p q times′ amounts′ ts bs =
       let o = accepted-is h in
       (o,
-       ts ∙ times-are face coupon tenor frequency count period p times ∙ ap (λ (y : Outcome ℕ). columnIn y (flowTime face coupon tenor frequency) times) o,
-       bs ∙ amounts-are face coupon tenor frequency count n paid q amounts ∙ ap (λ (y : Outcome ℕ). columnIn y (flowAmount face coupon tenor frequency) amounts) o)
+       (ts ∙ times-are face coupon tenor frequency count period p times ∙ ap (λ (y : Outcome ℕ). columnIn y (flowTime face coupon tenor frequency) times) o,
+       bs ∙ amounts-are face coupon tenor frequency count n paid q amounts ∙ ap (λ (y : Outcome ℕ). columnIn y (flowAmount face coupon tenor frequency) amounts) o))

@@ -1,5 +1,5 @@
 -- The search by halvings, one turn at a time: it stops where the ends are close, and else goes on in the half that the errors cross in. Assumes nothing.
-use mathlib.Core.Path.{_≡_, refl, sym}
+use mathlib.Core.Path.{_≡_, sym, _∙_}
 use mathlib.Core.Bool.{true, false, cond}
 use mathlib.Core.List.{List}
 use Prim.Native.Nat.{ℕ, zero, suc, _-_, _<_}
@@ -29,23 +29,34 @@ module _ (times amounts tenors rates : List Float) (market lo hi : Float) where
 
     module _ (h : lt width narrow ≡ false) (below error : Float) (b : below ≡ miss times amounts tenors rates market lo)
         (e : error ≡ miss times amounts tenors rates market (middle lo hi)) where
-      pub lower-half : le (mul binary64 below error) plusZero ≡ true
+      into-lower : le (mul binary64 below error) plusZero ≡ true
           → halved times amounts tenors rates market n lo hi ≡ halved times amounts tenors rates market (n - 1) lo (middle lo hi)
       unfolding halved crosses
-      lower-half c = go n more
+      into-lower c = go n more
         where
           go : (m : ℕ) → 0 < m → halved times amounts tenors rates market m lo hi ≡ halved times amounts tenors rates market (m - 1) lo (middle lo hi)
           go zero l = absurd (omega arith)
           go (suc m) l = let p : suc m - 1 ≡ m = omega arith in rw (p, sym w, h, sym b, sym e, c)
 
-      pub upper-half : le (mul binary64 below error) plusZero ≡ false
+      into-upper : le (mul binary64 below error) plusZero ≡ false
           → halved times amounts tenors rates market n lo hi ≡ halved times amounts tenors rates market (n - 1) (middle lo hi) hi
       unfolding halved crosses
-      upper-half c = go n more
+      into-upper c = go n more
         where
           go : (m : ℕ) → 0 < m → halved times amounts tenors rates market m lo hi ≡ halved times amounts tenors rates market (m - 1) (middle lo hi) hi
           go zero l = absurd (omega arith)
           go (suc m) l = let p : suc m - 1 ≡ m = omega arith in rw (p, sym w, h, sym b, sym e, c)
+
+      -- the ends after a turn, and the error that is kept with the lower one
+      module _ (all lo′ hi′ below′ : Float) (i : all ≡ halved times amounts tenors rates market n lo hi) where
+        abbrev Onward : Type 0
+        Onward = (below′ ≡ miss times amounts tenors rates market lo′) × (all ≡ halved times amounts tenors rates market (n - 1) lo′ hi′)
+
+        pub lower-half : le (mul binary64 below error) plusZero ≡ true → lo′ ≡ lo → hi′ ≡ middle lo hi → below′ ≡ below → Onward
+        lower-half c p q r = (rw (r, p) b, i ∙ rw (p, q) (into-lower c))
+
+        pub upper-half : le (mul binary64 below error) plusZero ≡ false → lo′ ≡ middle lo hi → hi′ ≡ hi → below′ ≡ error → Onward
+        upper-half c p q r = (rw (r, p) e, i ∙ rw (p, q) (into-upper c))
 
 -- ---- which answer is given, by the errors at the two ends
 module _ (times amounts tenors rates : List Float) (market low high : Float) (l : low ≡ miss times amounts tenors rates market lowest)

@@ -1,5 +1,8 @@
 -- `spread_analytics::flows::bond_cash_flows` meets its contract: a refusal leaves both lists, and else both columns are put. Assumes nothing.
+use mathlib.Core.Bool.{_||_}
+use lib.ListN.{length}
 use denote.Ref.{now}
+use Rattle.refusals.specs.Table.{badAmount, badTime, tooManyPeriods, badNumber}
 use Rattle.spread_analytics.proofs.BondFlows.{room-for-all, refused-untouched, accepted-put}
 use borrow.Author.Needs.{needs}
 use Rattle.spread_analytics.proofs.flows.bond_cash_flows.Statement.{statement}
@@ -23,7 +26,10 @@ flow-period-requires c κs = tt
 put-times-requires : tie.Need-put-times-requires
 put-times-requires c κs =
     let j = c .before .before .before .before in
-    room-for-all _ _ _ _ _ _ _ (c .before .before .enum-told .given .1) (j .judge-bond-flows .ensures) .0
+    let a = j .before .before .before .before .args in
+    let n = j .before .flow-count .result in
+    room-for-all (badAmount (a .face)) (badTime (a .tenor) || tooManyPeriods n) (badNumber (a .coupon)) (length (now (a .times))) (length (now (a .amounts))) n _
+    (c .before .before .enum-told .given .1) (j .judge-bond-flows .ensures) .0
 
 flow-coupon-requires : tie.Need-flow-coupon-requires
 flow-coupon-requires c κs = tt
@@ -31,7 +37,10 @@ flow-coupon-requires c κs = tt
 put-amounts-requires : tie.Need-put-amounts-requires
 put-amounts-requires c κs =
     let j = c .before .before .before .before .before .before .before .before .before in
-    room-for-all _ _ _ _ _ _ _ (c .before .before .before .before .before .before .before .enum-told .given .1) (j .judge-bond-flows .ensures) .1
+    let a = j .before .before .before .before .args in
+    let n = j .before .flow-count .result in
+    room-for-all (badAmount (a .face)) (badTime (a .tenor) || tooManyPeriods n) (badNumber (a .coupon)) (length (now (a .times))) (length (now (a .amounts))) n _
+    (c .before .before .before .before .before .before .before .enum-told .given .1) (j .judge-bond-flows .ensures) .1
 
 returns : tie.Need-returns
 returns c =

@@ -50,7 +50,20 @@ loop-less : tie.Need-loop-less Inv-loop μ-loop
 loop-less c = omega arith
 
 loop-again : tie.Need-loop-again Inv-loop μ-loop
-loop-again c = ?
+loop-again c =
+    let m = c .before in
+    let v = m .before .before .before in
+    let h = v .before .before in
+    let a = h .before .before .before .args in
+    λ tenors rates k l.
+    let i = h .loop .inv tenors rates k l in
+    let error = m .miss .ensures tenors rates k in
+    ⊎-elim
+    (λ u. lower-half (now (a .times)) (now (a .amounts)) tenors rates (a .market) (h .loop .lo) (h .loop .hi) (h .loop .left) (v .before .loop-test .taken) _ (v .absolute-value .ensures)
+    (m .before .before .if1 .left) (h .loop .below) _ (i .0) error _ (c .if2 .lo) (c .if2 .hi) (c .if2 .below) (i .1) (u .0 .taken) (u .1) (u .2) (u .3))
+    (λ u. upper-half (now (a .times)) (now (a .amounts)) tenors rates (a .market) (h .loop .lo) (h .loop .hi) (h .loop .left) (v .before .loop-test .taken) _ (v .absolute-value .ensures)
+    (m .before .before .if1 .left) (h .loop .below) _ (i .0) error _ (c .if2 .lo) (c .if2 .hi) (c .if2 .below) (i .1) (u .0 .left) (u .1) (u .2) (u .3))
+    (c .if2 .came)
 
 returns-2 : tie.Need-returns-2 Inv-loop μ-loop
 returns-2 c =

@@ -28,7 +28,7 @@ returns c =
     let d = f .before .before in
     let k = d .before .before in
     let a = k .before .before .before .before .before .before .args in
-    no-sensitivity (now (a .times)) (now (a .amounts)) (now (a .tenors)) (now (a .rates)) _ _ _ _ (d .to-decimal .ensures) (k .keep-rates .ensures) (f .put-factors .ensures)
+    no-sensitivity (now (a .times)) (now (a .amounts)) (now (a .tenors)) (now (a .rates)) (k .keep-rates .last .1 .1 .1 .0) (f .put-factors .last .1 .1 .1 .0) _ _ (d .to-decimal .ensures) (k .keep-rates .ensures) (f .put-factors .ensures)
     _ _ (s .sums-of .ensures .0) (c .before .absolute-value .ensures) (c .if1 .taken)
 
 returns-2 : tie.Need-returns-2
@@ -39,8 +39,8 @@ returns-2 c =
     let d = f .before .before in
     let k = d .before .before in
     let a = k .before .before .before .before .before .before .args in
-    sensitivity-is (now (a .times)) (now (a .amounts)) (now (a .tenors)) (now (a .rates)) _ _ _ _ (d .to-decimal .ensures) (k .keep-rates .ensures) (f .put-factors .ensures)
-    _ _ (s .sums-of .ensures .0) (e .before .absolute-value .ensures) (e .if1 .left) _ _ (s .sums-of .ensures .1) (s .sums-of .ensures .2)
+    sensitivity-is (now (a .times)) (now (a .amounts)) (now (a .tenors)) (now (a .rates)) (k .keep-rates .last .1 .1 .1 .0) (f .put-factors .last .1 .1 .1 .0) _ _ (d .to-decimal .ensures) (k .keep-rates .ensures) (f .put-factors .ensures)
+    _ _ (s .sums-of .ensures .0) (e .before .absolute-value .ensures) (e .if1 .left) _ _ (s .sums-of .ensures .1 .0) (s .sums-of .ensures .1 .1)
 
 pub sensitivity-of-spec : {M : Type 1} → statement M
 sensitivity-of-spec =

@@ -4,6 +4,7 @@ use Prim.Native.Nat.{ℕ, _-_, _<_, _≤_}
 use lib.ListN.{length}
 use Rattle.yield_curve.specs.Segments.{knot}
 use borrow.Author.Count.{below-none}
+use denote.Ref.{now}
 use Rattle.spread_analytics.specs.Curves.{rateOf}
 use Rattle.spread_analytics.proofs.KeptRates.{Holds, holds-more}
 use native.Mathlib.Omega.{arith}
@@ -41,7 +42,10 @@ loop-less : tie.Need-loop-less Inv-loop μ-loop
 loop-less c = omega arith
 
 loop-again : tie.Need-loop-again Inv-loop μ-loop
-loop-again c = let h = c .before .before .before .loop in (omega arith, holds-more _ _ _ _ (h .inv .1) (omega arith) (c .rate-of .ensures))
+loop-again c =
+    let h = c .before .before .before .loop in
+    let a = c .before .before .before .before .before .before .before .args in
+    (omega arith, holds-more (λ (j : ℕ). rateOf (now (a .tenors)) (now (a .rates)) (knot (now (a .times)) j)) _ _ _ (h .inv .1) (omega arith) (c .rate-of .ensures))
 
 returns : tie.Need-returns Inv-loop μ-loop
 returns c =     λ j small. c .before .loop .inv .1 j (omega arith)

@@ -4,6 +4,7 @@ use Prim.Native.Nat.{ℕ, _-_, _<_, _≤_}
 use lib.ListN.{length}
 use Rattle.yield_curve.specs.Segments.{knot}
 use borrow.Author.Count.{below-none}
+use denote.Ref.{now}
 use lib.Ieee.{binary64, neg, add, mul}
 use Rattle.elementary.specs.Exp.{exp}
 use Rattle.spread_analytics.proofs.KeptRates.{Holds, holds-more}
@@ -48,7 +49,10 @@ loop-less : tie.Need-loop-less Inv-loop μ-loop
 loop-less c = omega arith
 
 loop-again : tie.Need-loop-again Inv-loop μ-loop
-loop-again c = let h = c .before .before .before .before .loop in (omega arith, holds-more _ _ _ _ (h .inv .1) (omega arith) (c .factor .ensures))
+loop-again c =
+    let h = c .before .before .before .before .loop in
+    let a = c .before .before .before .before .before .before .args in
+    (omega arith, holds-more (λ (j : ℕ). exp (mul binary64 (neg (add binary64 (knot (now (a .kept)) j) (a .spread .0))) (knot (now (a .times)) j))) _ _ _ (h .inv .1) (omega arith) (c .factor .ensures))
 
 returns : tie.Need-returns Inv-loop μ-loop
 returns c =     λ j small. c .before .loop .inv .1 j (omega arith)

@@ -58,7 +58,7 @@ returns c =
     let h = c .before in
     let i = h .loop .inv in
     let e : h .loop .i ≡ length (h .before .args .times .now) = omega arith in
-    (i .1 ∙ ap (addedUp _) e, i .2 ∙ ap (addedUp _) e, i .3 ∙ ap (addedUp _) e)
+    (i .1 ∙ ap (addedUp _) e, (i .2 ∙ ap (addedUp _) e, i .3 ∙ ap (addedUp _) e))
 
 pub sums-of-spec : {M : Type 1} → statement M
 sums-of-spec =

@@ -22,7 +22,7 @@ returns c =
     let a = s .args in
     λ tenors rates k.
     c .discounted-sum .ensures
-    ∙ worth-is (now (a .times)) (now (a .amounts)) tenors rates (now (a .kept)) _ _ _ (c .before .before .before .before .to-decimal .ensures) k (c .before .before .put-factors .ensures) _ (sym (s .pre .0))
+    ∙ worth-is (now (a .times)) (now (a .amounts)) tenors rates (now (a .kept)) (c .before .before .put-factors .last .1 .1 .1 .0) _ _ (c .before .before .before .before .to-decimal .ensures) k (c .before .before .put-factors .ensures) _ (sym (s .pre .0))
 
 pub worth-at-spec : {M : Type 1} → statement M
 worth-at-spec =
