@@ -76,3 +76,8 @@ module _ (times amounts tenors rates : List Float) (bad : Bool) where
       let after-5 = passed tt tt _ _ (after-4 .1) in
       let after-6 = passed tt tt _ _ (after-5 .1) in
       (same _ _ (either _ (unequal (length tenors) (length rates)) (none-is (after-4 .0) 0)), at-most-1200 times _ (after-6 .1))
+
+-- a bad price, told by a test of its own
+pub by-price : (times amounts tenors rates : List Float) {told bad : Bool} {o : Outcome Unit} → told ≡ bad
+    → o ≡ verdict (spreadLines times amounts tenors rates told) → o ≡ verdict (spreadLines times amounts tenors rates bad)
+by-price times amounts tenors rates e h = h ∙ ap (λ (b : Bool). verdict (spreadLines times amounts tenors rates b)) e

@@ -64,8 +64,8 @@ pub fn pv_cash_flows(times: &[f64], amounts: &[f64], tenors: &[f64], rates: &[f6
 }
 
 // The error of a spread: its worth less the market's.
-fn miss(times: &[f64], amounts: &[f64], kept: &[f64; 1200], room: &mut [f64; 1200], market: f64, spread: BasisPoints) -> f64
-    requires { ⌜ (length (now times) ≡ length (now amounts)) × (length (now times) ≤ 1200) ⌝ }
+fn miss(times: &[f64], amounts: &[f64], kept: &[f64], room: &mut [f64], market: f64, spread: BasisPoints) -> f64
+    requires { ⌜ (length (now times) ≡ length (now amounts)) × (length (now times) ≤ length (now kept)) × (length (now times) ≤ length (now room)) ⌝ }
     ensures {
         λ r. ⌜ ((tenors rates : List Float) → ((i : ℕ) → i < length (now (times .entry)) → knot (now (kept .entry)) i ≡ rateOf tenors rates (knot (now (times .entry)) i))
             → r ≡ miss (now (times .entry)) (now (amounts .entry)) tenors rates market (spread .0)) ⌝
@@ -75,8 +75,8 @@ fn miss(times: &[f64], amounts: &[f64], kept: &[f64; 1200], room: &mut [f64; 120
 }
 
 // The spread between the ends, by at most 100 halvings; the error at the lower end is kept.
-fn halved(times: &[f64], amounts: &[f64], kept: &[f64; 1200], room: &mut [f64; 1200], market: f64, low: f64) -> BasisPoints
-    requires { ⌜ (length (now times) ≡ length (now amounts)) × (length (now times) ≤ 1200) ⌝ }
+fn halved(times: &[f64], amounts: &[f64], kept: &[f64], room: &mut [f64], market: f64, low: f64) -> BasisPoints
+    requires { ⌜ (length (now times) ≡ length (now amounts)) × (length (now times) ≤ length (now kept)) × (length (now times) ≤ length (now room)) ⌝ }
     ensures {
         λ r. ⌜ ((tenors rates : List Float) → ((i : ℕ) → i < length (now (times .entry)) → knot (now (kept .entry)) i ≡ rateOf tenors rates (knot (now (times .entry)) i))
             → low ≡ miss (now (times .entry)) (now (amounts .entry)) tenors rates market lowest

@@ -15,8 +15,8 @@ use crate::units::to_decimal;
 use elementary::exp::exp;
 
 // The curve's rates at the flows' times, kept so that they are looked up once.
-pub(crate) fn keep_rates(times: &[f64], tenors: &[f64], rates: &[f64], kept: &mut [f64; 1200])
-    requires { ⌜ length (now times) ≤ 1200 ⌝ }
+pub(crate) fn keep_rates(times: &[f64], tenors: &[f64], rates: &[f64], kept: &mut [f64])
+    requires { ⌜ length (now times) ≤ length (now kept) ⌝ }
     ensures { λ _. ⌜ ((i : ℕ) → i < length (now (times .entry)) → knot (now (kept .exit)) i ≡ rateOf (now (tenors .entry)) (now (rates .entry)) (knot (now (times .entry)) i)) ⌝ }
 {
     let mut i: usize = 0;
@@ -34,8 +34,8 @@ fn factor(rate: f64, spread: DecimalRate, time: f64) -> f64
 }
 
 // The flows' factors at a spread over the kept rates.
-pub(crate) fn put_factors(times: &[f64], kept: &[f64; 1200], spread: DecimalRate, factors: &mut [f64; 1200])
-    requires { ⌜ length (now times) ≤ 1200 ⌝ }
+pub(crate) fn put_factors(times: &[f64], kept: &[f64], spread: DecimalRate, factors: &mut [f64])
+    requires { ⌜ (length (now times) ≤ length (now kept)) × (length (now times) ≤ length (now factors)) ⌝ }
     ensures { λ _. ⌜ ((i : ℕ) → i < length (now (times .entry)) → knot (now (factors .exit)) i ≡ exp (mul binary64 (neg (add binary64 (knot (now (kept .entry)) i) (spread .0))) (knot (now (times .entry)) i))) ⌝ }
 {
     let mut i: usize = 0;
@@ -46,8 +46,8 @@ pub(crate) fn put_factors(times: &[f64], kept: &[f64; 1200], spread: DecimalRate
 }
 
 // The amounts times their factors, added left to right.
-fn discounted_sum(amounts: &[f64], factors: &[f64; 1200]) -> f64
-    requires { ⌜ length (now amounts) ≤ 1200 ⌝ }
+fn discounted_sum(amounts: &[f64], factors: &[f64]) -> f64
+    requires { ⌜ length (now amounts) ≤ length (now factors) ⌝ }
     ensures { λ r. ⌜ r ≡ addedUp (λ (i : ℕ). mul binary64 (knot (now (amounts .entry)) i) (knot (now (factors .entry)) i)) (length (now (amounts .entry))) ⌝ }
 {
     let mut sum = 0.0;
@@ -67,8 +67,8 @@ pub struct Sums {
 }
 
 // All three, each added left to right.
-pub(crate) fn sums_of(times: &[f64], amounts: &[f64], factors: &[f64; 1200]) -> Sums
-    requires { ⌜ (length (now times) ≡ length (now amounts)) × (length (now times) ≤ 1200) ⌝ }
+pub(crate) fn sums_of(times: &[f64], amounts: &[f64], factors: &[f64]) -> Sums
+    requires { ⌜ (length (now times) ≡ length (now amounts)) × (length (now times) ≤ length (now factors)) ⌝ }
     ensures { λ s. ⌜ s .worth ≡ addedUp (λ (i : ℕ). mul binary64 (knot (now (amounts .entry)) i) (knot (now (factors .entry)) i)) (length (now (times .entry))) ⌝ }
     ensures { λ s. ⌜ s .timed ≡ addedUp (λ (i : ℕ). mul binary64 (mul binary64 (knot (now (times .entry)) i) (knot (now (amounts .entry)) i)) (knot (now (factors .entry)) i)) (length (now (times .entry))) ⌝ }
     ensures { λ s. ⌜ s .squared ≡ addedUp (λ (i : ℕ). mul binary64 (mul binary64 (mul binary64 (knot (now (times .entry)) i) (knot (now (times .entry)) i)) (knot (now (amounts .entry)) i)) (knot (now (factors .entry)) i)) (length (now (times .entry))) ⌝ }
@@ -94,8 +94,8 @@ pub(crate) fn sums_of(times: &[f64], amounts: &[f64], factors: &[f64; 1200]) -> 
 }
 
 // The worth at a spread over the kept rates, whatever curve they are of; the factors are worked out in the room.
-pub(crate) fn worth_at(times: &[f64], amounts: &[f64], kept: &[f64; 1200], room: &mut [f64; 1200], spread: BasisPoints) -> f64
-    requires { ⌜ (length (now times) ≡ length (now amounts)) × (length (now times) ≤ 1200) ⌝ }
+pub(crate) fn worth_at(times: &[f64], amounts: &[f64], kept: &[f64], room: &mut [f64], spread: BasisPoints) -> f64
+    requires { ⌜ (length (now times) ≡ length (now amounts)) × (length (now times) ≤ length (now kept)) × (length (now times) ≤ length (now room)) ⌝ }
     ensures {
         λ r. ⌜ ((tenors rates : List Float) → ((i : ℕ) → i < length (now (times .entry)) → knot (now (kept .entry)) i ≡ rateOf tenors rates (knot (now (times .entry)) i))
             → r ≡ worthOf (now (times .entry)) (now (amounts .entry)) tenors rates (spread .0)) ⌝

@@ -1,39 +1,45 @@
+-- `spread_analytics::spread::z_spread` meets its contract: the verdict on the flows, the curve and the price is its answer's. Assumes nothing.
+use mathlib.Core.Path.{_∙_}
+use denote.Ref.{now}
+use Rattle.refusals.specs.Table.{badNumber}
+use Rattle.refusals.proofs.Verdicts.{refused-by, accepted-by}
+use Rattle.spread_analytics.specs.Spread.{zSpread}
+use Rattle.spread_analytics.proofs.SpreadVerdict.{flows-listed, by-price}
 use borrow.Author.Needs.{needs}
 use Rattle.spread_analytics.proofs.spread.z_spread.Statement.{statement}
 use Rattle.spread_analytics.proofs.spread.z_spread.Tie as tie
-use Rattle.spread_analytics.proofs.spread.z_spread.Reads as reads
-use Rattle.spread_analytics.proofs.spread.z_spread.Lts as lts
-use Rattle.refusals.proofs.bad_number.Reads as bad-number-reads
-use Rattle.spread_analytics.proofs.judging.judge_spread.Reads as judge-spread-reads
-use Rattle.spread_analytics.proofs.spread.spread_of.Reads as spread-of-reads
 
--- src/spread.rt:138:55
 bad-number-requires : tie.Need-bad-number-requires
 bad-number-requires c κs = search needs
 
--- src/spread.rt:138:11
 judge-spread-requires : tie.Need-judge-spread-requires
 judge-spread-requires c κs = search needs
 
--- src/spread.rt:139:26
 enum-known-refusal : tie.Need-enum-known-refusal
 enum-known-refusal c = search needs
 
--- src/spread.rt:140:30
 enum-told : tie.Need-enum-told
 enum-told c = search needs
 
--- src/spread.rt:140:30
 spread-of-requires : tie.Need-spread-of-requires
-spread-of-requires c κs = ?
+spread-of-requires c κs =
+    let j = c .before .before in
+    let a = j .before .before .before .before .before .before .args in
+    flows-listed (now (a .times)) (now (a .amounts)) (now (a .tenors)) (now (a .rates)) _ _ (c .enum-told .given .1) (j .judge-spread .ensures)
 
--- src/spread.rt:135:1
 returns : tie.Need-returns
-returns c = ?
+unfolding zSpread
+returns c =
+    let j = c .before .before .before in
+    let a = j .before .before .before .before .before .before .args in
+    refused-by _ _ _ _ (c .before .refusal .given .1) (by-price (now (a .times)) (now (a .amounts)) (now (a .tenors)) (now (a .rates)) (j .before .bad-number .ensures) (j .judge-spread .ensures))
 
--- src/spread.rt:135:1
 returns-2 : tie.Need-returns-2
-returns-2 c = ?
+unfolding zSpread
+returns-2 c =
+    let j = c .before .before .before in
+    let a = j .before .before .before .before .before .before .args in
+    c .spread-of .ensures ∙ accepted-by _ _ _ (c .before .enum-told .given .1) (by-price (now (a .times)) (now (a .amounts)) (now (a .tenors)) (now (a .rates)) (j .before .bad-number .ensures) (j .judge-spread .ensures))
 
 pub z-spread-spec : {M : Type 1} → statement M
 z-spread-spec =

@@ -29,8 +29,8 @@ shared-slice-read-sum c = omega arith
 mul-sum-2 : tie.Need-mul-sum-2 Inv-loop μ-loop
 mul-sum-2 c = omega arith
 
-element-copy-out-sum : tie.Need-element-copy-out-sum Inv-loop μ-loop
-element-copy-out-sum c = omega arith
+shared-slice-read-sum-2 : tie.Need-shared-slice-read-sum-2 Inv-loop μ-loop
+shared-slice-read-sum-2 c = omega arith
 
 add-i : tie.Need-add-i Inv-loop μ-loop
 add-i c = omega arith
@@ -57,7 +57,7 @@ discounted-sum-spec =
     mul-sum
     shared-slice-read-sum
     mul-sum-2
-    element-copy-out-sum
+    shared-slice-read-sum-2
     add-i
     loop-less
     loop-again

@@ -39,8 +39,8 @@ shared-slice-read-amount c = omega arith
 mul-factor : tie.Need-mul-factor Inv-loop μ-loop
 mul-factor c = omega arith
 
-element-copy-out-factor : tie.Need-element-copy-out-factor Inv-loop μ-loop
-element-copy-out-factor c = omega arith
+shared-slice-read-factor : tie.Need-shared-slice-read-factor Inv-loop μ-loop
+shared-slice-read-factor c = omega arith
 
 add-i : tie.Need-add-i Inv-loop μ-loop
 add-i c = omega arith
@@ -72,7 +72,7 @@ sums-of-spec =
     mul-amount
     shared-slice-read-amount
     mul-factor
-    element-copy-out-factor
+    shared-slice-read-factor
     add-i
     loop-less
     loop-again
