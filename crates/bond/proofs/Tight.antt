@@ -1,6 +1,6 @@
 -- How tight the promises are: whatever a public function is given, any two results that its contract allows are equal. Assumes nothing.
 use mathlib.Core.Path.{_≡_, sym, ap, _∙_}
-use Rattle.numbers.proofs.Tight.{Determined}
+use Rattle.numbers.proofs.Determined.{Determined}
 use Rattle.refusals.proofs.OneToOne.{same-refusal, number-one-to-one}
 use Rattle.bond.specs.declared.codes.FrequencyRead.{FrequencyRead}
 use Rattle.bond.specs.declared.codes.FrequencyRead.the-variants as frequency-is

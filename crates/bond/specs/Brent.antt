@@ -1,5 +1,5 @@
 -- Brent's method with the Rust's branches in the Rust's order, one pass at a time. Definitions only. Assumes nothing.
-use mathlib.Core.Bool.{Bool, true, false, cond, _&&_, _||_}
+use mathlib.Core.Bool.{Bool, cond, _&&_, _||_}
 use lib.Ieee.{Float, binary64, neg, add, sub, mul, div, lt, le, ofBits}
 use Rattle.numbers.specs.Clamps.{plusZero}
 use Rattle.numbers.specs.Sizes.{absolute}

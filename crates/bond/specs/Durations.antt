@@ -1,9 +1,9 @@
 -- Durations and convexity, at a yield and at a market price. Definitions only. Assumes nothing.
-use Prim.Native.Nat.{ℕ, suc, _+_}
+use Prim.Native.Nat.{ℕ, suc}
 use mathlib.Core.Bool.{Bool, cond}
 use lib.Dec.{eqb}
 use lib.IntN.{pos}
-use lib.Ieee.{Float, binary64, neg, add, sub, mul, div, lt, ofInt, ofBits}
+use lib.Ieee.{Float, binary64, neg, add, mul, div, lt, ofInt}
 use Rattle.numbers.specs.Clamps.{plusZero}
 use Rattle.numbers.specs.Sizes.{absolute}
 use Rattle.numbers.specs.Sums.{addedUp}

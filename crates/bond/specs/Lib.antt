@@ -1,4 +1,5 @@
 pub mod Bonds
+pub mod Worked
 pub mod Price
 pub mod Brent
 pub mod Yield

@@ -1,13 +1,12 @@
 -- The price of a bond at a yield, and what is worked out from prices alone. Definitions only. Assumes nothing.
-use Prim.Native.Nat.{ℕ}
-use mathlib.Core.Bool.{cond, not, _||_}
-use mathlib.Core.List.{List, [], _∷_}
+use mathlib.Core.Bool.{cond, not}
+use mathlib.Core.List.{[], _∷_}
 use lib.IntN.{pos}
 use lib.Ieee.{Float, binary64, neg, add, sub, mul, div, lt, ofInt, ofBits}
 use lib.Ieee.Scale.{finite}
 use Rattle.numbers.specs.Clamps.{plusZero}
 use Rattle.numbers.specs.Sizes.{absolute}
-use Rattle.refusals.specs.Outcome.{Outcome, Line, line, judged}
+use Rattle.refusals.specs.Outcome.{Outcome, line, judged}
 use Rattle.refusals.specs.Table.{badNumber}
 use Rattle.elementary.specs.WholePower.{one, negativePower}
 use Rattle.elementary.specs.Power.{power}

@@ -1,10 +1,10 @@
 -- The yield of a bond at a market price. Definitions only. Assumes nothing.
 use Prim.Native.Nat.{ℕ, zero, suc}
-use mathlib.Core.Bool.{Bool, true, false, cond, _&&_}
-use mathlib.Core.List.{List, [], _∷_, _++_}
+use mathlib.Core.Bool.{Bool, cond, _&&_}
+use mathlib.Core.List.{[], _∷_, _++_}
 use lib.Ieee.{Float, binary64, sub, mul, lt, ofBits}
 use Rattle.numbers.specs.Clamps.{plusZero}
-use Rattle.refusals.specs.Outcome.{Outcome, Line, line, judged}
+use Rattle.refusals.specs.Outcome.{Outcome, line, judged}
 use Rattle.bond.specs.declared.Bond.{Bond}
 use Rattle.bond.specs.declared.brent.Search.{Search}
 use Rattle.bond.specs.Bonds.{bondLines}

@@ -6,7 +6,11 @@ ghost use Rattle.numbers.specs.Clamps.{plusZero};
 ghost use Rattle.refusals.specs.Outcome.{line, judged};
 ghost use Rattle.refusals.specs.Answers.{numberOutcome};
 ghost use Rattle.bond.specs.Yield.{error, noBracket, startIn, withError, passed, searched, yieldOf, yieldToMaturity};
+ghost use Rattle.bond.specs.Worked.{WorkedOut};
 use crate::Bond;
+use crate::bonds::Worked;
+use crate::bonds::judge_bond;
+use crate::bonds::worked_out;
 use crate::brent::Search;
 use refusals::Number;
 use refusals::Verdict;
@@ -14,18 +18,20 @@ use refusals::Verdict;
 const PASSES: u32 = 200;
 
 // The error of a yield: its price less the market's.
-fn error(bond: Bond, market: f64, ytm: f64) -> f64
-    ensures { λ r. ⌜ r ≡ error bond market ytm ⌝ }
+fn error(worked: Worked, market: f64, ytm: f64) -> f64
+    requires { ⌜ WorkedOut worked ⌝ }
+    ensures { λ r. ⌜ r ≡ error (worked .bond) market ytm ⌝ }
 {
-    crate::price::price_at(bond, ytm) - market
+    crate::price::price_at(worked, ytm) - market
 }
 
 // The search starts in a bracket.
-fn start_in(bond: Bond, market: f64, low: f64, high: f64) -> Search
-    ensures { λ r. ⌜ r ≡ startIn bond market low high ⌝ }
+fn start_in(worked: Worked, market: f64, low: f64, high: f64) -> Search
+    requires { ⌜ WorkedOut worked ⌝ }
+    ensures { λ r. ⌜ r ≡ startIn (worked .bond) market low high ⌝ }
 {
-    let below = error(bond, market, low);
-    let above = error(bond, market, high);
+    let below = error(worked, market, low);
+    let above = error(worked, market, high);
     Search {
         a: low,
         b: high,
@@ -38,8 +44,9 @@ fn start_in(bond: Bond, market: f64, low: f64, high: f64) -> Search
     }
 }
 
-fn with_error(bond: Bond, market: f64, search: Search) -> Search
-    ensures { λ r. ⌜ r ≡ withError bond market search ⌝ }
+fn with_error(worked: Worked, market: f64, search: Search) -> Search
+    requires { ⌜ WorkedOut worked ⌝ }
+    ensures { λ r. ⌜ r ≡ withError (worked .bond) market search ⌝ }
 {
     Search {
         a: search.a,
@@ -48,25 +55,27 @@ fn with_error(bond: Bond, market: f64, search: Search) -> Search
         d: search.d,
         e: search.e,
         fa: search.fa,
-        fb: error(bond, market, search.b),
+        fb: error(worked, market, search.b),
         fc: search.fc,
     }
 }
 
 // A pass from its test on: one price is worked out.
-fn passed(bond: Bond, market: f64, search: Search) -> Search
-    ensures { λ r. ⌜ r ≡ passed bond market search ⌝ }
+fn passed(worked: Worked, market: f64, search: Search) -> Search
+    requires { ⌜ WorkedOut worked ⌝ }
+    ensures { λ r. ⌜ r ≡ passed (worked .bond) market search ⌝ }
 {
     with_error(
-        bond,
+        worked,
         market,
         crate::brent::moved(crate::brent::chosen(search)),
     )
 }
 
 // b, once it is settled or the passes are used up.
-fn searched(bond: Bond, market: f64, start: Search) -> f64
-    ensures { λ r. ⌜ r ≡ searched bond market 200 start ⌝ }
+fn searched(worked: Worked, market: f64, start: Search) -> f64
+    requires { ⌜ WorkedOut worked ⌝ }
+    ensures { λ r. ⌜ r ≡ searched (worked .bond) market 200 start ⌝ }
 {
     let mut search = start;
     let mut left = PASSES;
@@ -75,7 +84,7 @@ fn searched(bond: Bond, market: f64, start: Search) -> f64
         if crate::brent::settled(ready) {
             return ready.b;
         }
-        search = passed(bond, market, ready);
+        search = passed(worked, market, ready);
         left -= 1;
     }
     search.b
@@ -89,25 +98,27 @@ fn one_sided(search: Search) -> bool
 }
 
 // The yield in the first bracket whose ends err to both sides; where neither has such ends, line 12.
-fn yield_in_bracket(bond: Bond, market: f64) -> Number
-    ensures { λ r. ⌜ numberOutcome r ≡ judged (line 12 (noBracket bond market) ∷ []) (yieldOf bond market) ⌝ }
+fn yield_in_bracket(worked: Worked, market: f64) -> Number
+    requires { ⌜ WorkedOut worked ⌝ }
+    ensures { λ r. ⌜ numberOutcome r ≡ judged (line 12 (noBracket (worked .bond) market) ∷ []) (yieldOf (worked .bond) market) ⌝ }
 {
-    let narrow = start_in(bond, market, 0.001, 0.999);
+    let narrow = start_in(worked, market, 0.001, 0.999);
     if one_sided(narrow) {
-        let wide = start_in(bond, market, 1e-6, 50.0);
+        let wide = start_in(worked, market, 1e-6, 50.0);
         if one_sided(wide) {
             return Number::Refused(refusals::refuse(12));
         }
-        return Number::Given(searched(bond, market, wide));
+        return Number::Given(searched(worked, market, wide));
     }
-    Number::Given(searched(bond, market, narrow))
+    Number::Given(searched(worked, market, narrow))
 }
 
 pub fn yield_to_maturity(market: f64, bond: Bond) -> Number
     ensures { λ r. ⌜ numberOutcome r ≡ yieldToMaturity market bond ⌝ }
 {
-    match crate::bonds::judge_bond(bond, market) {
+    let worked = worked_out(bond);
+    match judge_bond(worked, market) {
         Verdict::Refused(refusal) => Number::Refused(refusal),
-        Verdict::Accepted => yield_in_bracket(bond, market),
+        Verdict::Accepted => yield_in_bracket(worked, market),
     }
 }

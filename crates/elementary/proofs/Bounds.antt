@@ -1,18 +1,17 @@
 -- Bounds by powers of two: what is at most 2 ^ j in size stays so when it is rounded, and products and sums of such numbers are finite. Assumes nothing.
-use mathlib.Core.Path.{_≡_, refl, sym, ap, _∙_, subst}
-use mathlib.Core.Bool.{Bool, true, false, not, _&&_, _||_, cond, Bool·beq, true≢false}
-use Prim.Native.Nat.{ℕ, zero, suc, _+_, _-_, _*_, _^_, _≤_, _<_}
-use native.Mathlib.Nat.{le-of-lt, le-of-eq, le-trans, mul-pos, mul-le-mul, mul-le-mul-right, le-of-mul-le-mul-right, mul-one, one-mul, zero-lt-suc, two-pow-succ}
+use mathlib.Core.Path.{_≡_, ap}
+use mathlib.Core.Bool.{Bool, true, false, _&&_, cond, Bool·beq, true≢false}
+use Prim.Native.Nat.{ℕ, suc, _+_, _-_, _*_, _^_, _≤_, _<_}
+use native.Mathlib.Nat.{le-trans, mul-pos, mul-le-mul, mul-le-mul-right, le-of-mul-le-mul-right, mul-one, one-mul, zero-lt-suc, two-pow-succ}
 use native.Mathlib.Omega.{arith}
-use lib.IntN.{ℤ}
-use lib.Dec.{T, ltb, eqb, ltb→lt, eqb→eq}
-use lib.Pow.{pow-add, pow-pos, pow-lt, pow-mono}
+use lib.Dec.{T, ltb}
+use lib.Pow.{pow-add, pow-lt, pow-mono}
 use lib.Ieee.{Float, nan, inf, fin, Format, binary32, binary64, prec, emax, low, unlike, up, down, round, sum, add, sub, mul, neg, lt, le, eq}
 use lib.Ieee.Exact.{HasValue, round-exact}
-use lib.Ieee.Fits.{down-pos, and-l}
+use lib.Ieee.Fits.{down-pos}
 use lib.Ieee.Order.{round-mono}
 use Rattle.numbers.specs.Sizes.{absolute}
-use Rattle.elementary.proofs.Roundings.{absolute-round}
+use Rattle.elementary.proofs.Roundings.{absolute-round, le-sizes}
 
 -- x is finite and at most 2 ^ j in size
 abbrev pub Within : Float → ℕ → Type 0
@@ -45,10 +44,6 @@ power-value f j h = round-exact f false (2 ^ j) 1 1 (j + low f) (zero-lt-suc 0) 
     turn : (a b c : ℕ) → c ≡ a * b → a * b ≡ 1 * c * 1
     turn a b c e = omega arith
 
-either : (a b : Bool) {G : Type 0} → T (a || b) → (T a → G) → (T b → G) → G
-either true b t p q = p tt
-either false b t p q = q t
-
 below-power : (x y : Float) (j : ℕ) → HasValue y false (2 ^ j) 1 → T (le (absolute x) y) → Within x j
 unfolding le lt eq absolute
 below-power nan y j v t = absurd t
@@ -58,10 +53,7 @@ below-power (inf s) (fin u n d) j v t = absurd t
 below-power (fin s m e) nan j v t = absurd v
 below-power (fin s m e) (inf u) j v t = absurd v
 below-power (fin s m e) (fin true n d) j v t = absurd (true≢false (v .0))
-below-power (fin s m e) (fin false n d) j v t =
-    let A = m * up e * down d in
-    let B = n * up d * down e in
-    turn (m * up e) (n * up d) (down e) (down d) (down-pos d) (v .1) (either (ltb A B) (eqb A B && true) t (λ u. le-of-lt (ltb→lt A B u)) (λ u. le-of-eq (eqb→eq A B (and-l (eqb A B) true u))))
+below-power (fin s m e) (fin false n d) j v t = turn (m * up e) (n * up d) (down e) (down d) (down-pos d) (v .1) (le-sizes m e n d t)
   where
     turn : (M N d c : ℕ) → 0 < c → N * 1 ≡ 2 ^ j * c → M * c ≤ N * d → M ≤ 2 ^ j * d
     turn M N d c C e h = go (2 ^ j) e

@@ -1,27 +1,22 @@
 -- exp's definition step by step, and case by case in the order of its tests. Assumes nothing.
-use mathlib.Core.Path.{_≡_, refl, sym, ap, ap₂, _∙_, subst}
+use mathlib.Core.Path.{_≡_, refl, sym, ap, _∙_, subst}
 use mathlib.Core.Bool.{Bool, true, false}
-use Prim.Native.Nat.{ℕ}
 use lib.Dec.{T}
 use lib.Ieee.{Float, nan, inf, fin, binary64, neg, mul, lt, ne, ofBits}
 use lib.Ieee.Compare.{differs-from-itself, nan-differs}
 use Rattle.numbers.specs.Clamps.{plusZero}
-use Rattle.numbers.specs.Sizes.{absolute}
-use Rattle.numbers.specs.Whole.{nearestWhole}
 use Rattle.numbers.proofs.Amounts.{passes}
 use Rattle.elementary.specs.Horner.{horner}
-use Rattle.elementary.specs.Exp.{inverseFactorial, inverseLn2, highest, lowest, below, halvings, signed, twoTo, reduced, expWithin, expNotAbove, expOf, exp}
+use Rattle.elementary.specs.Exp.{inverseFactorial, highest, lowest, below, halvings, signed, twoTo, reduced, expWithin, expNotAbove, expOf, exp}
 
 -- -708 as the program writes it
 pub minus-708 : neg (ofBits binary64 0x4086_2000_0000_0000) ≡ lowest
 unfolding neg ofBits
 minus-708 = refl
 
--- the steps, each by what the program has of the one before
-module _ (x : Float) (b : Bool) (k : ℕ) (is : b ≡ below x) (nearest : k ≡ halvings x) where
-  pub whole-steps : (w r p t : Float) → w ≡ signed b k → r ≡ reduced x w → p ≡ horner inverseFactorial r 0 13 → t ≡ twoTo b k → mul binary64 p t ≡ expWithin x
-  unfolding expWithin
-  whole-steps w r p t ew er ep et = rw (ep, er, ew, et, is, nearest)
+-- neither a NaN nor beyond an end
+abbrev pub Inside : Float → Type 0
+Inside x = (ne x x ≡ false) × (lt highest x ≡ false) × (lt x lowest ≡ false)
 
 -- ---- the cases
 pub at-nan : (x : Float) → ne x x ≡ true → x ≡ exp x
@@ -46,6 +41,8 @@ pub beneath : (x : Float) → ne x x ≡ false → lt highest x ≡ false → lt
 unfolding expNotAbove
 beneath x n h l = sym (not-above x n h ∙ ap (λ (b : Bool). expNotAbove b x) l)
 
-pub within : (x : Float) → ne x x ≡ false → lt highest x ≡ false → lt x lowest ≡ false → expWithin x ≡ exp x
-unfolding expNotAbove
-within x n h l = sym (not-above x n h ∙ ap (λ (b : Bool). expNotAbove b x) l)
+-- the steps, each by what the program has of the one before
+pub steps : (x : Float) → ne x x ≡ false → lt highest x ≡ false → lt x lowest ≡ false → (r p t : Float)
+    → r ≡ reduced x (signed (below x) (halvings x)) → p ≡ horner inverseFactorial r 0 13 → t ≡ twoTo (below x) (halvings x) → mul binary64 p t ≡ exp x
+unfolding expNotAbove expWithin
+steps x n h l r p t er ep et = rw (ep, er, et) (sym (not-above x n h ∙ ap (λ (b : Bool). expNotAbove b x) l))

@@ -1,11 +1,11 @@
 -- From -708 to 709 the k of exp is at most 1,023, and below zero at most 1,022: 2 ^ k is a normal number. Assumes nothing.
 use mathlib.Core.Path.{_≡_, refl, sym, ap, _∙_, subst}
 use mathlib.Core.Bool.{Bool, true, false, cond}
-use Prim.Native.Nat.{ℕ, _*_, _^_, _≤_, _<_}
+use Prim.Native.Nat.{ℕ, _*_, _^_, _≤_}
 use native.Mathlib.Nat.{le-trans, le-of-eq, mul-pos, mul-le-mul-right}
 use native.Mathlib.Omega.{arith}
 use borrow.Author.Tests.{ltb-false}
-use lib.IntN.{ℤ, pos, negsuc}
+use lib.IntN.{ℤ, negsuc}
 use lib.Dec.{T, lit≤}
 use lib.Pow.{pow-pos}
 use lib.Ieee.{Float, nan, inf, fin, binary64, unlike, up, down, round, mul, lt, ofBits}
@@ -18,7 +18,7 @@ use Rattle.elementary.specs.Exp.{inverseLn2, highest, lowest, below, hal
 use Rattle.elementary.proofs.Roundings.{absolute-round, size-not-below, nearest-no-less}
 
 -- inverseLn2 as a fraction of 2 ^ 51
-abbrev numerator : ℕ
+abbrev pub numerator : ℕ
 numerator = 3248660424278399
 
 inverse-is : inverseLn2 ≡ fin false numerator (negsuc 50)
@@ -31,7 +31,7 @@ product s m e = ap (mul binary64 (fin s m e)) inverse-is ∙ opened
     opened : mul binary64 (fin s m e) (fin false numerator (negsuc 50)) ≡ round binary64 (unlike s false) (m * up e * (numerator * 1)) (down e * 2 ^ 51)
     opened = unfold mul in refl
 
-product-size : (s : Bool) (m : ℕ) (e : ℤ) → absolute (mul binary64 (fin s m e) inverseLn2) ≡ round binary64 false (m * up e * (numerator * 1)) (down e * 2 ^ 51)
+pub product-size : (s : Bool) (m : ℕ) (e : ℤ) → absolute (mul binary64 (fin s m e) inverseLn2) ≡ round binary64 false (m * up e * (numerator * 1)) (down e * 2 ^ 51)
 product-size s m e = ap absolute (product s m e) ∙ absolute-round binary64 (unlike s false) (m * up e * (numerator * 1)) (down e * 2 ^ 51)
 
 -- no more than at the bound B

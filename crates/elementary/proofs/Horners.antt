@@ -1,6 +1,6 @@
 -- Horner's rule from the top, turn by turn: from the last coefficient down to the first. Assumes nothing.
 use mathlib.Core.Path.{_≡_, refl, sym, ap, ap₂, _∙_}
-use Prim.Native.Nat.{ℕ, suc, _-_, _≤_, _<_}
+use Prim.Native.Nat.{ℕ, suc, _+_, _-_, _≤_, _<_}
 use native.Mathlib.Omega.{arith}
 use lib.Ieee.{Float, binary64, add, mul}
 use Rattle.elementary.specs.Horner.{horner}
@@ -32,6 +32,13 @@ module _ (a : ℕ → Float) (x : Float) where
 
       left : (n j : ℕ) → 0 < j → j ≤ n → suc (n - j) ≡ n - (j - 1)
       left n j h l = omega arith
+
+  -- the same, by the coefficient's own place
+  pub turn-at : (n j : ℕ) (sum c : Float) → j < n → sum ≡ downTo n (j + 1) → c ≡ a j → add binary64 (mul binary64 sum x) c ≡ downTo n j
+  turn-at n j sum c h s e = turn n (j + 1) sum c (omega arith) (omega arith) s (e ∙ ap a (sym (back j))) ∙ ap (downTo n) (back j)
+    where
+      back : (j : ℕ) → j + 1 - 1 ≡ j
+      back j = omega arith
 
   pub ended : (n j : ℕ) → j ≡ 0 → downTo n j ≡ horner a x 0 n
   ended n j z = ap (downTo n) z ∙ ap (horner a x 0) (whole n)

@@ -4,8 +4,8 @@ use mathlib.Core.Bool.{Bool, true, false, _&&_, cond}
 use Prim.Native.Nat.{ℕ, zero, suc, _+_, _-_, _*_, _%_, _^_, _≤_, _<_}
 use native.Mathlib.Nat.{zero-lt-suc, lt-of-lt-of-le, pow-succ'}
 use native.Mathlib.Omega.{arith}
-use lib.IntN.{ℤ, pos, negsuc, subℕ, _+ℤ_}
-use lib.Dec.{T, leb, ltb, eqb, ltb→lt, lit≤}
+use lib.IntN.{ℤ, pos, _+ℤ_}
+use lib.Dec.{T, leb, ltb, eqb, ltb→lt}
 use lib.Pow.{pow-add, pow-pos, pow-mono, shl-lt}
 use lib.Ieee.{Float, nan, inf, fin, binary64, up, down, size, fits, isNan, round, add, sub, mul, div, neg, lt, ofInt, ofBits}
 use lib.Ieee.Digits.{size-lt, size-le, size-reaches, back}

@@ -1,18 +1,18 @@
 -- A number above zero as m * 2 ^ e with m in [1,2), read off its bit pattern: the digits' field under a fixed exponent is m, and the exponent's field less its bias is e.
 -- A number whose pattern has no leading digit is scaled by a power of two first. Assumes nothing.
-use mathlib.Core.Path.{_≡_, refl, sym, ap, _∙_, subst}
-use mathlib.Core.Bool.{Bool, true, false, not}
-use Prim.Native.Nat.{ℕ, zero, suc, _+_, _-_, _*_, _/_, _%_, _^_, _≤_, _<_}
-use native.Mathlib.Nat.{le-of-suc-le-suc, lt-of-not-le, lt-of-lt-of-le, not-le-of-lt, mul-div-cancel, mul-one, mul-assoc, mul-pos, le-of-mul-le-mul-right}
+use mathlib.Core.Path.{_≡_, sym, ap, _∙_, subst}
+use mathlib.Core.Bool.{false, not}
+use Prim.Native.Nat.{ℕ, suc, _+_, _-_, _*_, _/_, _%_, _^_, _≤_, _<_}
+use native.Mathlib.Nat.{lt-of-lt-of-le, mul-div-cancel, mul-one, mul-assoc, mul-pos, le-of-mul-le-mul-right}
 use native.Mathlib.Omega.{arith}
 use lib.Arith.{digits-div, digits-mod}
-use lib.IntN.{ℤ, pos, negsuc, subℕ, _+ℤ_}
+use lib.IntN.{ℤ, subℕ}
 use lib.Dec.{T, lit<, lit≤}
-use lib.Pow.{pow-add, pow-pos, pow-mono, shl-lt}
-use lib.Ieee.{Float, binary64, up, down, size, round, ofBits, nanBits}
+use lib.Pow.{pow-add, pow-pos, shl-lt}
+use lib.Ieee.{binary64, up, down, size, round, ofBits, nanBits}
 use lib.Ieee.Bits.{ofBits-fits}
-use lib.Ieee.Digits.{size-lt, size-le, size-reaches, back}
-use lib.Ieee.Exact.{HasValue, round-exact}
+use lib.Ieee.Digits.{size-le, size-reaches, back}
+use lib.Ieee.Exact.{round-exact}
 use lib.Ieee.Fits.{kept-lt, round-fits}
 use lib.Ieee.Scale.{round-same}
 use Rattle.numbers.proofs.Amounts.{Held}

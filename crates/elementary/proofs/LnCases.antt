@@ -9,7 +9,7 @@ use lib.IntN.{ℤ}
 use lib.Dec.{T, eqb, eqb→eq}
 use lib.Ieee.{Float, nan, inf, fin, binary64, up, down, neg, div, lt, eq, ne, ofBits}
 use lib.Ieee.Compare.{differs-from-itself, nan-differs}
-use lib.Ieee.Fits.{up-pos, down-pos, and-l, and-i, eq→eqb}
+use lib.Ieee.Fits.{up-pos, and-l, and-i, eq→eqb}
 use lib.Ieee.Scale.{finite}
 use Rattle.numbers.specs.Clamps.{plusZero}
 use Rattle.numbers.proofs.Amounts.{passes}

@@ -1,16 +1,14 @@
 -- ln's definition case by case, and its m and e by the bit pattern of x, or of x * 2 ^ 54 for a subnormal. Assumes nothing.
-use mathlib.Core.Path.{_≡_, refl, sym, ap, ap₂, _∙_, subst}
-use mathlib.Core.Bool.{Bool, true, false, not}
-use mathlib.Core.Logic.{_↔_}
-use Prim.Native.Nat.{ℕ, zero, suc, _+_, _-_, _*_, _/_, _%_, _^_, _≤_, _<_}
-use native.Mathlib.Nat.{mul-one, mul-pos, mul-div-cancel, zero-lt-suc, lt-of-lt-of-le, le-trans}
+use mathlib.Core.Path.{_≡_, refl, ap, ap₂, _∙_, subst}
+use mathlib.Core.Bool.{true, false, not}
+use Prim.Native.Nat.{ℕ, zero, suc, _+_, _*_, _/_, _%_, _^_, _≤_, _<_}
+use native.Mathlib.Nat.{mul-one, mul-pos, mul-div-cancel, zero-lt-suc, lt-of-lt-of-le}
 use native.Mathlib.Omega.{arith}
 use borrow.Author.Tests.{ltb-true}
-use lib.IntN.{ℤ, pos, negsuc, subℕ}
-use lib.Dec.{T, lit<, lit≤}
+use lib.IntN.{ℤ, subℕ}
+use lib.Dec.{T, lit≤}
 use lib.Pow.{pow-pos, shl-lt}
-use lib.Ieee.{Float, nan, inf, fin, binary64, up, down, fits, round, neg, mul, div, lt, eq, ne, ofInt, ofBits, toBits, nanBits}
-use lib.Ieee.Compare.{differs-from-itself, nan-differs}
+use lib.Ieee.{Float, nan, inf, fin, binary64, up, down, fits, round, mul, lt, ofBits, toBits, nanBits}
 use lib.Ieee.Exact.{HasValue, round-exact}
 use lib.Ieee.Fits.{up-pos, down-pos}
 use lib.Ieee.Scale.{finite, round-same}
@@ -18,8 +16,8 @@ use Rattle.numbers.specs.Clamps.{plusZero}
 use Rattle.numbers.specs.Units.{count, units}
 use Rattle.numbers.proofs.Amounts.{passes, amount, Held, counts, held}
 use Rattle.numbers.proofs.Order.{lt-amount}
-use Rattle.elementary.specs.Ln.{rootTwo, leading, exponent, lnBy, ln}
-use Rattle.elementary.proofs.Values.{patternAt, pattern-by-count, pattern-of-value}
+use Rattle.elementary.specs.Ln.{rootTwo, lnBy, ln}
+use Rattle.elementary.proofs.Values.{pattern-by-count, pattern-of-value}
 use Rattle.elementary.proofs.Leading.{ReadOff, read-off}
 
 -- ---- the smallest normal number and the factor of the subnormals, 2 ^ -1022 and 2 ^ 54

@@ -1,13 +1,13 @@
 -- What a bit pattern with an exponent's field x and digits t stands for, and powers of two made so. Assumes nothing.
 use mathlib.Core.Path.{_≡_, refl, sym, ap, ap₂, _∙_, subst}
 use mathlib.Core.Bool.{Bool, true, false, not, cond}
-use Prim.Native.Nat.{ℕ, zero, suc, _+_, _-_, _*_, _/_, _%_, _^_, _≤_, _<_}
-use native.Mathlib.Nat.{mod-eq-of-lt, mul-comm, mul-one, one-mul, mul-pos, zero-lt-suc, add-zero}
+use Prim.Native.Nat.{ℕ, suc, _+_, _-_, _*_, _/_, _%_, _^_, _≤_, _<_}
+use native.Mathlib.Nat.{mod-eq-of-lt, mul-comm, mul-one, one-mul, zero-lt-suc}
 use native.Mathlib.Omega.{arith}
 use lib.Arith.{digits-lt, digits-div, digits-mod, lt→nleb}
-use lib.Dec.{T, leb, eqb, eqb→eq, lit<, lit≤}
+use lib.Dec.{T, leb, eqb, eqb→eq, lit<}
 use lib.Pow.{pow-add, pow-pos, pow-lt}
-use lib.Ieee.{Float, nan, inf, fin, Format, binary64, prec, low, hid, ones, top, odd, ofFields, ofBits, nanBits, isNan, fits, round}
+use lib.Ieee.{Float, nan, inf, fin, Format, binary64, prec, low, hid, ones, top, odd, ofFields, ofBits, nanBits, isNan, round}
 use lib.Ieee.Bits.{is-false, ofBits-fits, nanBits-is}
 use lib.Ieee.Exact.{HasValue, odd-sign, round-exact}
 use lib.Ieee.Fits.{round-fits}

@@ -1,13 +1,12 @@
 -- What a rounding and the nearest whole number keep: the sign, the size, and the order. Assumes nothing.
-use mathlib.Core.Path.{_≡_, refl, sym, ap, _∙_, subst}
-use mathlib.Core.Bool.{Bool, true, false, _&&_, _||_, cond, Bool·beq}
-use mathlib.Core.Logic.{inl, inr}
-use Prim.Native.Nat.{ℕ, zero, suc, _+_, _*_, _/_, _^_, _≤_, _<_, min, zero-le}
-use native.Mathlib.Nat.{le-refl, le-trans, le-of-lt, le-of-eq, mul-pos}
+use mathlib.Core.Path.{_≡_, refl, sym, ap, _∙_}
+use mathlib.Core.Bool.{Bool, true, false, _&&_, _||_, cond}
+use Prim.Native.Nat.{ℕ, zero, suc, _+_, _*_, _^_, _≤_, _<_, min, zero-le}
+use native.Mathlib.Nat.{le-refl, le-of-lt, le-of-eq}
 use native.Mathlib.Omega.{arith}
-use lib.IntN.{ℤ, pos}
+use lib.IntN.{ℤ}
 use lib.Dec.{T, ltb, eqb, ltb→lt, eqb→eq}
-use lib.Ieee.{Float, nan, inf, fin, Format, prec, emax, low, up, down, odd, units, round, lt, le, eq, ofBits}
+use lib.Ieee.{Float, nan, inf, fin, Format, prec, low, up, down, odd, units, isNan, round, lt, le, eq, ofBits}
 use lib.Ieee.Fits.{round-is, down-pos, and-l, and-r}
 use lib.Ieee.Nearest.{div-mono}
 use lib.Ieee.Order.{drop, kept}
@@ -36,6 +35,23 @@ absolute-round f s a c =
     ap absolute (round-is f s a c)
     ∙ absolute-units f s (kept (prec f) (a * 2 ^ low f) c) (drop (prec f) (a * 2 ^ low f) c)
     ∙ sym (round-is f false a c)
+
+-- ---- a rounding is no NaN
+odd-no-nan : (d : ℕ) (s : Bool) (q k l : ℕ) → isNan (odd d s q k l) ≡ false
+unfolding odd isNan
+odd-no-nan d s zero k l = refl
+odd-no-nan d s (suc q) k l = refl
+
+units-no-nan : (f : Format) (s : Bool) (q k : ℕ) → isNan (units f s q k) ≡ false
+unfolding units isNan
+units-no-nan f s q k = go (ltb (q * 2 ^ k) (overflow f))
+  where
+    go : (b : Bool) → isNan (cond b (odd (suc (prec f)) s q k (low f)) (inf s)) ≡ false
+    go true = odd-no-nan (suc (prec f)) s q k (low f)
+    go false = refl
+
+pub round-no-nan : (f : Format) (s : Bool) (a c : ℕ) → isNan (round f s a c) ≡ false
+round-no-nan f s a c = ap isNan (round-is f s a c) ∙ units-no-nan f s (kept (prec f) (a * 2 ^ low f) c) (drop (prec f) (a * 2 ^ low f) c)
 
 -- ---- a size is not below zero
 pub size-not-below : (x : Float) → lt (absolute x) plusZero ≡ false
@@ -68,6 +84,13 @@ either : (a b : Bool) {G : Type 0} → T (a || b) → (T a → G) → (T b → G
 either true b t p q = p tt
 either false b t p q = q t
 
+pub le-sizes : (m : ℕ) (e : ℤ) (n : ℕ) (d : ℤ) → T (le (fin false m e) (fin false n d)) → m * up e * down d ≤ n * up d * down e
+unfolding le lt eq
+le-sizes m e n d t =
+    let A = m * up e * down d in
+    let B = n * up d * down e in
+    either (ltb A B) (eqb A B && true) t (λ u. le-of-lt (ltb→lt A B u)) (λ u. le-of-eq (eqb→eq A B (and-l (eqb A B) true u)))
+
 pub nearest-no-less : (x y : Float) → T (le x y) → nearestWhole x ≤ nearestWhole y
 unfolding le lt eq nearestWhole
 nearest-no-less nan y t = absurd t
@@ -84,14 +107,7 @@ nearest-no-less (fin false m e) (inf false) t = capped (nearestTo (m * up e) (do
     capped : (k : ℕ) → min k largest ≤ largest
     capped k = omega arith
 nearest-no-less (fin false m e) (fin false n d) t =
-    nearest-mono (m * up e) (down e) (n * up d) (down d) (down-pos e) (down-pos d)
-    (either (ltb A B) (eqb A B && true) t (λ u. le-of-lt (ltb→lt A B u)) (λ u. le-of-eq (eqb→eq A B (and-l (eqb A B) true u))))
-  where
-    A : ℕ
-    A = m * up e * down d
-
-    B : ℕ
-    B = n * up d * down e
+    nearest-mono (m * up e) (down e) (n * up d) (down d) (down-pos e) (down-pos d) (le-sizes m e n d t)
 nearest-no-less (fin false m e) (fin true n d) t =
     let A = m * up e * down d in
     let B = n * up d * down e in

@@ -1,8 +1,8 @@
 -- How many binary digits a whole number has, and the difference of two whole numbers as an integer. Assumes nothing.
-use mathlib.Core.Path.{_≡_, refl, sym, ap, _∙_, subst}
+use mathlib.Core.Path.{_≡_, refl, sym, ap, _∙_}
 use mathlib.Core.Bool.{Bool, true, false, not, cond}
-use Prim.Native.Nat.{ℕ, zero, suc, _+_, _-_, _*_, _/_, _^_, _≤_, _<_}
-use native.Mathlib.Nat.{le-antisymm, le-of-suc-le-suc, lt-of-not-le, lt-of-lt-of-le, not-le-of-lt, mul-le-mul-right, mul-div-cancel, mul-assoc, eq-of-mul-eq-mul-right, add-zero, sub-zero, zero-add}
+use Prim.Native.Nat.{ℕ, suc, _+_, _-_, _*_, _^_, _≤_, _<_}
+use native.Mathlib.Nat.{lt-of-not-le, lt-of-lt-of-le, not-le-of-lt, mul-le-mul-right, eq-of-mul-eq-mul-right, add-zero, sub-zero}
 use native.Mathlib.Omega.{arith}
 use lib.IntN.{ℤ, pos, negsuc, subℕ, _+ℤ_}
 use lib.Dec.{T, ltb, ltb→lt, nltb→le}

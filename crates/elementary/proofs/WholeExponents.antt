@@ -1,23 +1,23 @@
 -- Whole exponents: the program's tests are the definition's, and the nearest whole number of a whole number is that number. Assumes nothing.
 use mathlib.Core.Path.{_≡_, refl, sym, ap, _∙_, subst}
-use mathlib.Core.Bool.{Bool, true, false, not, _&&_, _||_, Bool·beq, true≢false}
-use Prim.Native.Nat.{ℕ, zero, suc, _+_, _*_, _/_, _%_, _^_, _≤_, _<_, min}
-use native.Mathlib.Nat.{zero-div, div-add-mod', mul-pos, mul-le-mul-right, mul-div-cancel, mul-mod-left, mul-one, le-trans, le-of-mul-le-mul-right, div-le-of-le-mul, eq-of-mul-eq-mul-right, zero-lt-suc}
+use mathlib.Core.Bool.{Bool, true, false, _&&_, _||_, true≢false}
+use Prim.Native.Nat.{ℕ, _+_, _*_, _/_, _%_, _≤_, _<_, min}
+use native.Mathlib.Nat.{zero-div, div-add-mod', mul-le-mul-right, mul-mod-left, mul-one, le-trans, div-le-of-le-mul, eq-of-mul-eq-mul-right, zero-lt-suc}
 use native.Mathlib.Omega.{arith}
-use borrow.Author.Tests.{ltb-true, ltb-false, eq-eqb, ne-eqb, le-leb, lt-leb}
+use borrow.Author.Tests.{ltb-true, ltb-false, eq-eqb, le-leb, lt-leb}
 use lib.IntN.{ℤ, pos}
-use lib.Dec.{T, ltb, leb, eqb, ltb→lt, lt→ltb, leb→le, eqb→eq, eqb-refl, lit≤}
+use lib.Dec.{T, ltb, leb, eqb, lt→ltb, leb→le, eqb→eq, lit≤}
 use lib.Ieee.{Float, nan, inf, fin, binary64, up, down, round, lt, le, eq, ofInt, ofBits, div}
 use lib.Ieee.Back.{round-whole}
-use lib.Ieee.Bits.{is-true, is-false}
 use lib.Ieee.Exact.{HasValue}
-use lib.Ieee.Fits.{up-pos, down-pos, and-l, and-r, and-i, eq→eqb}
+use lib.Ieee.Fits.{down-pos, and-l, and-r, and-i, eq→eqb}
 use Rattle.numbers.specs.Clamps.{plusZero}
 use Rattle.numbers.specs.Sizes.{absolute}
 use Rattle.numbers.specs.Whole.{nearestTo, nearestWhole, largest}
 use Rattle.numbers.proofs.Amounts.{passes}
 use Rattle.numbers.proofs.Ratios.{nearest-of-ratio}
 use Rattle.elementary.specs.WholePower.{one, turns, wholePower, negativePower}
+use Rattle.elementary.proofs.Roundings.{le-sizes}
 use Rattle.elementary.specs.Power.{isWhole, sizeOf, bySign}
 
 -- 1,200
@@ -25,22 +25,12 @@ abbrev most : Float
 most = ofBits binary64 0x4092_c000_0000_0000
 
 -- ---- the test of the size
-either : (a b : Bool) {G : Type 0} → T (a || b) → (T a → G) → (T b → G) → G
-either true b t p q = p tt
-either false b t p q = q t
-
 at-most : (m : ℕ) (k : ℤ) → le (fin false m k) most ≡ true → m * up k ≤ 1200 * down k
-unfolding le lt eq ofBits
-at-most m k h =
-    let A = m * up k * 1 in
-    let B = 75 * 16 * down k in
-    either (ltb A B) (eqb A B && true) (passes h) (λ t. less (m * up k) (down k) (ltb→lt A B t)) (λ t. level (m * up k) (down k) (eqb→eq A B (and-l (eqb A B) true t)))
+unfolding ofBits
+at-most m k h = plain (m * up k) (down k) (le-sizes m k 75 (pos 4) (passes h))
   where
-    less : (a d : ℕ) → a * 1 < 75 * 16 * d → a ≤ 1200 * d
-    less a d h = omega arith
-
-    level : (a d : ℕ) → a * 1 ≡ 75 * 16 * d → a ≤ 1200 * d
-    level a d h = omega arith
+    plain : (a d : ℕ) → a * 1 ≤ 75 * 16 * d → a ≤ 1200 * d
+    plain a d h = omega arith
 
 neither : (a b : Bool) → (a || b) ≡ false → (T a → ⊥) × (T b → ⊥)
 neither true b h = absurd (subst T h tt)
@@ -139,8 +129,8 @@ within (fin s m k) n h e =
     let D = down-pos k in
     equals (ofInt binary64 (pos n)) n m k (as-float n (subst (λ (i : ℕ). i ≤ largest) (sym e) (small a d D)))
     ∙ go (eqb (a % d) 0) (leb (a / d) 1200) (eqb→eq (a % d) 0) (λ z. eq→eqb z) (le-leb (a / d) 1200 (few a d D (at-most m k h)))
-      (λ z. eq-eqb (n * d) a (ap (λ (i : ℕ). i * d) (e ∙ nearest-is a d D z (few a d D (at-most m k h))) ∙ whole-is a d D z))
-      (λ t. whole-if a d D n (eqb→eq (n * d) a t))
+    (λ z. eq-eqb (n * d) a (ap (λ (i : ℕ). i * d) (e ∙ nearest-is a d D z (few a d D (at-most m k h))) ∙ whole-is a d D z))
+    (λ t. whole-if a d D n (eqb→eq (n * d) a t))
   where
     go : (p q : Bool) → (T p → m * up k % down k ≡ 0) → (m * up k % down k ≡ 0 → T p) → q ≡ true → (m * up k % down k ≡ 0 → eqb (n * down k) (m * up k) ≡ true)
         → (T (eqb (n * down k) (m * up k)) → m * up k % down k ≡ 0) → eqb (n * down k) (m * up k) ≡ (p && q)

@@ -1,6 +1,6 @@
 -- ln by document 01's steps. Definitions only. Assumes nothing.
 use Prim.Native.Nat.{ℕ, zero, suc, _+_, _-_, _*_, _^_}
-use mathlib.Core.Bool.{Bool, true, false, cond}
+use mathlib.Core.Bool.{Bool, true, false}
 use lib.IntN.{ℤ, pos, _+ℤ_}
 use lib.Ieee.{Float, nan, inf, fin, binary64, size, round, add, sub, mul, div, lt, ofInt, ofBits}
 use Rattle.elementary.specs.WholePower.{one}

@@ -1,7 +1,7 @@
 // ln: the number as m·2^e, m near 1, Horner's rule over the square of (m-1)/(m+1), and e times ln 2 in two parts.
 ghost use mathlib.Core.Path.{_≡_};
 ghost use Prim.Native.Nat.{_<_};
-ghost use mathlib.Core.Bool.{true, false};
+ghost use mathlib.Core.Bool.{true};
 ghost use lib.IntN.{subℕ};
 ghost use lib.Ieee.{binary64, lt, ofInt};
 ghost use lib.Ieee.Scale.{finite};

@@ -2,30 +2,28 @@
 use mathlib.Core.Path.{_≡_, refl, sym, ap, _∙_}
 use mathlib.Core.Logic.{inl, inr}
 use mathlib.Core.Bool.{Bool, true, false, _||_}
-use mathlib.Core.List.{List, [], _++_, append-assoc, append-nil}
+use mathlib.Core.List.{List, _++_}
 use Prim.Native.Nat.{ℕ, zero, suc, _+_, _-_, _*_, _/_, _^_, _<_, _≤_, min}
-use native.Mathlib.Nat.{eq-or-lt-of-le, suc-add, zero-add}
+use native.Mathlib.Nat.{eq-or-lt-of-le}
 use native.Mathlib.Omega.{arith}
 use lib.ListN.{length}
 use lib.Ieee.{Float}
 use lib.Dec.{eqb, ltb}
 use borrow.Author.Tests.{ltb-false}
-use Rattle.refusals.specs.Outcome.{Outcome, refused, accepted}
+use Rattle.refusals.specs.Outcome.{refused, accepted}
 use Rattle.refusals.specs.Table.{badTerm}
 use Rattle.mortgage.specs.declared.Loan.{Loan}
 use Rattle.mortgage.specs.declared.draws.Portion.{Portion}
-use Rattle.mortgage.specs.declared.draws.Drawing.{Drawing}
-use Rattle.mortgage.specs.declared.draws.Drawing.the-variants as drawing-is
 use Rattle.mortgage.specs.Row.{width}
 use Rattle.mortgage.specs.RowRule.{endMonth, due, rowOf, nextOf}
 use Rattle.mortgage.specs.Steps.{stepped, written}
 use Rattle.mortgage.specs.Rows.{after}
-use Rattle.mortgage.specs.Draws.{portion, drawn, filledBy, filled, drawingOutcome}
+use Rattle.mortgage.specs.Draws.{drawn, filled}
 use Rattle.mortgage.specs.Demand3.{rowsIn}
-use Rattle.mortgage.proofs.Portions.{stepped-sum}
+use Rattle.mortgage.proofs.Portions.{stepped-sum, written-sum}
 use Rattle.mortgage.proofs.RowLaws.{end-after, done-after, due-after}
-use Rattle.mortgage.proofs.DrawCases.{rowPlaces, wide, drawn-finished, drawn-rows}
-use Rattle.mortgage.proofs.DrawLaws.{rows-drawn, written-plus-owed, written-within, hands-on}
+use Rattle.mortgage.proofs.DrawCases.{drawn-finished, drawn-rows}
+use Rattle.mortgage.proofs.DrawLaws.{rows-drawn, written-plus-owed, hands-on}
 use Rattle.listing.specs.declared.portions.Listed.{Listed}
 use Rattle.listing.specs.Listing.{rowLine, rowLines}
 use Rattle.listing.specs.Putting.{Put}
@@ -97,12 +95,10 @@ term-after zero l = refl
 term-after (suc k) l = term-after k l
 
 after-sum : (a b : ℕ) (l : Loan) → after (b + a) l ≡ after b (after a l)
-after-sum a b l = stepped-sum nextOf rowPlaces width wide a b l
+after-sum a b l = stepped-sum nextOf a b l
 
 lines-sum : (a b : ℕ) (l : Loan) → rowLines (b + a) l ≡ rowLines a l ++ rowLines b (after a l)
-unfolding written
-lines-sum a zero l = ap (λ (k : ℕ). rowLines k l) (zero-add a) ∙ sym (append-nil (rowLines a l))
-lines-sum a (suc b) l = rw (suc-add b a, lines-sum a b l, after-sum a b l, append-assoc)
+lines-sum = written-sum nextOf (λ (m : Loan). rowLine (rowOf m))
 
 pub follows : {j k : ℕ} {s t u : Listed} {o p q : List ℕ} → Lists j s o t p → Lists k t p u q → Lists (k + j) s o u q
 follows {j} {k} {s} {t} {u} {o} {p} {q} a b = record {

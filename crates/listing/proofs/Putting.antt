@@ -1,7 +1,7 @@
--- Laws of texts put into memory: one text behind another, the room that is left behind one, and a byte put in front. Assumes nothing.
+-- Laws of texts put into memory: one text behind another, and a byte put in front of a text or behind it. Assumes nothing.
 use mathlib.Core.Path.{_≡_, refl, sym, ap, _∙_}
-use mathlib.Core.List.{List, [], _∷_, _++_, append-assoc, append-nil}
-use Prim.Native.Nat.{ℕ, zero, suc, _+_, _<_, _≤_}
+use mathlib.Core.List.{List, [], _∷_, _++_}
+use Prim.Native.Nat.{ℕ, suc, _+_, _<_, _≤_}
 use native.Mathlib.Nat.{add-zero, add-suc, suc-add}
 use native.Mathlib.Numerals.{add-one}
 use native.Mathlib.Omega.{arith}
@@ -42,13 +42,7 @@ then {t} {u} {at} {m} {n} {o} {p} {q} a b = record {
   bytes = b .bytes ∙ rw (a .bytes, a .place) (sets-append o at t u);
 }
 
--- the room for a text is room for its front, and behind the front for what follows
-pub room-for-front : (t u : List ℕ) (at room : ℕ) → at + length (t ++ u) ≤ room → at + length t ≤ room
-room-for-front t u at room h = omega (arith, length-append t u)
-
-pub room-behind : {t : List ℕ} {at m : ℕ} {o p : List ℕ} (u : List ℕ) → Put t at o m p → at + length (t ++ u) ≤ length o → m + length u ≤ length p
-room-behind {t} {at} {m} {o} {p} u a h = omega (arith, length-append t u, a .place, ap length (a .bytes) ∙ length-sets o at t)
-
+-- the memory stays as long as it was
 pub same-room : {t : List ℕ} {at m : ℕ} {o p : List ℕ} → Put t at o m p → length p ≡ length o
 same-room {t} {at} {m} {o} {p} a = ap length (a .bytes) ∙ length-sets o at t
 

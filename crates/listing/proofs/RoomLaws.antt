@@ -1,17 +1,16 @@
 -- The lines of a room's numbers: one row behind the others, and that a room in which a loan's rows are laid has the loan's lines. Assumes nothing.
-use mathlib.Core.Path.{_≡_, refl, sym, ap, _∙_}
-use mathlib.Core.List.{List, [], _∷_, _++_}
+use mathlib.Core.Path.{_≡_, refl, _∙_}
+use mathlib.Core.List.{List, _++_}
 use Prim.Native.Nat.{ℕ, zero, suc, _+_, _*_, _<_, _≤_}
-use native.Mathlib.Nat.{add-zero}
 use native.Mathlib.Numerals.{add-one}
 use native.Mathlib.Omega.{arith}
-use lib.ListN.{length, getD, drop, List·getD-append}
+use lib.ListN.{getD, drop, List·getD-append}
 use lib.Ieee.{Float, nan}
 use Rattle.records.specs.declared.Row.{Row}
 use Rattle.mortgage.specs.declared.Loan.{Loan}
 use Rattle.mortgage.specs.Row.{width, places}
 use Rattle.mortgage.specs.RowRule.{rowOf, nextOf}
-use Rattle.mortgage.specs.Steps.{stepped, written, laid}
+use Rattle.mortgage.specs.Steps.{written, laid}
 use Rattle.mortgage.specs.Rows.{after, rows}
 use Rattle.mortgage.proofs.Columns.{column}
 use Rattle.mortgage.proofs.RowLaws.{done-after}
@@ -20,7 +19,7 @@ use Rattle.mortgage.proofs.DrawLaws.{length-rows}
 use Rattle.listing.specs.Listing.{rowLine, rowLines}
 use Rattle.listing.specs.Putting.{Put}
 use Rattle.listing.specs.Portions.{rowAt, roomLines}
-use Rattle.listing.proofs.Putting.{then, same-text, nothing}
+use Rattle.listing.proofs.Putting.{then, nothing}
 
 -- ---- the loop that puts them
 pub no-row : (done : ℕ) (room : List Float) (at : ℕ) (o : List ℕ) → Put (roomLines done room 0) at o at o

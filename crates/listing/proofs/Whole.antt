@@ -1,11 +1,11 @@
 -- The whole listing: which text it is in each case, the parts of a loan's, and that 96,000 bytes hold it whatever the record is. Assumes nothing.
-use mathlib.Core.Path.{_≡_, refl, sym, ap, _∙_}
+use mathlib.Core.Path.{_≡_, refl, ap, _∙_}
 use mathlib.Core.Bool.{Bool, true, false}
 use mathlib.Core.List.{List, [], _∷_, _++_}
 use Prim.Native.Nat.{ℕ, _+_, _*_, _≤_, zero-le}
 use native.Mathlib.Nat.{zero-add}
 use native.Mathlib.Omega.{arith}
-use lib.ListN.{length, take, drop, length-append}
+use lib.ListN.{length, drop, length-append}
 use lib.Seq.{sets-eq}
 use Rattle.refusals.specs.Outcome.{Outcome, refused, accepted, line, firstOr, judged}
 use Rattle.refusals.specs.Table.{badAmount, badTerm}
@@ -14,7 +14,7 @@ use Rattle.records.specs.Kinds.{readTerms}
 use Rattle.mortgage.specs.declared.Loan.{Loan}
 use Rattle.mortgage.specs.Terms.{termsLines as loanTermsLines}
 use Rattle.mortgage.specs.Payment.{payment, loanOf, openedWith, opened}
-use Rattle.mortgage.specs.RowRule.{endMonth, due}
+use Rattle.mortgage.specs.RowRule.{due}
 use Rattle.mortgage.specs.Rows.{after}
 use Rattle.refusals.proofs.Verdicts.{accepted-value}
 use Rattle.listing.specs.declared.portions.Listed.{Listed}
@@ -55,9 +55,9 @@ starts l at o p h b t = record {
 }
 
 pub footer-fits : (l : Loan) (at : ℕ) (o p q : List ℕ) (s : Listed) → InHand l → 96000 ≤ length o → Put header 0 o at p
-    → Lists (due l) (record { at = at; rows = 0; left = 0; loan = l }) p s q → s .at + length (footer (s .rows) (s .left)) ≤ length q
-footer-fits l at o p q s h b t a =
-    omega (arith, few-due l h, t .place, same-room t, a .text .place, same-room (a .text), length-lines (due l) l, length-footer (s .rows) (s .left))
+    → Lists (due l) (record { at = at; rows = 0; left = 0; loan = l }) p s q → (m n : ℕ) → s .at + length (footer m n) ≤ length q
+footer-fits l at o p q s h b t a m n =
+    omega (arith, few-due l h, t .place, same-room t, a .text .place, same-room (a .text), length-lines (due l) l, length-footer m n)
 
 pub loan-listed : (l : Loan) (at n : ℕ) (o p q r : List ℕ) (s : Listed) → Put header 0 o at p
     → Lists (due l) (record { at = at; rows = 0; left = 0; loan = l }) p s q → s .left ≡ due (s .loan)

@@ -3,7 +3,7 @@ use mathlib.Core.Path.{_≡_}
 use mathlib.Core.Bool.{false}
 use mathlib.Core.List.{List, [], _++_}
 use Prim.Native.Nat.{ℕ, zero, suc, _+_, _*_, _^_, _<_, _≤_}
-use lib.ListN.{length, getD}
+use lib.ListN.{getD}
 use lib.Ieee.{Float, nan}
 use Rattle.refusals.specs.Table.{badTerm}
 use Rattle.records.specs.declared.Row.{Row}
@@ -45,7 +45,7 @@ pub record Listable (s : Listed) (room : ℕ) : Type 0 where
   pub count : s .rows + due (s .loan) < 2 ^ 32
   pub lines : s .at + due (s .loan) * lineRoom ≤ room
 
--- the next k rows are listed, and so many are left
+-- the next k rows of the loan are listed
 pub record Lists (k : ℕ) (s : Listed) (before : List ℕ) (t : Listed) (after′ : List ℕ) : Type 0 where
   pub rows : t .rows ≡ s .rows + k
   pub loan : t .loan ≡ after k (s .loan)

@@ -15,7 +15,7 @@ use records::TermsRead;
 pub const ROOM: usize = 96000;
 
 // Puts the listing of a kind 1 record, or the line that says its refusal, from the start of the lent memory, and gives its length.
-pub fn list(bytes: &[u8], out: &mut [u8; 96000]) -> usize
+pub fn list(bytes: &[u8], out: &mut [u8; ROOM]) -> usize
     ensures { λ r. ⌜ r ≡ length (listing (now (bytes .entry))) ⌝ }
     ensures { λ r. ⌜ now (out .exit) ≡ listing (now (bytes .entry)) ++ drop r (now (out .entry)) ⌝ }
 {

@@ -58,6 +58,7 @@ fn put_portion(out: &mut [u8], listed: Listed) -> Listed
 {
     let mut room = [0.0; 60];
     let loan = listed.loan;
+    // The room holds rows and the loan is in hand, so that no draw is refused.
     let Drawing::Drawn(portion) = mortgage::draws::draw(loan, &mut room) else {
         return listed;
     };
@@ -72,7 +73,7 @@ fn put_portion(out: &mut [u8], listed: Listed) -> Listed
 }
 
 // All rows that are due, portion by portion until nothing is left.
-pub(crate) fn put_all(out: &mut [u8], start: Listed) -> Listed
+fn put_all(out: &mut [u8], start: Listed) -> Listed
     requires { ⌜ Listable start (length (now out)) ⌝ }
     ensures { λ r. ⌜ Lists (due (start .loan)) start (now (out .entry)) r (now (out .exit)) ⌝ }
     ensures { λ r. ⌜ r .left ≡ due (r .loan) ⌝ }
@@ -93,6 +94,7 @@ pub(crate) fn put_loan(out: &mut [u8], loan: Loan) -> usize
     ensures { λ r. ⌜ Put (loanLines (accepted loan)) 0 (now (out .entry)) r (now (out .exit)) ⌝ }
 {
     let header = crate::text::put_text(out, 0, b"month payment principal interest balance\n");
+    // How many are left is told by the first draw.
     let start = Listed {
         at: header,
         rows: 0,

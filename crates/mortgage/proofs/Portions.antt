@@ -1,8 +1,8 @@
 -- Laws of a state that steps on and of what its steps write into a room, for any state, any step and any width: portions add up, and a piece laid behind those that stand is the next one. Assumes nothing.
-use mathlib.Core.Path.{_≡_, refl, sym, ap, _∙_}
-use mathlib.Core.List.{List, [], _∷_, _++_, append-assoc, append-nil}
-use Prim.Native.Nat.{ℕ, zero, suc, _+_, _-_, _*_, _/_, _<_, _≤_, min}
-use native.Mathlib.Nat.{suc-add, zero-add, zero-mul, suc-mul, add-mul, mul-le-mul-right, le-trans}
+use mathlib.Core.Path.{_≡_, sym, ap, _∙_}
+use mathlib.Core.List.{List, _++_, append-assoc, append-nil}
+use Prim.Native.Nat.{ℕ, zero, suc, _+_, _-_, _*_, _≤_}
+use native.Mathlib.Nat.{suc-add, zero-add, zero-mul, suc-mul, add-mul}
 use native.Mathlib.Numerals.{add-one}
 use native.Mathlib.Omega.{arith}
 use lib.ListN.{length, take, drop, length-append, length-drop, length-take, drop-of-length-le}
@@ -26,6 +26,23 @@ beyond p r o o₁ i j h b e =
     let w : length (drop i o) ≤ length o₁ - i = simp length-drop (omega arith) in
     rw (t, d, take-all (length o₁ - i) (drop i o) w, drop-of-length-le (drop i o) w, append-nil, drop-drop j i o, append-assoc)
 
+-- ---- portions: a steps and then b are b + a
+module _ {S : Type 0} (next : S → S) where
+  pub stepped-sum : (a b : ℕ) (s : S) → stepped next (b + a) s ≡ stepped next b (stepped next a s)
+  unfolding stepped
+  stepped-sum a zero s = ap (λ (k : ℕ). stepped next k s) (zero-add a)
+  stepped-sum a (suc b) s = ap (λ (k : ℕ). stepped next k s) (suc-add b a) ∙ ap next (stepped-sum a b s)
+
+  pub stepped-next : (k : ℕ) (s : S) → next (stepped next k s) ≡ stepped next (k + 1) s
+  unfolding stepped
+  stepped-next k s = rw (add-one k)
+
+module _ {S A : Type 0} (next : S → S) (writes : S → List A) where
+  pub written-sum : (a b : ℕ) (s : S) → written next writes (b + a) s ≡ written next writes a s ++ written next writes b (stepped next a s)
+  unfolding written
+  written-sum a zero s = ap (λ (k : ℕ). written next writes k s) (zero-add a) ∙ sym (append-nil (written next writes a s))
+  written-sum a (suc b) s = rw (suc-add b a, written-sum a b s, stepped-sum next a b s, append-assoc)
+
 module _ {S A : Type 0} (next : S → S) (writes : S → List A) (w : ℕ) (wide : (s : S) → length (writes s) ≡ w) where
   pub length-written : (k : ℕ) (s : S) → length (written next writes k s) ≡ k * w
   unfolding written
@@ -33,22 +50,7 @@ module _ {S A : Type 0} (next : S → S) (writes : S → List A) (w : ℕ) (wide
   length-written (suc k) s =
       length-append (written next writes k s) (writes (stepped next k s)) ∙ rw (length-written k s, wide (stepped next k s), suc-mul k w)
 
-  -- ---- portions: a steps and then b are b + a
-  pub stepped-sum : (a b : ℕ) (s : S) → stepped next (b + a) s ≡ stepped next b (stepped next a s)
-  unfolding stepped
-  stepped-sum a zero s = ap (λ (k : ℕ). stepped next k s) (zero-add a)
-  stepped-sum a (suc b) s = ap (λ (k : ℕ). stepped next k s) (suc-add b a) ∙ ap next (stepped-sum a b s)
-
-  pub written-sum : (a b : ℕ) (s : S) → written next writes (b + a) s ≡ written next writes a s ++ written next writes b (stepped next a s)
-  unfolding written
-  written-sum a zero s = ap (λ (k : ℕ). written next writes k s) (zero-add a) ∙ sym (append-nil (written next writes a s))
-  written-sum a (suc b) s = rw (suc-add b a, written-sum a b s, stepped-sum a b s, append-assoc)
-
   -- ---- a turn of a loop that lays one piece after the other
-  pub stepped-next : (k : ℕ) (s : S) → next (stepped next k s) ≡ stepped next (k + 1) s
-  unfolding stepped
-  stepped-next k s = rw (add-one k)
-
   one-more : (k : ℕ) → (k + 1) * w ≡ k * w + w
   one-more k = rw (add-one k) (suc-mul k w)
 
@@ -65,7 +67,7 @@ module _ {S A : Type 0} (next : S → S) (writes : S → List A) (w : ℕ) (wide
       → o ≡ laid w k (written next writes k s₀) o₀ → s ≡ stepped next k s₀ → at ≡ k * w → piece ≡ writes s → s′ ≡ next s → o′ ≡ sets o at piece
       → k * w + w ≤ length o₀
       → (o′ ≡ laid w (k + 1) (written next writes (k + 1) s₀) o₀) × (s′ ≡ stepped next (k + 1) s₀)
-  turn k s₀ s s′ o₀ o o′ at piece eo es ea ep en e h = (e ∙ rw (eo, ea, ep, es) (laid-next k s₀ o₀ h), en ∙ rw es (stepped-next k s₀))
+  turn k s₀ s s′ o₀ o o′ at piece eo es ea ep en e h = (e ∙ rw (eo, ea, ep, es) (laid-next k s₀ o₀ h), en ∙ rw es (stepped-next next k s₀))
 
   -- ---- a pieces in a room, and the rest of n in what is left of it, are n pieces
   pub room-left : (o o₁ : List A) (a n : ℕ) → length o₁ ≡ length o → a ≤ n → n * w ≤ length o
@@ -82,7 +84,7 @@ module _ {S A : Type 0} (next : S → S) (writes : S → List A) (w : ℕ) (wide
   joined s₀ s₁ s₂ o o₁ o₂ a n es₁ eo₁ es₂ eo₂ h b =
       let e : n - a + a ≡ n = omega arith in
       let t : a * w + (n - a) * w ≡ n * w = sym (add-mul a (n - a) w) ∙ ap (λ (k : ℕ). k * w) (omega arith) in
-      let q : written next writes a s₀ ++ written next writes (n - a) s₁ ≡ written next writes n s₀ = rw es₁ (sym (written-sum a (n - a) s₀) ∙ ap (λ (k : ℕ). written next writes k s₀) e) in (
-        es₂ ∙ ap (stepped next (n - a)) es₁ ∙ sym (stepped-sum a (n - a) s₀) ∙ ap (λ (k : ℕ). stepped next k s₀) e,
+      let q : written next writes a s₀ ++ written next writes (n - a) s₁ ≡ written next writes n s₀ = rw es₁ (sym (written-sum next writes a (n - a) s₀) ∙ ap (λ (k : ℕ). written next writes k s₀) e) in (
+        es₂ ∙ ap (stepped next (n - a)) es₁ ∙ sym (stepped-sum next a (n - a) s₀) ∙ ap (λ (k : ℕ). stepped next k s₀) e,
         rw eo₂ (beyond (written next writes a s₀) (written next writes (n - a) s₁) o o₁ (a * w) ((n - a) * w) (length-written a s₀) (rw t b) eo₁ ∙ rw (q, t)),
       )

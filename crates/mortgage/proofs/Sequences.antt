@@ -24,7 +24,7 @@ use Rattle.mortgage.specs.Draws.{count, drawn}
 use Rattle.mortgage.specs.Demand3.{rowsIn, handedBack, wrote, filed, left, roomy}
 use Rattle.mortgage.proofs.Portions.{stepped-sum, written-sum}
 use Rattle.mortgage.proofs.RowLaws.{due-after}
-use Rattle.mortgage.proofs.DrawCases.{rowPlaces, wide}
+use Rattle.mortgage.proofs.DrawCases.{rowPlaces}
 use Rattle.mortgage.proofs.DrawLaws.{wrote-is, rows-within, rows-drawn, handed-back}
 
 -- ---- the draws of a loan in hand filed so many of its rows, and left it after them
@@ -47,8 +47,8 @@ filed-more l room rooms f =
     let h : handedBack (drawn l room) l ≡ after k l = handed-back l room in
     record {
       many = n + k;
-      numbers = rw (wrote-is l room, f .numbers, h) (sym (written-sum nextOf rowPlaces width wide k n l));
-      state = f .state ∙ rw h (sym (stepped-sum nextOf rowPlaces width wide k n l));
+      numbers = rw (wrote-is l room, f .numbers, h) (sym (written-sum nextOf rowPlaces k n l));
+      state = f .state ∙ rw h (sym (stepped-sum nextOf k n l));
       within = omega (arith, rows-within l room, f .within, due-after k l, ap due h);
     }
 

@@ -1,7 +1,7 @@
 // One row of a loan in hand, by document 01's row rule.
 ghost use mathlib.Core.Path.{_≡_};
 ghost use Prim.Native.Nat.{_+_, _<_};
-ghost use mathlib.Core.Bool.{true, false};
+ghost use mathlib.Core.Bool.{true};
 ghost use lib.Ieee.{binary64, sub, lt};
 ghost use Rattle.numbers.specs.Clamps.{plusZero};
 ghost use Rattle.mortgage.specs.RowRule.{endMonth, interestOf, rowOf, nextOf};

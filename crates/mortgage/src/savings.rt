@@ -2,7 +2,7 @@
 ghost use mathlib.Core.Path.{_≡_};
 ghost use Prim.Native.Nat.{_+_, _*_, _<_, _-_, _≤_};
 ghost use Rattle.numbers.specs.Clamps.{plusZero};
-ghost use Rattle.mortgage.specs.Savings.{paidDown, run, paidOff, saved, prepaymentSavings, savingsOutcome};
+ghost use Rattle.mortgage.specs.Savings.{paidDown, run, saved, prepaymentSavings, savingsOutcome};
 use records::Terms;
 use refusals::Verdict;
 

@@ -9,7 +9,7 @@ use native.Mathlib.Omega.{arith}
 use lib.Dec.{T}
 use lib.ListN.{length, take, drop, getD, length-append, length-drop, take-append-drop}
 use lib.Seq.{take-at, drop-at, drop-length, length-take-le, getD-drop, sets, sets-eq}
-use lib.Ieee.{Float, nan, inf, fin, binary64, fits, isNan, ofBits, toBits}
+use lib.Ieee.{Float, binary64, fits, isNan, ofBits, toBits}
 use lib.Ieee.Bits.{ofBits-toBits, toBits-lt, toBits-ofBits}
 use Rattle.numbers.proofs.Nans.{is-nan, pattern-of-nan}
 use Rattle.records.specs.Bytes.{valueOf, bytesOf, wholeBytes, floatBytes}

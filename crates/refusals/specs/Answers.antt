@@ -1,7 +1,6 @@
 -- The answers that many functions share: document 01's number, place and values for each case of each enum. Definitions only. Assumes nothing.
 use Prim.Native.Nat.{ℕ}
 use lib.Ieee.{Float}
-use Rattle.refusals.specs.declared.Refusal.{Refusal}
 use Rattle.refusals.specs.declared.Verdict.{Verdict}
 use Rattle.refusals.specs.declared.Verdict.the-variants as verdict-is
 use Rattle.refusals.specs.declared.Number.{Number}

@@ -2,8 +2,8 @@
 use Prim.Native.Nat.{ℕ, zero, suc}
 use mathlib.Core.Bool.{Bool, false, cond, _||_}
 use mathlib.Core.List.{List, [], _∷_, map}
-use lib.ListN.{length, getD}
-use lib.Ieee.{Float, nan, binary64, neg, add, sub, mul, div, lt, le, ofBits}
+use lib.ListN.{length}
+use lib.Ieee.{Float, binary64, neg, add, sub, mul, div, lt, le, ofBits}
 use Rattle.numbers.specs.Clamps.{plusZero}
 use Rattle.numbers.specs.Sizes.{absolute}
 use Rattle.numbers.specs.Sums.{addedUp}

@@ -1,5 +1,5 @@
 -- The bootstrap: zero rates from par rates, one knot after the other, each solved so that its par swap is worth par. Definitions only. Assumes nothing.
-use Prim.Native.Nat.{ℕ, zero, suc, _-_}
+use Prim.Native.Nat.{ℕ, zero, suc}
 use mathlib.Core.Bool.{Bool, cond, not, _||_}
 use mathlib.Core.List.{List, [], _∷_, _++_, map}
 use lib.IntN.{pos}

@@ -1,6 +1,6 @@
 -- A swap's periods, and what every function over a swap and a curve asks first. Definitions only. Assumes nothing.
 use Prim.Native.Nat.{ℕ}
-use mathlib.Core.Bool.{Bool, _||_}
+use mathlib.Core.Bool.{_||_}
 use mathlib.Core.List.{List, [], _∷_, _++_}
 use lib.IntN.{pos}
 use lib.Ieee.{Float, binary64, mul, div, ofInt, ofBits}

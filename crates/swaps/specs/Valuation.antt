@@ -1,5 +1,4 @@
 -- What the functions over a swap and a curve answer. Definitions only. Assumes nothing.
-use Prim.Native.Nat.{ℕ}
 use mathlib.Core.Bool.{Bool}
 use mathlib.Core.List.{List, map}
 use lib.Ieee.{Float, binary64, add, sub, ofBits}

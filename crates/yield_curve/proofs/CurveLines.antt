@@ -11,23 +11,22 @@ use borrow.Author.Tests.{eq-eqb, ne-eqb, ltb-false}
 use Rattle.refusals.specs.Outcome.{Outcome, refused, accepted, Line, line, firstOr, judged}
 use Rattle.refusals.specs.Table.{unequal, badKnotCount, badKnots}
 use Rattle.refusals.proofs.Verdicts.{verdict}
-use Rattle.refusals.proofs.Judging.{followed, judged-in-parts}
+use Rattle.refusals.proofs.Judging.{none-is, passed, followed, judged-in-parts}
 use Rattle.yield_curve.specs.Curve.{curveLines}
 
-module _ (k : ℕ) (b : Bool) (ls : List Line) where
-  -- a line of one thing that has its cause, and one that has not
-  pub caused : b ≡ true → refused k 0 ≡ verdict (line k b ∷ ls)
+-- a line of one thing that has its cause, one that has not, and one that has not and is the last
+module _ {Value : Type 0} (v : Value) (k : ℕ) (b : Bool) where
+  pub caused : (ls : List Line) → b ≡ true → refused k 0 ≡ judged (line k b ∷ ls) v
   unfolding judged firstOr
-  caused e = rw e
+  caused ls e = rw e
 
-  pub clear : b ≡ false → verdict ls ≡ verdict (line k b ∷ ls)
+  pub clear : (ls : List Line) → b ≡ false → judged ls v ≡ judged (line k b ∷ ls) v
   unfolding judged firstOr
-  clear e = rw e
+  clear ls e = rw e
 
--- where it is the last, all is accepted
-pub all-clear : (k : ℕ) (b : Bool) → b ≡ false → accepted tt ≡ verdict (line k b ∷ [])
-unfolding judged firstOr
-all-clear k b e = rw e
+  pub all-clear : b ≡ false → accepted v ≡ judged (line k b ∷ []) v
+  unfolding judged firstOr
+  all-clear e = rw e
 
 different : (m n : ℕ) → (m ≡ n → ⊥) → unequal m n ≡ true
 unfolding unequal
@@ -51,16 +50,16 @@ module _ (times rates : List Float) where
   knotLine = record { number = 6; causes = badKnots times rates }
 
   pub refused-4 : (length times ≡ length rates → ⊥) → refused 4 0 ≡ verdict (curveLines times rates)
-  refused-4 h = caused 4 _ _ (different _ _ h)
+  refused-4 h = caused tt 4 _ _ (different _ _ h)
 
   after-4 : length times ≡ length rates → verdict (line 5 (badKnotCount (length times)) ∷ knotLine ∷ []) ≡ verdict (curveLines times rates)
-  after-4 h = clear 4 _ _ (equal _ _ h)
+  after-4 h = clear tt 4 _ _ (equal _ _ h)
 
   pub refused-5 : length times ≡ length rates → badKnotCount (length times) ≡ true → refused 5 0 ≡ verdict (curveLines times rates)
-  refused-5 h b = caused 5 _ (knotLine ∷ []) b ∙ after-4 h
+  refused-5 h b = caused tt 5 _ (knotLine ∷ []) b ∙ after-4 h
 
   pub by-line-6 : length times ≡ length rates → badKnotCount (length times) ≡ false → verdict (knotLine ∷ []) ≡ verdict (curveLines times rates)
-  by-line-6 h b = clear 5 _ (knotLine ∷ []) b ∙ after-4 h
+  by-line-6 h b = clear tt 5 _ (knotLine ∷ []) b ∙ after-4 h
 
   -- ---- and a line k after them
   module _ (k : ℕ) (b : Bool) where
@@ -69,3 +68,7 @@ module _ (times rates : List Float) where
 
     pub by-last-line : accepted tt ≡ verdict (curveLines times rates) → verdict (line k b ∷ []) ≡ verdict (curveLines times rates ++ line k b ∷ [])
     by-last-line e = ap (λ (o : Outcome Unit). followed o (verdict (line k b ∷ []))) e ∙ sym (judged-in-parts (curveLines times rates) (line k b ∷ []) tt)
+
+  -- ---- what is accepted has at most 120 knots
+  pub accepted-at-most-120 : (ms : List Line) → accepted tt ≡ verdict (curveLines times rates ++ ms) → length times ≤ 120
+  accepted-at-most-120 ms e = at-most-120 (length times) (none-is (passed tt tt _ _ (passed tt tt _ _ e .1) .0) 0)

@@ -1,3 +1,12 @@
+pub mod Choices
+pub mod Adding
 pub mod Serving
+pub mod Flat
 pub mod KnotLine
 pub mod CurveLines
+pub mod Forwards
+pub mod Pars
+pub mod Pivots
+pub mod Points
+pub mod Filling
+pub mod Splines

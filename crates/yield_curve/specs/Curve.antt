@@ -1,6 +1,5 @@
 -- What every function over a curve asks first: the two lists, and then the time. Definitions only. Assumes nothing.
 use mathlib.Core.List.{List, [], _∷_, _++_}
-use Prim.Native.Nat.{ℕ}
 use lib.ListN.{length}
 use lib.Ieee.{Float}
 use Rattle.refusals.specs.Outcome.{Line, line}

@@ -12,7 +12,6 @@ use Rattle.elementary.specs.WholePower.{one}
 use Rattle.yield_curve.specs.declared.nelson_siegel.NelsonSiegel.{NelsonSiegel}
 use Rattle.yield_curve.specs.declared.solve.System.{System}
 use Rattle.yield_curve.specs.declared.solve.Equation.{Equation}
-use Rattle.yield_curve.specs.declared.solve.Unknowns.{Unknowns}
 use Rattle.yield_curve.specs.declared.fitting.FitAnswer.{FitAnswer}
 use Rattle.yield_curve.specs.declared.fitting.FitAnswer.the-variants as fit-is
 use Rattle.yield_curve.specs.Segments.{knot}

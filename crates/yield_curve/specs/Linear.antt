@@ -9,7 +9,7 @@ use Rattle.numbers.specs.Clamps.{plusZero}
 use Rattle.numbers.specs.Sizes.{absolute}
 use Rattle.numbers.specs.Whole.{nearestWhole}
 use Rattle.numbers.specs.Sums.{addedUp}
-use Rattle.refusals.specs.Outcome.{Outcome, Line, line, judged}
+use Rattle.refusals.specs.Outcome.{Outcome, line, judged}
 use Rattle.refusals.specs.Table.{badTime, tooManyPeriods}
 use Rattle.elementary.specs.WholePower.{one}
 use Rattle.elementary.specs.Exp.{exp}

@@ -1,6 +1,6 @@
 -- Nelson-Siegel curves. Definitions only. Assumes nothing.
 use mathlib.Core.Bool.{cond}
-use mathlib.Core.List.{List, [], _∷_}
+use mathlib.Core.List.{[], _∷_}
 use lib.Ieee.{Float, binary64, neg, add, sub, mul, div, lt, ofBits}
 use Rattle.refusals.specs.Outcome.{Outcome, line, judged}
 use Rattle.refusals.specs.Table.{badTime}

@@ -1,5 +1,5 @@
 -- Three equations in three unknowns, by elimination with the largest pivot of each column first; a pivot below 1e-14 gives zeros. Definitions only. Assumes nothing.
-use mathlib.Core.Bool.{Bool, cond, _||_}
+use mathlib.Core.Bool.{Bool, cond}
 use lib.Ieee.{Float, binary64, sub, mul, div, lt, ofBits}
 use Rattle.numbers.specs.Clamps.{plusZero}
 use Rattle.numbers.specs.Sizes.{absolute}

@@ -2,7 +2,6 @@
 use mathlib.Core.Path.{sym, ap, _∙_}
 use native.Mathlib.Omega.{arith}
 use borrow.Author.Needs.{needs}
-use denote.Ref.{now}
 use Rattle.records.specs.Kinds.{termsOutcome}
 use Rattle.mortgage.specs.Payment.{openingOutcome}
 use Rattle.listing.proofs.Lengths.{length-refused}

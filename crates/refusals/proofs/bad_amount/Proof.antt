@@ -1,7 +1,6 @@
 -- `refusals::bad_amount` meets its contract: the two tests are the two causes of line 1. Assumes nothing.
-use mathlib.Core.Path.{_≡_, refl, sym, ap, _∙_}
+use mathlib.Core.Path.{_≡_, refl, ap, _∙_}
 use mathlib.Core.Bool.{Bool, true, false, not, _||_}
-use lib.Ieee.{lt}
 use lib.Ieee.Scale.{finite}
 use borrow.Author.Needs.{needs}
 use Rattle.refusals.specs.Table.{badAmount}

@@ -10,14 +10,11 @@ is-finite-requires c κs = search needs
 
 returns : tie.Need-returns
 unfolding badMaturity
-returns c = rw (sym (c .before .is-finite .ensures), c .if1 .taken)
-
-periods-requires : tie.Need-periods-requires
-periods-requires c κs = search needs
+returns c = let e = c .before .before in rw (sym (e .is-finite .ensures), c .before .if1 .taken, sym (e .before .before .pre .counted))
 
 returns-2 : tie.Need-returns-2
 unfolding badMaturity
-returns-2 c = rw (sym (c .before .before .is-finite .ensures), c .before .if1 .left, c .periods .ensures)
+returns-2 c = rw (sym (c .before .is-finite .ensures), c .if1 .left)
 
 pub bad-maturity-spec : {M : Type 1} → statement M
-bad-maturity-spec = tie.close (tie.spec is-finite-requires returns periods-requires returns-2)
+bad-maturity-spec = tie.close (tie.spec is-finite-requires returns returns-2)

@@ -18,9 +18,6 @@ returns c = rw (sym (c .before .before .price-at .ensures), sym (c .before .next
 period-rate-requires : tie.Need-period-rate-requires
 period-rate-requires c κs = search needs
 
-coupons-a-year-requires : tie.Need-coupons-a-year-requires
-coupons-a-year-requires c κs = search needs
-
 weighted-squares-requires : tie.Need-weighted-squares-requires
 weighted-squares-requires c κs = search needs
 
@@ -30,12 +27,13 @@ whole-power-requires c κs = search needs
 returns-2 : tie.Need-returns-2
 unfolding convexityOf worthless
 returns-2 c =
-    let e = c .before .before .before .before in
+    let w = c .before .before in
+    let e = w .before .before .before in
     rw (
-      c .whole-power .ensures,
-      c .before .weighted-squares .ensures,
-      c .before .before .coupons-a-year .ensures,
-      c .before .before .before .period-rate .ensures,
+      w .whole-power .ensures,
+      w .before .weighted-squares .ensures,
+      e .before .before .before .pre .yearly,
+      w .before .before .period-rate .ensures,
       sym (e .before .before .price-at .ensures),
       sym (e .before .next-to-nothing .ensures),
       e .if1 .left,
@@ -49,7 +47,6 @@ convexity-at-spec =
     next-to-nothing-requires
     returns
     period-rate-requires
-    coupons-a-year-requires
     weighted-squares-requires
     whole-power-requires
     returns-2)

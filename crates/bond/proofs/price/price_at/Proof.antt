@@ -17,11 +17,8 @@ undiscounted-price-requires c κs = search needs
 returns : tie.Need-returns
 unfolding priceOf
 returns c =
-    c .undiscounted-price .ensures
-    ∙ rw (sym (c .before .before .before .period-rate .ensures), sym (c .before .before .absolute-value .ensures), c .before .if1 .taken)
-
-periods-requires : tie.Need-periods-requires
-periods-requires c κs = search needs
+    let e = c .before .before in
+    c .undiscounted-price .ensures ∙ rw (sym (e .before .period-rate .ensures), sym (e .absolute-value .ensures), c .before .if1 .taken)
 
 negative-power-requires : tie.Need-negative-power-requires
 negative-power-requires c κs = search needs
@@ -36,10 +33,10 @@ returns-2 c =
     c .discounted-price .ensures
     ∙ rw (
       c .before .negative-power .ensures,
-      c .before .before .periods .ensures,
-      sym (e .before .before .period-rate .ensures),
-      sym (e .before .absolute-value .ensures),
-      e .if1 .left,
+      e .before .before .pre .counted,
+      sym (e .before .period-rate .ensures),
+      sym (e .absolute-value .ensures),
+      c .before .before .if1 .left,
     )
 
 pub price-at-spec : {M : Type 1} → statement M
@@ -50,7 +47,6 @@ price-at-spec =
     absolute-value-requires
     undiscounted-price-requires
     returns
-    periods-requires
     negative-power-requires
     discounted-price-requires
     returns-2)

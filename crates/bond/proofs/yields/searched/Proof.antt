@@ -8,10 +8,10 @@ use Rattle.bond.proofs.yields.searched.Statement.{statement}
 use Rattle.bond.proofs.yields.searched.Tie as tie
 
 abbrev Inv-loop : tie.InvT-loop
-Inv-loop bond market search₀ left₀ search left = searched bond market 200 search₀ ≡ searched bond market left search
+Inv-loop worked market search₀ left₀ search left = searched (worked .bond) market 200 search₀ ≡ searched (worked .bond) market left search
 
 abbrev μ-loop : tie.MeasureT-loop
-μ-loop bond market search₀ left₀ search left = left
+μ-loop worked market search₀ left₀ search left = left
 
 loop-holds : tie.Need-loop-holds Inv-loop μ-loop
 loop-holds c = refl

@@ -1,5 +1,5 @@
 -- `elementary::ln::ln_above_zero` meets its contract: the pattern of the number, or of the scaled one, has the definition's m and e. Assumes nothing.
-use mathlib.Core.Path.{_≡_, refl, sym, ap, _∙_, subst}
+use mathlib.Core.Path.{refl, _∙_}
 use mathlib.Core.Logic.{⊎-elim}
 use borrow.Author.Needs.{needs}
 use Rattle.elementary.proofs.LnSteps.{LnBy, ln-normal, ln-subnormal}

@@ -1,9 +1,5 @@
 -- `elementary::ln::ln_of_parts` meets its contract: one more in the field is one more in the exponent. Assumes nothing.
-use mathlib.Core.Path.{sym, ap, _∙_}
-use mathlib.Core.Bool.{Bool}
-use lib.IntN.{ℤ, subℕ}
-use lib.Ieee.{binary64, ofInt}
-use Rattle.elementary.specs.Ln.{lnOf, lnBy}
+use Rattle.elementary.specs.Ln.{lnBy}
 use Rattle.elementary.proofs.Sizes.{one-more}
 use borrow.Author.Needs.{needs}
 use Rattle.elementary.proofs.ln.ln_of_parts.Statement.{statement}

@@ -1,5 +1,4 @@
 -- `elementary::power::is_whole` meets its contract: the nearest whole number of the size, as a float, is the size exactly where it is whole. Assumes nothing.
-use mathlib.Core.Path.{_≡_, sym, ap, _∙_}
 use borrow.Author.Needs.{needs}
 use Rattle.elementary.proofs.WholeExponents.{within, beyond}
 use Rattle.elementary.proofs.power.is_whole.Statement.{statement}

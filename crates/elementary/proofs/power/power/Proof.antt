@@ -1,5 +1,5 @@
 -- `elementary::power::power` meets its contract. Assumes nothing.
-use mathlib.Core.Path.{_≡_, sym, _∙_}
+use mathlib.Core.Path.{sym, _∙_}
 use borrow.Author.Needs.{needs}
 use Rattle.elementary.specs.Power.{powerBy, power}
 use Rattle.elementary.proofs.power.power.Statement.{statement}

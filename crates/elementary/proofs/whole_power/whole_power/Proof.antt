@@ -1,11 +1,11 @@
 -- `elementary::whole_power::whole_power` meets its contract: each turn of the loop is a turn of the definition. Assumes nothing.
-use mathlib.Core.Path.{_≡_, refl, sym, ap, _∙_}
+use mathlib.Core.Path.{_≡_, refl, sym, _∙_}
 use mathlib.Core.Logic.{⊎-elim}
-use Prim.Native.Nat.{ℕ, _/_, _%_, _<_}
+use Prim.Native.Nat.{_%_}
 use native.Mathlib.Omega.{arith}
 use mathlib.Core.Bool.{cond}
 use lib.Dec.{eqb}
-use lib.Ieee.{Float, binary64, mul}
+use lib.Ieee.{binary64, mul}
 use borrow.Author.Tests.{eq-eqb, ne-eqb}
 use Rattle.elementary.specs.WholePower.{turns, wholePower}
 use Rattle.elementary.proofs.Turns.{turn-on, turn-last, ended}

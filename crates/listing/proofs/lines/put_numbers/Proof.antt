@@ -1,5 +1,4 @@
 -- `listing::lines::put_numbers` meets its contract: its parts are put one behind the other. Assumes nothing.
-use mathlib.Core.Path.{_≡_}
 use native.Mathlib.Omega.{arith}
 use borrow.Author.Needs.{needs}
 use denote.Ref.{now}

@@ -1,7 +1,6 @@
 -- `listing::portions::put_all` meets its contract. The loop's invariant: some of the rows due are listed, and what is left can be listed. The measure is how many are left. Assumes nothing.
-use mathlib.Core.Path.{_≡_, refl, sym, _∙_}
+use mathlib.Core.Path.{sym, _∙_}
 use native.Mathlib.Omega.{arith}
-use borrow.Author.Needs.{needs}
 use lib.ListN.{length}
 use Rattle.mortgage.specs.RowRule.{due}
 use Rattle.listing.specs.Portions.{Listable}

@@ -22,7 +22,7 @@ put-footer-requires c κs =
     let a = c .before .before .before in
     let t = a .before .before .before .before in
     let s = t .before .before .before .before in
-    footer-fits _ _ (now (s .args .out)) _ _ _ (s .pre .0) (s .pre .1) (t .put-text .ensures) (a .put-all .ensures .0)
+    footer-fits _ _ (now (s .args .out)) _ _ _ (s .pre .0) (s .pre .1) (t .put-text .ensures) (a .put-all .ensures .0) _ _
 
 same-length : tie.Need-same-length
 same-length c = search needs

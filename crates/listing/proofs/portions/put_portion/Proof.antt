@@ -1,5 +1,5 @@
 -- `listing::portions::put_portion` meets its contract: the draw is accepted, and the room's lines are the loan's. Assumes nothing.
-use mathlib.Core.Path.{_≡_, refl, sym, ap, _∙_}
+use mathlib.Core.Path.{refl, sym, ap, _∙_}
 use native.Mathlib.Omega.{arith}
 use borrow.Author.Needs.{needs}
 use Rattle.mortgage.specs.Draws.{drawingOutcome}

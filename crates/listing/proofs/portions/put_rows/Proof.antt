@@ -1,8 +1,7 @@
 -- `listing::portions::put_rows` meets its contract. The loop's invariant: the lines of the first k rows are put, each no longer than a line's room. The measure is how many rows are left. Assumes nothing.
-use mathlib.Core.Path.{_≡_, _∙_}
+use mathlib.Core.Path.{_≡_}
 use Prim.Native.Nat.{_+_, _-_, _*_, _≤_}
 use native.Mathlib.Omega.{arith}
-use lib.ListN.{length}
 use Rattle.listing.specs.Putting.{Put}
 use Rattle.listing.specs.Portions.{roomLines, lineRoom}
 use Rattle.listing.proofs.Putting.{same-room}

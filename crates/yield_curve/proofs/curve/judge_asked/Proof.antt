@@ -24,7 +24,7 @@ returns c =
     let told = c .before .before in
     let a = told .before .before .before .before .before .args in
     refused-as 7 _ _ (c .refuse .ensures)
-    (caused 7 _ _ (c .before .if1 .taken) ∙ by-last-line (a .times .now) (a .rates .now) 7 _ (sym (ap verdictOutcome (told .enum-told .given .1)) ∙ told .before .before .judge-curve .ensures))
+    (caused tt 7 _ _ (c .before .if1 .taken) ∙ by-last-line (a .times .now) (a .rates .now) 7 _ (sym (ap verdictOutcome (told .enum-told .given .1)) ∙ told .before .before .judge-curve .ensures))
 
 returns-2 : tie.Need-returns-2
 returns-2 c =
@@ -35,7 +35,7 @@ returns-3 : tie.Need-returns-3
 returns-3 c =
     let told = c .before in
     let a = told .before .before .before .before .before .args in
-    all-clear 7 (a .bad) (c .if1 .left) ∙ by-last-line (a .times .now) (a .rates .now) 7 _ (sym (ap verdictOutcome (told .enum-told .given .1)) ∙ told .before .before .judge-curve .ensures)
+    all-clear tt 7 (a .bad) (c .if1 .left) ∙ by-last-line (a .times .now) (a .rates .now) 7 _ (sym (ap verdictOutcome (told .enum-told .given .1)) ∙ told .before .before .judge-curve .ensures)
 
 pub judge-asked-spec : {M : Type 1} → statement M
 judge-asked-spec =

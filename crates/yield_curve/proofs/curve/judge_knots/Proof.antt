@@ -1,5 +1,5 @@
 -- `yield_curve::curve::judge_knots` meets its contract: what line 6 says of all the knots is what it says from the knot in hand on. Assumes nothing.
-use mathlib.Core.Path.{_≡_, sym, ap, _∙_}
+use mathlib.Core.Path.{_≡_, sym, _∙_}
 use mathlib.Core.List.{[], _∷_}
 use Prim.Native.Nat.{_-_, _≤_}
 use native.Mathlib.Omega.{arith}
