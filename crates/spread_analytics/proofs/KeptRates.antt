@@ -1,37 +1,30 @@
--- A room's first places filled one after the other, and sums over what they hold: with the curve's rates kept at the flows' times, the factors and sums are the definition's. Assumes nothing.
+-- With the curve's rates kept at the flows' times, the factors and sums are the definition's. Assumes nothing.
 use mathlib.Core.Path.{_≡_, refl, sym, ap, _∙_}
 use mathlib.Core.Bool.{true, false}
-use mathlib.Core.List.{List}
-use Prim.Native.Nat.{ℕ, zero, suc, _+_, _<_, _≤_}
+use mathlib.Core.List.{List, [], _∷_, _++_, map}
+use Prim.Native.Nat.{ℕ, zero, suc, _<_}
 use native.Mathlib.Nat.{le-refl}
-use native.Mathlib.Numerals.{add-one}
 use native.Mathlib.Omega.{arith}
-use lib.ListN.{length, getD, set}
-use lib.Seq.{getD-set-same, getD-set-other}
-use lib.Ieee.{Float, nan, binary64, neg, add, mul, div, lt}
-use borrow.Author.Count.{below-more}
+use lib.ListN.{length, take, drop}
+use lib.Ieee.{Float, binary64, neg, add, mul, div, lt}
 use Rattle.numbers.specs.Clamps.{plusZero}
 use Rattle.numbers.specs.Sizes.{absolute}
 use Rattle.numbers.specs.Sums.{addedUp}
 use Rattle.elementary.specs.Exp.{exp}
 use Rattle.yield_curve.specs.Segments.{knot}
+use Rattle.yield_curve.proofs.Filling.{Holds}
 use Rattle.spread_analytics.specs.Units.{decimal}
 use Rattle.spread_analytics.specs.Curves.{tiny, rateOf}
 use Rattle.spread_analytics.specs.Spread.{factorOf, worthOf, durationOf, convexityOf, sensitivityOf}
 
--- the first k places of a room hold f
-abbrev pub Holds : (ℕ → Float) → List Float → ℕ → Type 0
-Holds f room k = (j : ℕ) → j < k → knot room j ≡ f j
+-- ---- a room whose first n places are mapped
+pub mapped-at : (f : Float → Float) (room : List Float) (n i : ℕ) → i < n → i < length room → knot (map f (take n room) ++ drop n room) i ≡ f (knot room i)
+mapped-at f [] n i h k = absurd (omega arith)
+mapped-at f (x ∷ room) zero i h k = absurd (omega arith)
+mapped-at f (x ∷ room) (suc n) zero h k = refl
+mapped-at f (x ∷ room) (suc n) (suc i) h k = mapped-at f room n i (omega arith) (omega arith)
 
-pub holds-more : (f : ℕ → Float) (room : List Float) (i : ℕ) (v : Float) → Holds f room i → i < length room → v ≡ f i → Holds f (set room i v) (i + 1)
-holds-more f room i v h small e =
-    below-more (λ (j : ℕ). knot (set room i v) j ≡ f j) i (λ j less. getD-set-other room i j v nan (λ same. omega arith) ∙ h j less) (getD-set-same room i v nan small ∙ e)
-
--- ---- sums
-pub sum-more : (f : ℕ → Float) (s v : Float) (i : ℕ) → s ≡ addedUp f i → v ≡ f i → add binary64 s v ≡ addedUp f (i + 1)
-unfolding addedUp
-sum-more f s v i e h = rw (add-one i, e, h)
-
+-- ---- sums that agree
 pub same-sum : (f g : ℕ → Float) (n : ℕ) → ((i : ℕ) → i < n → f i ≡ g i) → addedUp f n ≡ addedUp g n
 unfolding addedUp
 same-sum f g zero same = refl
@@ -39,9 +32,9 @@ same-sum f g (suc n) same = rw (same-sum f g n (λ i h. same i (omega arith)), s
 
 -- ---- the flows' factors, over rates that were kept
 module _ (times amounts tenors rates kept factors : List Float) (points s : Float) (d : s ≡ decimal points)
-    (k : Holds (λ (i : ℕ). rateOf tenors rates (knot times i)) kept (length times))
-    (g : Holds (λ (i : ℕ). exp (mul binary64 (neg (add binary64 (knot kept i) s)) (knot times i))) factors (length times)) where
-  factor-is : Holds (factorOf times amounts tenors rates (decimal points)) factors (length times)
+    (k : Holds kept (λ (i : ℕ). rateOf tenors rates (knot times i)) (length times))
+    (g : Holds factors (λ (i : ℕ). exp (mul binary64 (neg (add binary64 (knot kept i) s)) (knot times i))) (length times)) where
+  factor-is : Holds factors (factorOf times amounts tenors rates (decimal points)) (length times)
   unfolding factorOf
   factor-is i h = g i h ∙ rw (k i h, d)
 

@@ -1,4 +1,3 @@
-pub mod RateCases
 pub mod LinesInParts
 pub mod Columns
 pub mod BondFlows

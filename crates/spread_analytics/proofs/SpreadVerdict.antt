@@ -62,7 +62,7 @@ equal m n h = ap not (eq-eqb m n h)
 
 module _ (times amounts tenors rates : List Float) (bad : Bool) where
   pub refused-4 : (length times ≡ length amounts → ⊥) → refused 4 0 ≡ verdict (spreadLines times amounts tenors rates bad)
-  refused-4 h = caused 4 _ _ (ap (λ (b : Bool). b || unequal (length tenors) (length rates)) (different _ _ h))
+  refused-4 h = caused tt 4 _ _ (ap (λ (b : Bool). b || unequal (length tenors) (length rates)) (different _ _ h))
 
   -- where the flows' lists are equally long, the lines of the curve, and then those of the flows
   pub in-parts : length times ≡ length amounts

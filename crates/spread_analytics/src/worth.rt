@@ -12,7 +12,7 @@ ghost use Rattle.spread_analytics.specs.Spread.{worthOf};
 use crate::units::BasisPoints;
 use crate::units::DecimalRate;
 use crate::units::to_decimal;
-use elementary::exp::exp;
+use elementary::exp::exp_each;
 
 // The curve's rates at the flows' times, kept so that they are looked up once.
 pub(crate) fn keep_rates(times: &[f64], tenors: &[f64], rates: &[f64], kept: &mut [f64])
@@ -26,11 +26,16 @@ pub(crate) fn keep_rates(times: &[f64], tenors: &[f64], rates: &[f64], kept: &mu
     }
 }
 
-// The factor of one flow.
-fn factor(rate: f64, spread: DecimalRate, time: f64) -> f64
-    ensures { λ r. ⌜ r ≡ exp (mul binary64 (neg (add binary64 rate (spread .0))) time) ⌝ }
+// What the factors are the exps of: the rate and the spread, negated, times the time.
+fn put_exponents(times: &[f64], kept: &[f64], spread: DecimalRate, exponents: &mut [f64])
+    requires { ⌜ (length (now times) ≤ length (now kept)) × (length (now times) ≤ length (now exponents)) ⌝ }
+    ensures { λ _. ⌜ ((i : ℕ) → i < length (now (times .entry)) → knot (now (exponents .exit)) i ≡ mul binary64 (neg (add binary64 (knot (now (kept .entry)) i) (spread .0))) (knot (now (times .entry)) i)) ⌝ }
 {
-    exp(-(rate + spread.0) * time)
+    let mut i: usize = 0;
+    while i < times.len() {
+        exponents[i] = -(kept[i] + spread.0) * times[i];
+        i += 1;
+    }
 }
 
 // The flows' factors at a spread over the kept rates.
@@ -38,11 +43,9 @@ pub(crate) fn put_factors(times: &[f64], kept: &[f64], spread: DecimalRate, fact
     requires { ⌜ (length (now times) ≤ length (now kept)) × (length (now times) ≤ length (now factors)) ⌝ }
     ensures { λ _. ⌜ ((i : ℕ) → i < length (now (times .entry)) → knot (now (factors .exit)) i ≡ exp (mul binary64 (neg (add binary64 (knot (now (kept .entry)) i) (spread .0))) (knot (now (times .entry)) i))) ⌝ }
 {
-    let mut i: usize = 0;
-    while i < times.len() {
-        factors[i] = factor(kept[i], spread, times[i]);
-        i += 1;
-    }
+    put_exponents(times, kept, spread, factors);
+    let count = times.len();
+    exp_each(&mut factors[..count]);
 }
 
 // The amounts times their factors, added left to right.

@@ -9,7 +9,7 @@ use denote.Ref.{now}
 use Rattle.yield_curve.specs.Segments.{knot}
 use Rattle.spread_analytics.specs.Curves.{rateOf}
 use Rattle.spread_analytics.specs.Spread.{lowest, highest, miss, halved}
-use Rattle.spread_analytics.proofs.KeptRates.{Holds}
+use Rattle.yield_curve.proofs.Filling.{Holds}
 use Rattle.spread_analytics.proofs.Halvings.{no-turn, close, lower-half, upper-half}
 use native.Mathlib.Omega.{arith}
 use Rattle.spread_analytics.proofs.spread.halved.Statement.{statement}
@@ -18,7 +18,7 @@ use Rattle.spread_analytics.proofs.spread.halved.Tie as tie
 abbrev Inv-loop : tie.InvT-loop
 Inv-loop times amounts kept room₀ market low lo₀ hi₀ below₀ left₀ room lo hi below left =
     (length room ≡ length room₀)
-    × ((tenors rates : List Float) → Holds (λ (j : ℕ). rateOf tenors rates (knot times j)) kept (length times)
+    × ((tenors rates : List Float) → Holds kept (λ (j : ℕ). rateOf tenors rates (knot times j)) (length times)
     → low ≡ miss times amounts tenors rates market lowest
     → (below ≡ miss times amounts tenors rates market lo)
     × (halved times amounts tenors rates market 100 lowest highest ≡ halved times amounts tenors rates market left lo hi))

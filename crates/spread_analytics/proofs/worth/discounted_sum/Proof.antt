@@ -5,7 +5,7 @@ use lib.ListN.{length}
 use lib.Ieee.{binary64, mul}
 use Rattle.numbers.specs.Sums.{addedUp}
 use Rattle.yield_curve.specs.Segments.{knot}
-use Rattle.spread_analytics.proofs.KeptRates.{sum-more}
+use Rattle.yield_curve.proofs.Adding.{one-more}
 use native.Mathlib.Omega.{arith}
 use Rattle.spread_analytics.proofs.worth.discounted_sum.Statement.{statement}
 use Rattle.spread_analytics.proofs.worth.discounted_sum.Tie as tie
@@ -39,7 +39,7 @@ loop-less : tie.Need-loop-less Inv-loop μ-loop
 loop-less c = omega arith
 
 loop-again : tie.Need-loop-again Inv-loop μ-loop
-loop-again c = (omega arith, sum-more _ _ _ _ (c .before .before .before .loop .inv .1) refl)
+loop-again c = (omega arith, one-more _ _ _ _ (c .before .before .before .loop .inv .1) refl)
 
 returns : tie.Need-returns Inv-loop μ-loop
 returns c =

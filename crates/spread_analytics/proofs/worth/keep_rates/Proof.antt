@@ -6,13 +6,13 @@ use Rattle.yield_curve.specs.Segments.{knot}
 use borrow.Author.Count.{below-none}
 use denote.Ref.{now}
 use Rattle.spread_analytics.specs.Curves.{rateOf}
-use Rattle.spread_analytics.proofs.KeptRates.{Holds, holds-more}
+use Rattle.yield_curve.proofs.Filling.{Holds, placed}
 use native.Mathlib.Omega.{arith}
 use Rattle.spread_analytics.proofs.worth.keep_rates.Statement.{statement}
 use Rattle.spread_analytics.proofs.worth.keep_rates.Tie as tie
 
 abbrev Inv-loop : tie.InvT-loop
-Inv-loop times tenors rates kept₀ i₀ kept i = (i ≤ length times) × (length kept ≡ length kept₀) × Holds (λ (j : ℕ). rateOf tenors rates (knot times j)) kept i
+Inv-loop times tenors rates kept₀ i₀ kept i = (i ≤ length times) × (length kept ≡ length kept₀) × Holds kept (λ (j : ℕ). rateOf tenors rates (knot times j)) i
 
 abbrev μ-loop : tie.MeasureT-loop
 μ-loop times tenors rates kept₀ i₀ kept i = length times - i
@@ -45,7 +45,7 @@ loop-again : tie.Need-loop-again Inv-loop μ-loop
 loop-again c =
     let h = c .before .before .before .loop in
     let a = c .before .before .before .before .before .before .before .before .args in
-    (omega arith, simp length-set (h .inv .1), holds-more (λ (j : ℕ). rateOf (now (a .tenors)) (now (a .rates)) (knot (now (a .times)) j)) (h .kept) (h .i) _ (h .inv .2) (omega arith) (c .rate-of .ensures))
+    (omega arith, simp length-set (h .inv .1), placed (h .kept) (λ (j : ℕ). rateOf (now (a .tenors)) (now (a .rates)) (knot (now (a .times)) j)) (h .i) _ (omega arith) (h .inv .2) (c .rate-of .ensures))
 
 same-length : tie.Need-same-length Inv-loop μ-loop
 same-length c = c .before .loop .inv .1

@@ -5,7 +5,7 @@ use lib.ListN.{length}
 use lib.Ieee.{binary64, mul}
 use Rattle.numbers.specs.Sums.{addedUp}
 use Rattle.yield_curve.specs.Segments.{knot}
-use Rattle.spread_analytics.proofs.KeptRates.{sum-more}
+use Rattle.yield_curve.proofs.Adding.{one-more}
 use native.Mathlib.Omega.{arith}
 use Rattle.spread_analytics.proofs.worth.sums_of.Statement.{statement}
 use Rattle.spread_analytics.proofs.worth.sums_of.Tie as tie
@@ -51,7 +51,7 @@ loop-less c = omega arith
 loop-again : tie.Need-loop-again Inv-loop μ-loop
 loop-again c =
     let i = c .before .before .before .before .loop .inv in
-    (omega arith, sum-more _ _ _ _ (i .1) refl, sum-more _ _ _ _ (i .2) refl, sum-more _ _ _ _ (i .3) refl)
+    (omega arith, one-more _ _ _ _ (i .1) refl, one-more _ _ _ _ (i .2) refl, one-more _ _ _ _ (i .3) refl)
 
 returns : tie.Need-returns Inv-loop μ-loop
 returns c =
