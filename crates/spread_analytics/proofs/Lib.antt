@@ -5,3 +5,5 @@ pub mod ItemLine
 pub mod SpreadVerdict
 pub mod KeptRates
 pub mod Halvings
+pub mod Tight
+pub mod Exactly
