@@ -122,7 +122,10 @@ module _ (face coupon tenor : Float) (frequency count : ℕ) (times amounts : Li
       × ((times′ ≡ columnIn outcome (flowTime face coupon tenor frequency) times)
       × (amounts′ ≡ columnIn outcome (flowAmount face coupon tenor frequency) amounts))
   accepted-put h period paid p q times′ amounts′ ts bs =
-      let o = accepted-is h in
-      (o,
-       (ts ∙ times-are face coupon tenor frequency count period p times ∙ ap (λ (y : Outcome ℕ). columnIn y (flowTime face coupon tenor frequency) times) o,
-       bs ∙ amounts-are face coupon tenor frequency count n paid q amounts ∙ ap (λ (y : Outcome ℕ). columnIn y (flowAmount face coupon tenor frequency) amounts) o))
+      let o = accepted-is h in (
+        o,
+        (
+          ts ∙ times-are face coupon tenor frequency count period p times ∙ ap (λ (y : Outcome ℕ). columnIn y (flowTime face coupon tenor frequency) times) o,
+          bs ∙ amounts-are face coupon tenor frequency count n paid q amounts ∙ ap (λ (y : Outcome ℕ). columnIn y (flowAmount face coupon tenor frequency) amounts) o,
+        ),
+      )

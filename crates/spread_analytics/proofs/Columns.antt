@@ -28,13 +28,13 @@ pub one-more : {f : ℕ → Float} {room₀ room : List Float} {k : ℕ} → Put
     → Put f room₀ (k + 1) (set room k v)
 unfolding firstOf
 one-more {f} {room₀} {room} {k} p h v e = record {
-    is =
-        ap (λ (l : List Float). set l k v) (p .is ∙ ap (λ (l : List Float). firstOf f k ++ l) (drop-cons room₀ k nan h))
-        ∙ set-at (firstOf f k) (getD room₀ k nan) (drop (suc k) room₀) v k (length-first f k)
-        ∙ rw (add-one k, e, append-assoc (firstOf f k) (f (suc k) ∷ []) (drop (suc k) room₀));
-    within = omega arith;
-    kept = length-set room k v ∙ p .kept;
-  }
+  is =
+      ap (λ (l : List Float). set l k v) (p .is ∙ ap (λ (l : List Float). firstOf f k ++ l) (drop-cons room₀ k nan h))
+      ∙ set-at (firstOf f k) (getD room₀ k nan) (drop (suc k) room₀) v k (length-first f k)
+      ∙ rw (add-one k, e, append-assoc (firstOf f k) (f (suc k) ∷ []) (drop (suc k) room₀));
+  within = omega arith;
+  kept = length-set room k v ∙ p .kept;
+}
 
 pub all-put : {f : ℕ → Float} {room₀ room : List Float} {k n : ℕ} → Put f room₀ k room → k ≡ n → room ≡ firstOf f n ++ drop n room₀
 all-put {f} {room₀} p e = p .is ∙ ap (λ (m : ℕ). firstOf f m ++ drop m room₀) e

@@ -71,7 +71,14 @@ fn too_little_room(count: u32, times: usize, amounts: usize) -> bool
 }
 
 // Lines 1, 3, 7 and 9; 3 has no cause where 7 has one, so 7 is asked first.
-fn judge_bond_flows(face: f64, coupon: f64, tenor: f64, count: u32, times: usize, amounts: usize) -> Verdict
+fn judge_bond_flows(
+    face: f64,
+    coupon: f64,
+    tenor: f64,
+    count: u32,
+    times: usize,
+    amounts: usize,
+) -> Verdict
     ensures { λ r. ⌜ verdictOutcome r ≡ judged (line 1 (badAmount face) ∷ line 3 (not (badTime tenor || tooManyPeriods count) && (ltb times count || ltb amounts count)) ∷ line 7 (badTime tenor || tooManyPeriods count) ∷ line 9 (badNumber coupon) ∷ []) tt ⌝ }
 {
     if refusals::bad_amount(face) {
@@ -126,7 +133,14 @@ fn put_amounts(amounts: &mut [f64], count: u32, coupon: f64, face: f64)
 }
 
 // Writes the flows of a fixed-rate bond, and says how many they are.
-pub fn bond_cash_flows(face: f64, coupon: f64, tenor: f64, frequency: u32, times: &mut [f64], amounts: &mut [f64]) -> Count
+pub fn bond_cash_flows(
+    face: f64,
+    coupon: f64,
+    tenor: f64,
+    frequency: u32,
+    times: &mut [f64],
+    amounts: &mut [f64],
+) -> Count
     ensures { λ r. ⌜ countOutcome r ≡ bondCashFlows face coupon tenor frequency (now (times .entry)) (now (amounts .entry)) ⌝ }
     ensures { λ _. ⌜ now (times .exit) ≡ columnIn (bondCashFlows face coupon tenor frequency (now (times .entry)) (now (amounts .entry))) (flowTime face coupon tenor frequency) (now (times .entry)) ⌝ }
     ensures { λ _. ⌜ now (amounts .exit) ≡ columnIn (bondCashFlows face coupon tenor frequency (now (times .entry)) (now (amounts .entry))) (flowAmount face coupon tenor frequency) (now (amounts .entry)) ⌝ }

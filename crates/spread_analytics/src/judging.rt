@@ -45,7 +45,13 @@ fn judge_flows(times: &[f64], amounts: &[f64], bad: bool) -> Verdict
 }
 
 // Lines 4 to 7 and 9, of the flows, the curve and a market price.
-pub(crate) fn judge_spread(times: &[f64], amounts: &[f64], tenors: &[f64], rates: &[f64], bad: bool) -> Verdict
+pub(crate) fn judge_spread(
+    times: &[f64],
+    amounts: &[f64],
+    tenors: &[f64],
+    rates: &[f64],
+    bad: bool,
+) -> Verdict
     ensures { λ r. ⌜ verdictOutcome r ≡ judged (spreadLines (now (times .entry)) (now (amounts .entry)) (now (tenors .entry)) (now (rates .entry)) bad) tt ⌝ }
 {
     if times.len() != amounts.len() {

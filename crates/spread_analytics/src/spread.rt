@@ -44,7 +44,13 @@ pub enum SensitivityAnswer {
 }
 
 // The worth at a spread over a curve.
-fn worth_of(times: &[f64], amounts: &[f64], tenors: &[f64], rates: &[f64], spread: BasisPoints) -> f64
+fn worth_of(
+    times: &[f64],
+    amounts: &[f64],
+    tenors: &[f64],
+    rates: &[f64],
+    spread: BasisPoints,
+) -> f64
     requires { ⌜ (length (now times) ≡ length (now amounts)) × (length (now times) ≤ 1200) ⌝ }
     ensures { λ r. ⌜ r ≡ worthOf (now (times .entry)) (now (amounts .entry)) (now (tenors .entry)) (now (rates .entry)) (spread .0) ⌝ }
 {
@@ -54,7 +60,13 @@ fn worth_of(times: &[f64], amounts: &[f64], tenors: &[f64], rates: &[f64], sprea
     worth_at(times, amounts, &kept, &mut room, spread)
 }
 
-pub fn pv_cash_flows(times: &[f64], amounts: &[f64], tenors: &[f64], rates: &[f64], spread: BasisPoints) -> Number
+pub fn pv_cash_flows(
+    times: &[f64],
+    amounts: &[f64],
+    tenors: &[f64],
+    rates: &[f64],
+    spread: BasisPoints,
+) -> Number
     ensures { λ r. ⌜ numberOutcome r ≡ pvCashFlows (now (times .entry)) (now (amounts .entry)) (now (tenors .entry)) (now (rates .entry)) (spread .0) ⌝ }
 {
     match judge_spread(times, amounts, tenors, rates, false) {
@@ -64,24 +76,34 @@ pub fn pv_cash_flows(times: &[f64], amounts: &[f64], tenors: &[f64], rates: &[f6
 }
 
 // The error of a spread: its worth less the market's.
-fn miss(times: &[f64], amounts: &[f64], kept: &[f64], room: &mut [f64], market: f64, spread: BasisPoints) -> f64
+fn miss(
+    times: &[f64],
+    amounts: &[f64],
+    kept: &[f64],
+    room: &mut [f64],
+    market: f64,
+    spread: BasisPoints,
+) -> f64
     requires { ⌜ (length (now times) ≡ length (now amounts)) × (length (now times) ≤ length (now kept)) × (length (now times) ≤ length (now room)) ⌝ }
-    ensures {
-        λ r. ⌜ ((tenors rates : List Float) → ((i : ℕ) → i < length (now (times .entry)) → knot (now (kept .entry)) i ≡ rateOf tenors rates (knot (now (times .entry)) i))
-            → r ≡ miss (now (times .entry)) (now (amounts .entry)) tenors rates market (spread .0)) ⌝
-    }
+    ensures { λ r. ⌜ ((tenors rates : List Float) → ((i : ℕ) → i < length (now (times .entry)) → knot (now (kept .entry)) i ≡ rateOf tenors rates (knot (now (times .entry)) i))
+        → r ≡ miss (now (times .entry)) (now (amounts .entry)) tenors rates market (spread .0)) ⌝ }
 {
     worth_at(times, amounts, kept, room, spread) - market
 }
 
 // The spread between the ends, by at most 100 halvings; the error at the lower end is kept.
-fn halved(times: &[f64], amounts: &[f64], kept: &[f64], room: &mut [f64], market: f64, low: f64) -> BasisPoints
+fn halved(
+    times: &[f64],
+    amounts: &[f64],
+    kept: &[f64],
+    room: &mut [f64],
+    market: f64,
+    low: f64,
+) -> BasisPoints
     requires { ⌜ (length (now times) ≡ length (now amounts)) × (length (now times) ≤ length (now kept)) × (length (now times) ≤ length (now room)) ⌝ }
-    ensures {
-        λ r. ⌜ ((tenors rates : List Float) → ((i : ℕ) → i < length (now (times .entry)) → knot (now (kept .entry)) i ≡ rateOf tenors rates (knot (now (times .entry)) i))
-            → low ≡ miss (now (times .entry)) (now (amounts .entry)) tenors rates market lowest
-            → r .0 ≡ halved (now (times .entry)) (now (amounts .entry)) tenors rates market 100 lowest highest) ⌝
-    }
+    ensures { λ r. ⌜ ((tenors rates : List Float) → ((i : ℕ) → i < length (now (times .entry)) → knot (now (kept .entry)) i ≡ rateOf tenors rates (knot (now (times .entry)) i))
+        → low ≡ miss (now (times .entry)) (now (amounts .entry)) tenors rates market lowest
+        → r .0 ≡ halved (now (times .entry)) (now (amounts .entry)) tenors rates market 100 lowest highest) ⌝ }
 {
     let mut lo = LOWEST;
     let mut hi = HIGHEST;
@@ -116,15 +138,35 @@ fn nearer_end(low: f64, high: f64) -> BasisPoints
 }
 
 // The spread, whatever the flows and the curve are: where the end errors are on one side, the end nearer zero.
-fn spread_of(times: &[f64], amounts: &[f64], tenors: &[f64], rates: &[f64], market: f64) -> SpreadAnswer
+fn spread_of(
+    times: &[f64],
+    amounts: &[f64],
+    tenors: &[f64],
+    rates: &[f64],
+    market: f64,
+) -> SpreadAnswer
     requires { ⌜ (length (now times) ≡ length (now amounts)) × (length (now times) ≤ 1200) ⌝ }
     ensures { λ r. ⌜ spreadOutcome r ≡ accepted (spreadOf (now (times .entry)) (now (amounts .entry)) (now (tenors .entry)) (now (rates .entry)) market) ⌝ }
 {
     let mut kept = [0.0; 1200];
     let mut room = [0.0; 1200];
     keep_rates(times, tenors, rates, &mut kept);
-    let low = miss(times, amounts, &kept, &mut room, market, BasisPoints(LOWEST));
-    let high = miss(times, amounts, &kept, &mut room, market, BasisPoints(HIGHEST));
+    let low = miss(
+        times,
+        amounts,
+        &kept,
+        &mut room,
+        market,
+        BasisPoints(LOWEST),
+    );
+    let high = miss(
+        times,
+        amounts,
+        &kept,
+        &mut room,
+        market,
+        BasisPoints(HIGHEST),
+    );
     if low * high > 0.0 {
         return SpreadAnswer::NoSignChange(nearer_end(low, high));
     }
@@ -132,7 +174,13 @@ fn spread_of(times: &[f64], amounts: &[f64], tenors: &[f64], rates: &[f64], mark
 }
 
 // The spread at which the flows are worth the market price.
-pub fn z_spread(times: &[f64], amounts: &[f64], tenors: &[f64], rates: &[f64], market: f64) -> SpreadAnswer
+pub fn z_spread(
+    times: &[f64],
+    amounts: &[f64],
+    tenors: &[f64],
+    rates: &[f64],
+    market: f64,
+) -> SpreadAnswer
     ensures { λ r. ⌜ spreadOutcome r ≡ zSpread (now (times .entry)) (now (amounts .entry)) (now (tenors .entry)) (now (rates .entry)) market ⌝ }
 {
     match judge_spread(times, amounts, tenors, rates, refusals::bad_number(market)) {
@@ -142,7 +190,13 @@ pub fn z_spread(times: &[f64], amounts: &[f64], tenors: &[f64], rates: &[f64], m
 }
 
 // Duration and convexity, whatever the flows and the curve are: 0 where the flows are worth next to nothing.
-fn sensitivity_of(times: &[f64], amounts: &[f64], tenors: &[f64], rates: &[f64], spread: BasisPoints) -> Sensitivity
+fn sensitivity_of(
+    times: &[f64],
+    amounts: &[f64],
+    tenors: &[f64],
+    rates: &[f64],
+    spread: BasisPoints,
+) -> Sensitivity
     requires { ⌜ (length (now times) ≡ length (now amounts)) × (length (now times) ≤ 1200) ⌝ }
     ensures { λ r. ⌜ r ≡ sensitivityOf (now (times .entry)) (now (amounts .entry)) (now (tenors .entry)) (now (rates .entry)) (spread .0) ⌝ }
 {
@@ -163,11 +217,23 @@ fn sensitivity_of(times: &[f64], amounts: &[f64], tenors: &[f64], rates: &[f64],
     }
 }
 
-pub fn duration_convexity(times: &[f64], amounts: &[f64], tenors: &[f64], rates: &[f64], spread: BasisPoints) -> SensitivityAnswer
+pub fn duration_convexity(
+    times: &[f64],
+    amounts: &[f64],
+    tenors: &[f64],
+    rates: &[f64],
+    spread: BasisPoints,
+) -> SensitivityAnswer
     ensures { λ r. ⌜ sensitivityOutcome r ≡ durationConvexity (now (times .entry)) (now (amounts .entry)) (now (tenors .entry)) (now (rates .entry)) (spread .0) ⌝ }
 {
     match judge_spread(times, amounts, tenors, rates, false) {
         Verdict::Refused(refusal) => SensitivityAnswer::Refused(refusal),
-        Verdict::Accepted => SensitivityAnswer::Given(sensitivity_of(times, amounts, tenors, rates, spread)),
+        Verdict::Accepted => SensitivityAnswer::Given(sensitivity_of(
+            times,
+            amounts,
+            tenors,
+            rates,
+            spread,
+        )),
     }
 }

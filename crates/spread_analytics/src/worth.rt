@@ -97,12 +97,16 @@ pub(crate) fn sums_of(times: &[f64], amounts: &[f64], factors: &[f64]) -> Sums
 }
 
 // The worth at a spread over the kept rates, whatever curve they are of; the factors are worked out in the room.
-pub(crate) fn worth_at(times: &[f64], amounts: &[f64], kept: &[f64], room: &mut [f64], spread: BasisPoints) -> f64
+pub(crate) fn worth_at(
+    times: &[f64],
+    amounts: &[f64],
+    kept: &[f64],
+    room: &mut [f64],
+    spread: BasisPoints,
+) -> f64
     requires { ⌜ (length (now times) ≡ length (now amounts)) × (length (now times) ≤ length (now kept)) × (length (now times) ≤ length (now room)) ⌝ }
-    ensures {
-        λ r. ⌜ ((tenors rates : List Float) → ((i : ℕ) → i < length (now (times .entry)) → knot (now (kept .entry)) i ≡ rateOf tenors rates (knot (now (times .entry)) i))
-            → r ≡ worthOf (now (times .entry)) (now (amounts .entry)) tenors rates (spread .0)) ⌝
-    }
+    ensures { λ r. ⌜ ((tenors rates : List Float) → ((i : ℕ) → i < length (now (times .entry)) → knot (now (kept .entry)) i ≡ rateOf tenors rates (knot (now (times .entry)) i))
+        → r ≡ worthOf (now (times .entry)) (now (amounts .entry)) tenors rates (spread .0)) ⌝ }
 {
     put_factors(times, kept, to_decimal(spread), room);
     discounted_sum(amounts, room)

@@ -58,16 +58,18 @@ loop-again c =
     let m = c .before .before .before in
     let v = m .before .before .before in
     let h = v .before .before in
-    let a = h .before .before .before .before .before .args in
-    (m .miss .kept .1 .1 .1 .0 ∙ h .loop .inv .0, λ tenors rates k l.
-    let i = h .loop .inv .1 tenors rates k l in
-    let error = m .miss .ensures tenors rates k in
-    ⊎-elim
-    (λ u. lower-half (now (a .times)) (now (a .amounts)) tenors rates (a .market) (h .loop .lo) (h .loop .hi) (h .loop .left) (v .before .loop-test .taken) _ (v .absolute-value .ensures)
-    (m .before .before .if1 .left) (h .loop .below) _ (i .0) error _ (c .if2 .lo) (c .if2 .hi) (c .if2 .below) (i .1) (u .0 .taken) (u .1) (u .2) (u .3))
-    (λ u. upper-half (now (a .times)) (now (a .amounts)) tenors rates (a .market) (h .loop .lo) (h .loop .hi) (h .loop .left) (v .before .loop-test .taken) _ (v .absolute-value .ensures)
-    (m .before .before .if1 .left) (h .loop .below) _ (i .0) error _ (c .if2 .lo) (c .if2 .hi) (c .if2 .below) (i .1) (u .0 .left) (u .1) (u .2) (u .3))
-    (c .if2 .came))
+    let a = h .before .before .before .before .before .args in (
+      m .miss .kept .1 .1 .1 .0 ∙ h .loop .inv .0,
+      λ tenors rates k l.
+          let i = h .loop .inv .1 tenors rates k l in
+          let error = m .miss .ensures tenors rates k in
+          ⊎-elim
+          (λ u. lower-half (now (a .times)) (now (a .amounts)) tenors rates (a .market) (h .loop .lo) (h .loop .hi) (h .loop .left) (v .before .loop-test .taken) _ (v .absolute-value .ensures)
+          (m .before .before .if1 .left) (h .loop .below) _ (i .0) error _ (c .if2 .lo) (c .if2 .hi) (c .if2 .below) (i .1) (u .0 .taken) (u .1) (u .2) (u .3))
+          (λ u. upper-half (now (a .times)) (now (a .amounts)) tenors rates (a .market) (h .loop .lo) (h .loop .hi) (h .loop .left) (v .before .loop-test .taken) _ (v .absolute-value .ensures)
+          (m .before .before .if1 .left) (h .loop .below) _ (i .0) error _ (c .if2 .lo) (c .if2 .hi) (c .if2 .below) (i .1) (u .0 .left) (u .1) (u .2) (u .3))
+          (c .if2 .came),
+    )
 
 same-length-2 : tie.Need-same-length-2 Inv-loop μ-loop
 same-length-2 c = c .before .loop .inv .0

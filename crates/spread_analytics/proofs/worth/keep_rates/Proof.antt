@@ -51,7 +51,7 @@ same-length : tie.Need-same-length Inv-loop μ-loop
 same-length c = c .before .loop .inv .1
 
 returns : tie.Need-returns Inv-loop μ-loop
-returns c =     λ j small. c .before .loop .inv .2 j (omega arith)
+returns c = λ j small. c .before .loop .inv .2 j (omega arith)
 
 pub keep-rates-spec : {M : Type 1} → statement M
 keep-rates-spec =
