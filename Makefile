@@ -1,7 +1,7 @@
 # make        builds what a user runs: build/schedule, for this machine's own processor
 # make run    builds it and draws a sample loan's schedule
 # make test   runs every test; its last lines are `rt ci`'s
-# make bench  times a schedule beside the Rust's, both for this machine's own processor
+# make bench  times jobs beside the Rust, both for this machine's own processor
 SHELL := /bin/sh
 FIN_PRIMITIVES ?= ../shared/docs/src
 SOURCES := crates.txt $(shell find crates -name '*.rt' -o -name '*.antt')
@@ -25,10 +25,10 @@ test: build/schedule
 	rt fmt --check
 	rt ci
 
-build/libbench_loan.a: $(SOURCES) tools/native | kit
-	tools/native bench_loan $@
+build/libbench_jobs.a: $(SOURCES) tools/native | kit
+	tools/native bench_jobs $@
 
-bench: build/libbench_loan.a
+bench: build/libbench_jobs.a
 	@tools/need rustc rustc libstd-rust-dev
 	bench/run "$(FIN_PRIMITIVES)"
 

@@ -1,1 +1,22 @@
+-- What the proofs of several functions and of later crates use.
 pub mod Turns
+pub mod Tables
+pub mod Horners
+pub mod Sizes
+pub mod Values
+pub mod Patterns
+pub mod Roundings
+pub mod Bounds
+pub mod Wholes
+pub mod Halvings
+pub mod NearestSmall
+pub mod Multiples
+pub mod ExpSteps
+pub mod ExpFinite
+pub mod PartWay
+pub mod Leading
+pub mod LnSteps
+pub mod LnCases
+pub mod WholeExponents
+pub mod Laws
+pub mod Tight

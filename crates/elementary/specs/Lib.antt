@@ -1,1 +1,5 @@
 pub mod WholePower
+pub mod Horner
+pub mod Exp
+pub mod Ln
+pub mod Power

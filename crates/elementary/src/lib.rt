@@ -1,2 +1,5 @@
-// Elementary functions: whole powers.
+// Elementary functions: exp, ln and powers, by document 01's steps to the bit.
+pub mod exp;
+pub mod ln;
+pub mod power;
 pub mod whole_power;

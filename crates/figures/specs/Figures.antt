@@ -1,13 +1,14 @@
--- Document 01's 'Figures to hold it to', as far as loans go, proved together as a single table: each is what the definitions compute. Assumes nothing.
+-- Document 01's 'Figures to hold it to', proved together as a single table: each is what the definitions compute. Assumes nothing.
 use mathlib.Core.Path.{_≡_, refl}
 use mathlib.Core.List.{List, [], _∷_, _++_}
 use Prim.Native.Nat.{ℕ}
 use lib.IntN.{pos}
 use lib.Ieee.{Float, nan, binary64, add, sub, mul, div, lt, le, eq, ofInt, ofBits, toBits}
+use Rattle.numbers.specs.Sizes.{absolute}
 use Rattle.numbers.specs.Whole.{nearestWhole}
 use Rattle.refusals.specs.Outcome.{accepted, firstOr, judged}
-use Rattle.refusals.specs.Table.{badAmount, badTerm, badRecord}
-use Rattle.elementary.specs.WholePower.{turns, wholePower}
+use Rattle.refusals.specs.Table.{badAmount, badTerm, badNumber, badRecord, unequal, badKnotCount, badKnot, badKnotsAfter, badKnots, badTime}
+use Rattle.elementary.specs.WholePower.{turns, wholePower, negativePower}
 use Rattle.records.specs.declared.Terms.{Terms}
 use Rattle.records.specs.declared.Row.{Row}
 use Rattle.records.specs.Bytes.{valueOf, wholeAt, floatAt}
@@ -16,6 +17,12 @@ use Rattle.mortgage.specs.declared.Loan.{Loan}
 use Rattle.mortgage.specs.Payment.{monthlyRate, growth, levelPayment, payment, monthlyPayment, loanOf, openedWith, opened}
 use Rattle.mortgage.specs.RowRule.{endMonth, due, last, interestOf, principalOf, paymentOf, newBalance, rowOf, nextOf}
 use Rattle.mortgage.specs.Steps.{stepped, written}
+use Rattle.bond.specs.declared.Bond.{Bond}
+use Rattle.bond.specs.declared.Frequency.the-variants.{Annual}
+use Rattle.bond.specs.Bonds.{periodCoupon, periods, badMaturity}
+use Rattle.bond.specs.Price.{periodRate, undiscounted, discount, discounted, priceOf, price}
+use Rattle.yield_curve.specs.Segments.{segmentEnding, flatOutside}
+use Rattle.swaps.specs.Discount.{share, alongZeros, zeroRateOf, rateAt}
 use Rattle.listing.specs.Digits.{hexDigits, decimalDigits, decimal}
 use Rattle.listing.specs.Listing.{spaced, rowLine, footer, refusedLine, loanLines, termsLines, listing}
 
@@ -43,6 +50,10 @@ terms P rate n = record { principal = P; rate = rate; term = n }
 abbrev a-thousand : Float → ℕ → Terms
 a-thousand rate n = terms (number 1000) rate n
 
+-- ---- an annual bond of face 100 and coupon 0.5
+abbrev annual-bond : ℕ → Bond
+annual-bond years = record { face = number 100; coupon = pattern 0x3fe0_0000_0000_0000; maturity = number years; frequency = Annual }
+
 -- ---- the listing that document 01 prints whole, and the record of it: principal 1200, rate 0, term 3
 abbrev the-record : List ℕ
 the-record = 1 ∷ 0 ∷ 0 ∷ 0 ∷ 0 ∷ 0 ∷ 192 ∷ 146 ∷ 64 ∷ 0 ∷ 0 ∷ 0 ∷ 0 ∷ 0 ∷ 0 ∷ 0 ∷ 0 ∷ 3 ∷ 0 ∷ 0 ∷ 0 ∷ []
@@ -67,7 +78,7 @@ line3 = 51 ∷ 32 ∷ 52 ∷ 48 ∷ 55 ∷ 57 ∷ 48 ∷ 48 ∷ 48 ∷ 48 ∷ 48
 abbrev line4 : List ℕ
 line4 = 114 ∷ 111 ∷ 119 ∷ 115 ∷ 32 ∷ 51 ∷ 32 ∷ 108 ∷ 101 ∷ 102 ∷ 116 ∷ 32 ∷ 48 ∷ 10 ∷ []
 
-pub record LoanFigures : Type 0 where
+pub record Figures : Type 0 where
   -- the period count of 2.5 is 3, of 0.49999999999999994, NaN and -3 it is 0
   pub two-and-a-half : nearestWhole (pattern 0x4004_0000_0000_0000) ≡ 3
   pub nearly-a-half : nearestWhole (pattern 0x3fdf_ffff_ffff_ffff) ≡ 0
@@ -87,9 +98,15 @@ pub record LoanFigures : Type 0 where
   pub last-payment : payments 2 (loanOf (a-thousand (number 6) 2) (number 100)) ≡ number 100 ∷ number 1500 ∷ []
   -- given 2000, rate 0, n 3: payments 2000, 2000, 0
   pub too-large : payments 3 (loanOf (a-thousand (number 0) 3) (number 2000)) ≡ number 2000 ∷ number 2000 ∷ number 0 ∷ []
+  -- annual bond 100, coupon 0.5, 2 years: 62.5 at yield 1, 200 at 0; maturity 0, yield 0.5: 100
+  pub bond-at-one : price (number 1) (annual-bond 2) ≡ accepted (pattern 0x404f_4000_0000_0000)
+  pub bond-at-zero : price (number 0) (annual-bond 2) ≡ accepted (number 200)
+  pub bond-at-maturity : price (pattern 0x3fe0_0000_0000_0000) (annual-bond 0) ≡ accepted (number 100)
+  -- discount knots (1, 0.25), (3, 0.75) at 2: 0.5
+  pub between-knots : rateAt (number 1 ∷ number 3 ∷ []) (pattern 0x3fd0_0000_0000_0000 ∷ pattern 0x3fe8_0000_0000_0000 ∷ []) (number 2) ≡ accepted (pattern 0x3fe0_0000_0000_0000)
 
-pub figures : LoanFigures
-unfolding nearestWhole badAmount badTerm badRecord firstOr judged turns wholePower valueOf wholeAt floatAt readTerms termsIn monthlyRate growth levelPayment payment monthlyPayment loanOf openedWith opened endMonth due last interestOf principalOf paymentOf newBalance rowOf nextOf stepped written hexDigits decimalDigits decimal spaced rowLine footer refusedLine loanLines termsLines listing add sub mul div lt le eq ofInt ofBits toBits
+pub figures : Figures
+unfolding nearestWhole absolute badAmount badNumber unequal badKnotCount badKnot badKnotsAfter badKnots badTime segmentEnding flatOutside share alongZeros zeroRateOf rateAt badTerm badRecord firstOr judged turns wholePower negativePower periodCoupon periods badMaturity periodRate undiscounted discount discounted priceOf price valueOf wholeAt floatAt readTerms termsIn monthlyRate growth levelPayment payment monthlyPayment loanOf openedWith opened endMonth due last interestOf principalOf paymentOf newBalance rowOf nextOf stepped written hexDigits decimalDigits decimal spaced rowLine footer refusedLine loanLines termsLines listing add sub mul div lt le eq ofInt ofBits toBits
 figures = record {
   two-and-a-half = refl;
   nearly-a-half = refl;
@@ -103,4 +120,8 @@ figures = record {
   too-small = refl;
   last-payment = refl;
   too-large = refl;
+  bond-at-one = refl;
+  bond-at-zero = refl;
+  bond-at-maturity = refl;
+  between-knots = refl;
 }

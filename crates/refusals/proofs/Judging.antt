@@ -3,7 +3,7 @@
 use mathlib.Core.Path.{_≡_, refl, sym, ap, _∙_, subst}
 use mathlib.Core.Logic.{_⊎_, inl, inr}
 use mathlib.Core.Bool.{Bool, true, false}
-use mathlib.Core.List.{List, [], _∷_}
+use mathlib.Core.List.{List, [], _∷_, _++_}
 use Prim.Native.Nat.{ℕ, zero, suc, _+_, _<_}
 use native.Mathlib.Omega.{arith}
 use lib.Dec.{T, ltb, ltb→lt}
@@ -12,11 +12,11 @@ use lib.Ieee.Fits.{and-l, and-r}
 use Rattle.refusals.specs.Outcome.{Outcome, refused, accepted, Line, firstOr, judged, Applies, Lowest, ExactlyWhen, above, rising}
 
 -- ---- one line: the first place of a list of causes that has one
-data First : List Bool → ℕ → Type 0 where
+pub data First : List Bool → ℕ → Type 0 where
   here : {bs : List Bool} → First (true ∷ bs) 0
   later : {bs : List Bool} {p : ℕ} → First bs p → First (false ∷ bs) (suc p)
 
-data None : List Bool → Type 0 where
+pub data None : List Bool → Type 0 where
   none : None []
   skip : {bs : List Bool} → None bs → None (false ∷ bs)
 
@@ -25,27 +25,27 @@ search-line [] = inr none
 search-line (true ∷ bs) = inl (0, here)
 search-line (false ∷ bs) = elim (search-line bs) [ inl f ↦ inl (suc (f .0), later (f .1)) | inr n ↦ inr (skip n) ]
 
-first-is : {bs : List Bool} {p : ℕ} → First bs p → getD bs p false ≡ true
+pub first-is : {bs : List Bool} {p : ℕ} → First bs p → getD bs p false ≡ true
 first-is here = refl
 first-is (later f) = first-is f
 
-first-no-earlier : {bs : List Bool} {p : ℕ} → First bs p → (q : ℕ) → q < p → getD bs q false ≡ false
+pub first-no-earlier : {bs : List Bool} {p : ℕ} → First bs p → (q : ℕ) → q < p → getD bs q false ≡ false
 first-no-earlier here q h = absurd (omega arith)
 first-no-earlier (later f) zero h = refl
 first-no-earlier (later f) (suc q) h = first-no-earlier f q (omega arith)
 
-none-is : {bs : List Bool} → None bs → (q : ℕ) → getD bs q false ≡ false
+pub none-is : {bs : List Bool} → None bs → (q : ℕ) → getD bs q false ≡ false
 none-is none q = refl
 none-is (skip n) zero = refl
 none-is (skip n) (suc q) = none-is n q
 
 module _ {Value : Type 0} (k : ℕ) (rest : Outcome Value) where
-  at-first : (q : ℕ) {bs : List Bool} {p : ℕ} → First bs p → firstOr k q bs rest ≡ refused k (q + p)
+  pub at-first : (q : ℕ) {bs : List Bool} {p : ℕ} → First bs p → firstOr k q bs rest ≡ refused k (q + p)
   unfolding firstOr
   at-first q here = ap (refused k) (omega arith)
   at-first q (later {bs} {p} f) = at-first (suc q) f ∙ ap (refused k) (omega arith)
 
-  past-none : (q : ℕ) {bs : List Bool} → None bs → firstOr k q bs rest ≡ rest
+  pub past-none : (q : ℕ) {bs : List Bool} → None bs → firstOr k q bs rest ≡ rest
   unfolding firstOr
   past-none q none = refl
   past-none q (skip n) = past-none (suc q) n
@@ -134,3 +134,32 @@ module _ {Value : Type 0} (v : Value) where
       go : judged ls v ≡ accepted v → ((q : ℕ) × First (l .causes) q) ⊎ None (l .causes) → firstOr (l .number) 0 (l .causes) (judged ls v) ≡ accepted v
       go onward (inl f) = absurd (free (l .number) (f .0) (inl (refl, first-is (f .1))))
       go onward (inr z) = past-none (l .number) (judged ls v) 0 z ∙ onward
+
+-- what is accepted has passed each line
+pub passed : {Value : Type 0} (v d : Value) (l : Line) (ls : List Line) → accepted d ≡ judged (l ∷ ls) v → None (l .causes) × (accepted d ≡ judged ls v)
+unfolding judged
+passed {Value} v d l ls e = go (search-line (l .causes))
+  where
+    go : ((q : ℕ) × First (l .causes) q) ⊎ None (l .causes) → None (l .causes) × (accepted d ≡ judged ls v)
+    go (inl f) =
+        let same : _≡_ {A = Outcome Value} (accepted d) (refused (l .number) (0 + f .0)) = e ∙ at-first (l .number) (judged ls v) 0 (f .1) in
+        let z : _≡_ {A = ℕ} 0 1 = cc in
+        absurd (omega arith)
+    go (inr n) = (n, e ∙ past-none (l .number) (judged ls v) 0 n)
+
+-- ---- lines in two parts: the second is asked where the first accepts
+abbrev pub followed : {Value : Type 0} → Outcome Unit → Outcome Value → Outcome Value
+followed (refused k p) rest = refused k p
+followed (accepted u) rest = rest
+
+followed-first : {Value : Type 0} (o : Outcome Value) (k p : ℕ) (bs : List Bool) (rest : Outcome Unit) → firstOr k p bs (followed rest o) ≡ followed (firstOr k p bs rest) o
+unfolding firstOr
+followed-first o k p [] rest = refl
+followed-first o k p (true ∷ bs) rest = refl
+followed-first o k p (false ∷ bs) rest = followed-first o k (suc p) bs rest
+
+pub judged-in-parts : {Value : Type 0} (ls ms : List Line) (v : Value) → judged (ls ++ ms) v ≡ followed (judged ls tt) (judged ms v)
+unfolding judged
+judged-in-parts [] ms v = refl
+judged-in-parts (l ∷ ls) ms v =
+    ap (firstOr (l .number) 0 (l .causes)) (judged-in-parts ls ms v) ∙ followed-first (judged ms v) (l .number) 0 (l .causes) (judged ls tt)

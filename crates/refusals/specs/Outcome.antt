@@ -2,7 +2,7 @@
 -- two loans, the index from 0 of the first bad item; else 0." Every entry point's answer goes through `judged`. Definitions only. Assumes nothing.
 use mathlib.Core.Path.{_≡_}
 use mathlib.Core.Logic.{_⊎_, _↔_}
-use mathlib.Core.Bool.{Bool, true, false, cond, _&&_}
+use mathlib.Core.Bool.{Bool, true, false, cond, _&&_, _||_}
 use mathlib.Core.List.{List, [], _∷_}
 use Prim.Native.Nat.{ℕ, suc, _<_}
 use lib.ListN.{getD}
@@ -24,6 +24,11 @@ line k b = record { number = k; causes = b ∷ [] }
 
 abbrev pub lineOfTwo : ℕ → Bool → Bool → Line
 lineOfTwo k a b = record { number = k; causes = a ∷ b ∷ [] }
+
+-- "A bad single argument counts before a bad list item": a single cause stands at place 0, before those of the list's items
+abbrev pub alone : Bool → List Bool → List Bool
+alone b [] = b ∷ []
+alone b (c ∷ cs) = (b || c) ∷ cs
 
 -- number k at the first place, from p, that has a cause; where none has, what the rest says
 unfoldable pub firstOr : {Value : Type 0} → ℕ → ℕ → List Bool → Outcome Value → Outcome Value

@@ -1,7 +1,7 @@
--- Document 01's table of refusals: for each line that loans need, whether its cause is there. Definitions only. Assumes nothing.
+-- Document 01's table of refusals: for each line, whether its cause is there. Definitions only. Assumes nothing.
 use Prim.Native.Nat.{ℕ}
 use mathlib.Core.Bool.{Bool, not, _&&_, _||_}
-use mathlib.Core.List.{List}
+use mathlib.Core.List.{List, [], _∷_}
 use lib.Dec.{ltb, eqb}
 use lib.ListN.{length, getD}
 use lib.Ieee.{Float, lt, le}
@@ -19,6 +19,39 @@ badTerm n = eqb n 0 || ltb 1200 n
 -- 3: "rows are due and the lent room holds no whole row": so many rows due, so many places of room, so many places to a row
 unfoldable pub noRoom : ℕ → ℕ → ℕ → Bool
 noRoom due room width = ltb 0 due && ltb room width
+
+-- 4: "the two lists of a curve or of cash flows differ in length"
+unfoldable pub unequal : ℕ → ℕ → Bool
+unequal m n = not (eqb m n)
+
+-- 5: "a curve (a fit's points are one) has no knot, or more than 120"
+unfoldable pub badKnotCount : ℕ → Bool
+badKnotCount n = eqb n 0 || ltb 120 n
+
+-- 6: "a knot is not finite, is below zero in time, or is not later than the one before": for each knot, its time and its rate; the first has none before it
+unfoldable pub badKnot : Float → Float → Bool
+badKnot time rate = not (finite time) || not (finite rate) || lt time plusZero
+
+unfoldable pub badKnotsAfter : Float → List Float → List Float → List Bool
+badKnotsAfter before [] rates = []
+badKnotsAfter before (t ∷ ts) [] = []
+badKnotsAfter before (t ∷ ts) (r ∷ rs) = (badKnot t r || not (lt before t)) ∷ badKnotsAfter t ts rs
+
+unfoldable pub badKnots : List Float → List Float → List Bool
+badKnots [] rates = []
+badKnots (t ∷ ts) [] = []
+badKnots (t ∷ ts) (r ∷ rs) = badKnot t r ∷ badKnotsAfter t ts rs
+
+-- 7: "a maturity, a tenor or a time asked of a curve is not finite, or gives more than 1,200 periods"
+unfoldable pub badTime : Float → Bool
+badTime t = not (finite t)
+
+unfoldable pub tooManyPeriods : ℕ → Bool
+tooManyPeriods n = ltb 1200 n
+
+-- 8: "a swap frequency is 0 or above 365"
+unfoldable pub badFrequency : ℕ → Bool
+badFrequency n = eqb n 0 || ltb 365 n
 
 -- 9: "a market price, yield, coupon, closing cost, flow amount or swap rate is not finite"
 unfoldable pub badNumber : Float → Bool

@@ -1,0 +1,41 @@
+-- `bond::codes::frequency_of` meets its contract: each arm's code is the case. Assumes nothing.
+use Prim.Native.Nat.{_<_}
+use native.Mathlib.Omega.{arith}
+use borrow.Author.Tests.{lt-ltb}
+use Rattle.refusals.specs.Outcome.{firstOr, judged}
+use Rattle.refusals.proofs.Verdicts.{refused-as}
+use Rattle.bond.specs.Codes.{frequencyAt, badCode, frequencyOf}
+use borrow.Author.Needs.{needs}
+use Rattle.bond.proofs.codes.frequency_of.Statement.{statement}
+use Rattle.bond.proofs.codes.frequency_of.Tie as tie
+
+refuse-requires : tie.Need-refuse-requires
+refuse-requires c κs = search needs
+
+returns : tie.Need-returns
+unfolding frequencyOf frequencyAt badCode judged firstOr
+returns c = rw (c .match .keys1)
+
+returns-2 : tie.Need-returns-2
+unfolding frequencyOf frequencyAt badCode judged firstOr
+returns-2 c = rw (c .match .keys2)
+
+returns-3 : tie.Need-returns-3
+unfolding frequencyOf frequencyAt badCode judged firstOr
+returns-3 c = rw (c .match .keys3)
+
+returns-4 : tie.Need-returns-4
+unfolding frequencyOf frequencyAt badCode judged firstOr
+returns-4 c = rw (c .match .keys4)
+
+returns-5 : tie.Need-returns-5
+unfolding frequencyOf frequencyAt badCode judged firstOr
+returns-5 c =
+    let x = c .before .before .args .code in
+    let m = c .before .match .rest in
+    let h : 3 < x = omega (arith, m .1, m .0 .1, m .0 .0 .1, m .0 .0 .0 .1) in
+    refused-as 11 _ (frequencyOf x) (c .refuse .ensures) (rw (lt-ltb 3 x h))
+
+pub frequency-of-spec : {M : Type 1} → statement M
+frequency-of-spec =
+    tie.close (tie.spec refuse-requires returns returns-2 returns-3 returns-4 returns-5)

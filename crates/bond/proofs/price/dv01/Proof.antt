@@ -1,0 +1,55 @@
+-- `bond::price::dv01` meets its contract: the verdict on the bond is its answer's. Assumes nothing.
+use mathlib.Core.Path.{sym}
+use Rattle.refusals.proofs.Verdicts.{refused-by, accepted-by}
+use Rattle.bond.specs.Price.{dv01}
+use borrow.Author.Needs.{needs}
+use Rattle.bond.proofs.price.dv01.Statement.{statement}
+use Rattle.bond.proofs.price.dv01.Tie as tie
+
+worked-out-requires : tie.Need-worked-out-requires
+worked-out-requires c κs = search needs
+
+judge-bond-requires : tie.Need-judge-bond-requires
+judge-bond-requires c κs = search needs
+
+enum-known-refusal : tie.Need-enum-known-refusal
+enum-known-refusal c = search needs
+
+enum-told : tie.Need-enum-told
+enum-told c = search needs
+
+price-at-requires : tie.Need-price-at-requires
+price-at-requires c κs = search needs
+
+price-at-requires-2 : tie.Need-price-at-requires-2
+price-at-requires-2 c κs = search needs
+
+returns : tie.Need-returns
+unfolding dv01
+returns c =
+    let j = c .before .before .before in
+    rw (sym (j .before .worked-out .ensures .0)) (refused-by _ _ _ _ (c .before .refusal .given .1) (j .judge-bond .ensures))
+
+returns-2 : tie.Need-returns-2
+unfolding dv01
+returns-2 c =
+    let t = c .before .before in
+    let j = t .before .before in
+    rw (
+      c .before .price-at .ensures,
+      c .price-at2 .ensures,
+      sym (j .before .worked-out .ensures .0),
+    ) (accepted-by _ _ _ (t .enum-told .given .1) (j .judge-bond .ensures))
+
+pub dv01-spec : {M : Type 1} → statement M
+dv01-spec =
+    tie.close
+    (tie.spec
+    worked-out-requires
+    judge-bond-requires
+    enum-known-refusal
+    enum-told
+    price-at-requires
+    price-at-requires-2
+    returns
+    returns-2)

@@ -1,0 +1,41 @@
+-- A bond's coupon frequency, coupon and periods, and what every function over a bond asks of it first. Definitions only. Assumes nothing.
+use Prim.Native.Nat.{ℕ}
+use mathlib.Core.Bool.{Bool, not, _||_}
+use mathlib.Core.List.{List, [], _∷_}
+use lib.Dec.{ltb}
+use lib.IntN.{pos}
+use lib.Ieee.{Float, binary64, mul, div, ofInt}
+use lib.Ieee.Scale.{finite}
+use Rattle.numbers.specs.Whole.{nearestWhole}
+use Rattle.refusals.specs.Outcome.{Line, line}
+use Rattle.refusals.specs.Table.{badAmount, badNumber}
+use Rattle.bond.specs.declared.Bond.{Bond}
+use Rattle.bond.specs.declared.Frequency.{Frequency}
+use Rattle.bond.specs.declared.Frequency.the-variants.{Annual, SemiAnnual, Quarterly, Monthly}
+
+-- coupons a year
+abbrev pub perYear : Frequency → ℕ
+perYear Annual = 1
+perYear SemiAnnual = 2
+perYear Quarterly = 4
+perYear Monthly = 12
+
+-- "m", as a float
+abbrev pub couponsAYear : Bond → Float
+couponsAYear b = ofInt binary64 (pos (perYear (b .frequency)))
+
+-- "c": the coupon of a period, face·rate/m left to right
+unfoldable pub periodCoupon : Bond → Float
+periodCoupon b = div binary64 (mul binary64 (b .face) (b .coupon)) (couponsAYear b)
+
+-- "Periods: maturity·m to the nearest whole number, halves away from zero; NaN and anything negative give 0."
+unfoldable pub periods : Bond → ℕ
+periods b = nearestWhole (mul binary64 (b .maturity) (couponsAYear b))
+
+-- 7: "a maturity .. is not finite, or gives more than 1,200 periods"
+unfoldable pub badMaturity : Bond → Bool
+badMaturity b = not (finite (b .maturity)) || ltb 1200 (periods b)
+
+-- the lines that a bond meets, with one number beside it: a yield or a market price
+abbrev pub bondLines : Bond → Float → List Line
+bondLines b x = line 1 (badAmount (b .face)) ∷ line 7 (badMaturity b) ∷ line 9 (badNumber x || badNumber (b .coupon)) ∷ []

@@ -1,0 +1,107 @@
+// A bond's coupon and periods, and the lines of the table that every function over a bond asks first.
+ghost use mathlib.Core.Path.{_≡_};
+ghost use mathlib.Core.Bool.{_||_};
+ghost use Rattle.refusals.specs.Outcome.{judged};
+ghost use Rattle.refusals.specs.Answers.{verdictOutcome};
+ghost use Rattle.refusals.specs.Table.{badNumber};
+ghost use Rattle.bond.specs.Bonds.{perYear, couponsAYear, periodCoupon, periods, badMaturity, bondLines};
+ghost use Rattle.bond.specs.Worked.{WorkedOut};
+use crate::Bond;
+use crate::Frequency;
+use refusals::Verdict;
+
+// How many coupons a year.
+fn per_year(frequency: Frequency) -> u32
+    ensures { λ r. ⌜ r ≡ perYear frequency ⌝ }
+{
+    match frequency {
+        Frequency::Annual => 1,
+        Frequency::SemiAnnual => 2,
+        Frequency::Quarterly => 4,
+        Frequency::Monthly => 12,
+    }
+}
+
+// The same as a float.
+fn coupons_a_year(bond: Bond) -> f64
+    ensures { λ r. ⌜ r ≡ couponsAYear bond ⌝ }
+{
+    let frequency = bond.frequency;
+    per_year(frequency) as f64
+}
+
+// The coupon of a period.
+fn period_coupon(bond: Bond) -> f64
+    ensures { λ r. ⌜ r ≡ periodCoupon bond ⌝ }
+{
+    bond.face * bond.coupon / coupons_a_year(bond)
+}
+
+// The number of periods, to the nearest whole number, halves away from zero.
+fn periods(bond: Bond) -> u32
+    ensures { λ r. ⌜ r ≡ periods bond ⌝ }
+{
+    numbers::whole::nearest_whole(bond.maturity * coupons_a_year(bond))
+}
+
+// A bond with its numbers worked out once: the coupons a year, the coupon of a period, and the periods.
+pub struct Worked {
+    pub bond: Bond,
+    pub m: f64,
+    pub coupon: f64,
+    pub count: u32,
+}
+
+pub(crate) fn worked_out(bond: Bond) -> Worked
+    ensures { λ w. ⌜ (w .bond ≡ bond) × WorkedOut w ⌝ }
+{
+    let m = coupons_a_year(bond);
+    let coupon = period_coupon(bond);
+    let count = periods(bond);
+    Worked {
+        bond,
+        m,
+        coupon,
+        count,
+    }
+}
+
+// Line 7: a maturity that is not finite, or gives more than 1,200 periods.
+fn bad_maturity(worked: Worked) -> bool
+    requires { ⌜ WorkedOut worked ⌝ }
+    ensures { λ r. ⌜ r ≡ badMaturity (worked .bond) ⌝ }
+{
+    let bond = worked.bond;
+    if numbers::sizes::is_finite(bond.maturity) {
+        return worked.count > 1200;
+    }
+    true
+}
+
+// Line 9: a number beside the bond, or its coupon, that is not finite.
+fn bad_numbers(bond: Bond, beside: f64) -> bool
+    ensures { λ r. ⌜ r ≡ badNumber beside || badNumber (bond .coupon) ⌝ }
+{
+    if refusals::bad_number(beside) {
+        return true;
+    }
+    refusals::bad_number(bond.coupon)
+}
+
+// Lines 1, 7 and 9, asked of a bond and of one number beside it: a yield or a market price.
+pub(crate) fn judge_bond(worked: Worked, beside: f64) -> Verdict
+    requires { ⌜ WorkedOut worked ⌝ }
+    ensures { λ r. ⌜ verdictOutcome r ≡ judged (bondLines (worked .bond) beside) tt ⌝ }
+{
+    let bond = worked.bond;
+    if refusals::bad_amount(bond.face) {
+        return Verdict::Refused(refusals::refuse(1));
+    }
+    if bad_maturity(worked) {
+        return Verdict::Refused(refusals::refuse(7));
+    }
+    if bad_numbers(bond, beside) {
+        return Verdict::Refused(refusals::refuse(9));
+    }
+    Verdict::Accepted
+}

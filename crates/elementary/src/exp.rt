@@ -1,0 +1,205 @@
+// exp: the nearest multiple of ln 2 is taken off, then Horner's rule over the rest, times the power of two.
+ghost use mathlib.Core.Path.{_≡_};
+ghost use mathlib.Core.Bool.{true, false};
+ghost use mathlib.Core.List.{map};
+ghost use Prim.Native.Nat.{ℕ, _<_};
+ghost use lib.ListN.{length, getD};
+ghost use lib.IntN.{pos};
+ghost use lib.Ieee.{nan, binary64, lt, ne, ofInt};
+ghost use Rattle.elementary.specs.Horner.{horner};
+ghost use Rattle.elementary.specs.Exp.{inverseFactorial, signed, twoTo, reduced, highest, lowest, below, halvings, exp};
+use numbers::sizes::absolute_value;
+use numbers::sizes::infinity;
+
+// 1/k! for k from 0 to 13, each rounded once.
+const INVERSE_FACTORIALS: [f64; 14] = [
+    1.0,
+    1.0,
+    0.5,
+    0.16666666666666666,
+    0.041666666666666664,
+    0.008333333333333333,
+    0.001388888888888889,
+    0.0001984126984126984,
+    2.48015873015873e-05,
+    2.7557319223985893e-06,
+    2.755731922398589e-07,
+    2.505210838544172e-08,
+    2.08767569878681e-09,
+    1.6059043836821613e-10,
+];
+
+fn inverse_factorial(k: usize) -> f64
+    requires { ⌜ k < 14 ⌝ }
+    ensures { λ r. ⌜ r ≡ inverseFactorial k ⌝ }
+{
+    INVERSE_FACTORIALS[k]
+}
+
+// Horner from the top.
+fn series(r: f64) -> f64
+    ensures { λ z. ⌜ z ≡ horner inverseFactorial r 0 13 ⌝ }
+{
+    let mut sum = inverse_factorial(13);
+    let mut k: usize = 13;
+    while k > 0 {
+        k -= 1;
+        sum = sum * r + inverse_factorial(k);
+    }
+    sum
+}
+
+// x less k times ln 2, in two parts.
+fn taken_off(x: f64, k: f64) -> f64
+    ensures { λ r. ⌜ r ≡ reduced x k ⌝ }
+{
+    (x - k * 6.93147180369123816490e-01) - k * 1.90821492927058770002e-10
+}
+
+// The size of k, the nearest whole number to x / ln 2, where x passes neither end.
+// 2^52 added and taken off leaves the nearest, halves to even; where a half was left off, it goes up.
+fn size_of(x: f64) -> f64
+    requires { ⌜ (ne x x ≡ false) × (lt highest x ≡ false) × (lt x lowest ≡ false) ⌝ }
+    ensures { λ r. ⌜ r ≡ ofInt binary64 (pos (halvings x)) ⌝ }
+{
+    let a = absolute_value(x * 1.4426950408889634);
+    let n = (a + 4503599627370496.0) - 4503599627370496.0;
+    if a >= n + 0.5 { n + 1.0 } else { n }
+}
+
+// k with its sign.
+fn multiple_of(x: f64) -> f64
+    requires { ⌜ (ne x x ≡ false) × (lt highest x ≡ false) × (lt x lowest ≡ false) ⌝ }
+    ensures { λ r. ⌜ r ≡ signed (below x) (halvings x) ⌝ }
+{
+    let size = size_of(x);
+    if x * 1.4426950408889634 < 0.0 {
+        -size
+    } else {
+        size
+    }
+}
+
+// x less k times ln 2.
+fn rest_of(x: f64) -> f64
+    requires { ⌜ (ne x x ≡ false) × (lt highest x ≡ false) × (lt x lowest ≡ false) ⌝ }
+    ensures { λ r. ⌜ r ≡ reduced x (signed (below x) (halvings x)) ⌝ }
+{
+    taken_off(x, multiple_of(x))
+}
+
+// 2 to the power k: over 2^52 the last digits of a float are a whole number, here the exponent's field.
+fn scale_of(x: f64) -> f64
+    requires { ⌜ (ne x x ≡ false) × (lt highest x ≡ false) × (lt x lowest ≡ false) ⌝ }
+    ensures { λ r. ⌜ r ≡ twoTo (below x) (halvings x) ⌝ }
+{
+    f64::from_bits(f64::to_bits(multiple_of(x) + 4503599627371519.0) << 52)
+}
+
+pub fn exp(x: f64) -> f64
+    ensures { λ r. ⌜ r ≡ exp x ⌝ }
+{
+    if x != x {
+        return x;
+    }
+    if x > 709.0 {
+        return infinity();
+    }
+    if x < -708.0 {
+        return 0.0;
+    }
+    series(rest_of(x)) * scale_of(x)
+}
+
+// Whether each is a number between the ends.
+fn all_inside(numbers: &[f64]) -> bool
+    ensures { λ r. ⌜ (r ≡ true → (k : ℕ) → k < length (now (numbers .entry))
+        → (ne (getD (now (numbers .entry)) k nan) (getD (now (numbers .entry)) k nan) ≡ false)
+        × (lt highest (getD (now (numbers .entry)) k nan) ≡ false)
+        × (lt (getD (now (numbers .entry)) k nan) lowest ≡ false)) ⌝ }
+{
+    let mut j: usize = 0;
+    while j < numbers.len() {
+        let x = numbers[j];
+        if x != x {
+            return false;
+        }
+        if x > 709.0 {
+            return false;
+        }
+        if x < -708.0 {
+            return false;
+        }
+        j += 1;
+    }
+    true
+}
+
+// Eight sums of the series at once.
+fn series_of_eight(rests: &[f64]) -> [f64; 8]
+    requires { ⌜ length (now rests) ≡ 8 ⌝ }
+    ensures { λ r. ⌜ r ≡ map (λ x. horner inverseFactorial x 0 13) (now (rests .entry)) ⌝ }
+{
+    let mut sums = [inverse_factorial(13); 8];
+    let mut k: usize = 13;
+    while k > 0 {
+        k -= 1;
+        let c = inverse_factorial(k);
+        let mut j: usize = 0;
+        while j < 8 {
+            sums[j] = sums[j] * rests[j] + c;
+            j += 1;
+        }
+    }
+    sums
+}
+
+// Each number's exp in its place, one at a time.
+fn exp_one_by_one(numbers: &mut [f64])
+    ensures { λ _. ⌜ now (numbers .exit) ≡ map exp (now (numbers .entry)) ⌝ }
+{
+    let mut j: usize = 0;
+    while j < numbers.len() {
+        numbers[j] = exp(numbers[j]);
+        j += 1;
+    }
+}
+
+// Eight at once, where each is a number between the ends.
+fn exp_eight(numbers: &mut [f64])
+    requires { ⌜ length (now numbers) ≡ 8 ⌝ }
+    ensures { λ _. ⌜ now (numbers .exit) ≡ map exp (now (numbers .entry)) ⌝ }
+{
+    if all_inside(numbers) {
+        let mut rests = [0.0; 8];
+        let mut scales = [0.0; 8];
+        let mut j: usize = 0;
+        while j < 8 {
+            let x = numbers[j];
+            rests[j] = rest_of(x);
+            scales[j] = scale_of(x);
+            j += 1;
+        }
+        let sums = series_of_eight(&rests);
+        let mut i: usize = 0;
+        while i < 8 {
+            numbers[i] = sums[i] * scales[i];
+            i += 1;
+        }
+    } else {
+        exp_one_by_one(numbers);
+    }
+}
+
+// Each number's exp in its place, eight at a time.
+pub fn exp_each(numbers: &mut [f64])
+    ensures { λ _. ⌜ now (numbers .exit) ≡ map exp (now (numbers .entry)) ⌝ }
+{
+    let mut at: usize = 0;
+    while numbers.len() - at >= 8 {
+        let end = at + 8;
+        exp_eight(&mut numbers[at..end]);
+        at = end;
+    }
+    exp_one_by_one(&mut numbers[at..]);
+}

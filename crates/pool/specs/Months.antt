@@ -1,0 +1,46 @@
+-- A loan's month in a pool, rule 1: the state that goes in, the three numbers, and the state that comes out; and its sums over a pool. Definitions only. Assumes nothing.
+use Prim.Native.Nat.{ℕ, zero, suc}
+use mathlib.Core.Bool.{cond}
+use mathlib.Core.List.{List, [], _∷_}
+use lib.Dec.{ltb}
+use lib.Ieee.{Float, binary64, add, sub, mul, le}
+use Rattle.numbers.specs.Clamps.{plusZero, raised, lowered}
+use Rattle.records.specs.declared.Terms.{Terms}
+use Rattle.mortgage.specs.Payment.{monthlyRate, payment, loanOf}
+use Rattle.mortgage.specs.Totals.{balanceAfter}
+use Rattle.pool.specs.declared.months.Month.{Month}
+
+-- scheduled principal, interest and prepayment of a balance at a speed: "each loan's scheduled balance, which earlier prepayments do not lower"
+unfoldable pub flowsOn : Terms → Float → Float → Month
+flowsOn t balance speed =
+    let interest : Float = mul binary64 balance (monthlyRate (t .rate)) in
+    let scheduled : Float = lowered (raised (sub binary64 (payment t) interest)) balance in
+    record { principal = scheduled; interest = interest; prepayment = mul binary64 (sub binary64 balance scheduled) speed }
+
+abbrev pub nothing : Month
+nothing = record { principal = plusZero; interest = plusZero; prepayment = plusZero }
+
+-- a sum grows by a month; a loan past its term or with a balance at or below 0 is passed over
+abbrev pub plus : Month → Month → Month
+plus s m = record {
+  principal = add binary64 (s .principal) (m .principal);
+  interest = add binary64 (s .interest) (m .interest);
+  prepayment = add binary64 (s .prepayment) (m .prepayment);
+}
+
+-- the scheduled balance before the month k, from 1, as `remaining_balance` gives it
+unfoldable pub balanceBefore : Terms → ℕ → Float
+balanceBefore t zero = t .principal
+balanceBefore t (suc k) = balanceAfter (loanOf t (payment t)) k
+
+unfoldable pub withLoan : Month → Terms → ℕ → Float → Month
+withLoan s t month speed =
+    cond (ltb (t .term) month) s (cond (le (balanceBefore t month) plusZero) s (plus s (flowsOn t (balanceBefore t month) speed)))
+
+-- the pool's month: loan by loan, left to right from +0
+unfoldable pub monthOf : List Terms → Month → ℕ → Float → Month
+monthOf [] s month speed = s
+monthOf (t ∷ ts) s month speed = monthOf ts (withLoan s t month speed) month speed
+
+abbrev pub poolMonth : List Terms → ℕ → Float → Month
+poolMonth loans month speed = monthOf loans nothing month speed

@@ -1,0 +1,5 @@
+pub mod Units
+pub mod Curves
+pub mod Flows
+pub mod Spread
+pub mod Dated

@@ -1,0 +1,15 @@
+pub mod Choices
+pub mod Adding
+pub mod Serving
+pub mod Flat
+pub mod KnotLine
+pub mod CurveLines
+pub mod Forwards
+pub mod Pars
+pub mod Pivots
+pub mod Points
+pub mod Filling
+pub mod Splines
+pub mod Outside
+pub mod Exactly
+pub mod Tight

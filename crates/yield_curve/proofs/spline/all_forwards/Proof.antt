@@ -1,0 +1,87 @@
+-- `yield_curve::spline::all_forwards` meets its contract: each place up to the knot in hand holds its mu and its z. Assumes nothing.
+use mathlib.Core.Path.{_≡_, refl, sym, ap, _∙_}
+use Prim.Native.Nat.{ℕ, suc, _+_, _-_, _<_, _≤_}
+use native.Mathlib.Numerals.{add-one}
+use native.Mathlib.Omega.{arith}
+use lib.ListN.{length, length-set, replicate}
+use Rattle.numbers.specs.Clamps.{plusZero}
+use Rattle.yield_curve.specs.Spline.{mu, z}
+use Rattle.yield_curve.proofs.Filling.{Holds, one-place, placed}
+use Rattle.yield_curve.proofs.spline.all_forwards.Statement.{statement}
+use Rattle.yield_curve.proofs.spline.all_forwards.Tie as tie
+
+abbrev Inv-loop : tie.InvT-loop
+Inv-loop times rates mus₀ zs₀ f₀ i₀ mus zs f i =
+    (i + 1 ≤ 120) × (f .mu ≡ mu times rates i) × (f .z ≡ z times rates i) × (length mus ≡ 120) × (length zs ≡ 120)
+    × Holds mus (mu times rates) (i + 1) × Holds zs (z times rates) (i + 1)
+
+abbrev μ-loop : tie.MeasureT-loop
+μ-loop times rates mus₀ zs₀ f₀ i₀ mus zs f i = length times - i
+
+loop-holds : tie.Need-loop-holds Inv-loop μ-loop
+unfolding mu z
+loop-holds c = (omega arith, refl, refl, refl, refl, one-place (replicate 120 plusZero) _ refl, one-place (replicate 120 plusZero) _ refl)
+
+add-loop : tie.Need-add-loop Inv-loop μ-loop
+add-loop c = omega arith
+
+next-forward-requires : tie.Need-next-forward-requires Inv-loop μ-loop
+next-forward-requires c κs = let head = c .before .loop in (omega arith, head .inv .1, head .inv .2)
+
+add-i : tie.Need-add-i Inv-loop μ-loop
+add-i c = omega arith
+
+mul-mus : tie.Need-mul-mus Inv-loop μ-loop
+mul-mus c = omega arith
+
+array-write-mus : tie.Need-array-write-mus Inv-loop μ-loop
+array-write-mus c = omega arith
+
+mul-zs : tie.Need-mul-zs Inv-loop μ-loop
+mul-zs c = omega arith
+
+array-write-zs : tie.Need-array-write-zs Inv-loop μ-loop
+array-write-zs c = omega arith
+
+loop-less : tie.Need-loop-less Inv-loop μ-loop
+loop-less c = omega arith
+
+loop-again : tie.Need-loop-again Inv-loop μ-loop
+loop-again c =
+    let head = c .before .before .loop in
+    let a = c .before .before .before .before .before .args in
+    let more = sym (add-one (head .i)) in
+    let m = c .next-forward .ensures .0 ∙ ap (mu (a .times .now) (a .rates .now)) more in
+    let y = c .next-forward .ensures .1 ∙ ap (z (a .times .now) (a .rates .now)) more in (
+      omega arith,
+      m,
+      y,
+      simp length-set (head .inv .3),
+      simp length-set (head .inv .4),
+      placed (head .mus) _ _ _ (omega arith) (head .inv .5) m,
+      placed (head .zs) _ _ _ (omega arith) (head .inv .6) y,
+    )
+
+returns : tie.Need-returns Inv-loop μ-loop
+returns c =
+    let head = c .before .loop in
+    let passed : (j : ℕ) → suc j < length (c .before .before .before .before .args .times .now) → j < head .i + 1 = λ j h. omega arith in
+    (λ j h. head .inv .5 j (passed j h), λ j h. head .inv .6 j (passed j h))
+
+pub all-forwards-spec : {M : Type 1} → statement M
+all-forwards-spec =
+    tie.close
+    (tie.spec
+    Inv-loop
+    μ-loop
+    loop-holds
+    add-loop
+    next-forward-requires
+    add-i
+    mul-mus
+    array-write-mus
+    mul-zs
+    array-write-zs
+    loop-less
+    loop-again
+    returns)

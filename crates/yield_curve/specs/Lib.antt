@@ -1,0 +1,7 @@
+pub mod Segments
+pub mod Curve
+pub mod Linear
+pub mod Spline
+pub mod NelsonSiegel
+pub mod Solve
+pub mod Fit

@@ -1,0 +1,8 @@
+// Yield curves: interpolation, discount factors, forwards, par yields, Nelson-Siegel.
+pub mod curve;
+pub mod fitting;
+pub mod linear;
+pub mod nelson_siegel;
+pub mod segments;
+pub mod solve;
+pub mod spline;

@@ -1,0 +1,159 @@
+// The natural cubic spline through a curve's knots.
+ghost use mathlib.Core.Path.{_≡_};
+ghost use mathlib.Core.Bool.{cond};
+ghost use Prim.Native.Nat.{ℕ, suc, _<_, _≤_};
+ghost use lib.ListN.{length, getD};
+ghost use lib.Ieee.{nan, binary64, sub, lt};
+ghost use Rattle.numbers.specs.Sizes.{absolute};
+ghost use Rattle.refusals.specs.Answers.{numberOutcome};
+ghost use Rattle.yield_curve.specs.Segments.{knot};
+ghost use Rattle.yield_curve.specs.Spline.{guard, slope, bend, mu, z, cAt, cubic, splineOf, cubicSplineInterpolate};
+use crate::curve::bad_time;
+use crate::curve::judge_asked;
+use crate::linear::yield_of;
+use crate::segments::knot_after;
+use crate::segments::knot_at;
+use crate::segments::last_knot;
+use crate::segments::no_knot;
+use crate::segments::segment_ending;
+use numbers::sizes::absolute_value;
+use refusals::Number;
+use refusals::Verdict;
+
+// mu and z of one knot.
+pub struct Forward {
+    pub mu: f64,
+    pub z: f64,
+}
+
+// mu and z of every knot but the last.
+pub struct Forwards {
+    pub mu: [f64; 120],
+    pub z: [f64; 120],
+}
+
+// c of the two ends of a segment.
+pub struct Bends {
+    pub here: f64,
+    pub next: f64,
+}
+
+// How much a list rises from the knot i to the next.
+fn rise(xs: &[f64], i: usize) -> f64
+    ensures { λ r. ⌜ r ≡ sub binary64 (knot (now (xs .entry)) (suc i)) (knot (now (xs .entry)) i) ⌝ }
+{
+    knot_after(xs, i) - knot_at(xs, i)
+}
+
+fn slope(times: &[f64], rates: &[f64], i: usize) -> f64
+    ensures { λ r. ⌜ r ≡ slope (now (times .entry)) (now (rates .entry)) i ⌝ }
+{
+    rise(rates, i) / rise(times, i)
+}
+
+// How much the slope changes at the knot after i, three times.
+fn bend(times: &[f64], rates: &[f64], i: usize) -> f64
+    requires { ⌜ i < 120 ⌝ }
+    ensures { λ r. ⌜ r ≡ bend (now (times .entry)) (now (rates .entry)) i ⌝ }
+{
+    3.0 * (slope(times, rates, i + 1) - slope(times, rates, i))
+}
+
+// No pivot is nearer to zero than 1e-15.
+fn guarded(x: f64) -> f64
+    ensures { λ r. ⌜ r ≡ cond (lt (absolute x) guard) guard x ⌝ }
+{
+    if absolute_value(x) < 1e-15 { 1e-15 } else { x }
+}
+
+// mu and z of the knot after i, by those of i.
+fn next_forward(times: &[f64], rates: &[f64], i: usize, f: Forward) -> Forward
+    requires { ⌜ (i < 120) × (f .mu ≡ mu (now times) (now rates) i) × (f .z ≡ z (now times) (now rates) i) ⌝ }
+    ensures { λ r. ⌜ (r .mu ≡ mu (now (times .entry)) (now (rates .entry)) (suc i)) × (r .z ≡ z (now (times .entry)) (now (rates .entry)) (suc i)) ⌝ }
+{
+    let h = rise(times, i);
+    let p = guarded(2.0 * (knot_after(times, i + 1) - knot_at(times, i)) - h * f.mu);
+    Forward {
+        mu: rise(times, i + 1) / p,
+        z: (bend(times, rates, i) - h * f.z) / p,
+    }
+}
+
+// Up from the first knot, where both are 0.
+fn all_forwards(times: &[f64], rates: &[f64]) -> Forwards
+    requires { ⌜ length (now times) ≤ 120 ⌝ }
+    ensures { λ r. ⌜ ((i : ℕ) → suc i < length (now (times .entry)) → getD (r .mu) i nan ≡ mu (now (times .entry)) (now (rates .entry)) i) × ((i : ℕ) → suc i < length (now (times .entry)) → getD (r .z) i nan ≡ z (now (times .entry)) (now (rates .entry)) i) ⌝ }
+{
+    let mut mus = [0.0; 120];
+    let mut zs = [0.0; 120];
+    let mut f = Forward { mu: 0.0, z: 0.0 };
+    let mut i: usize = 0;
+    while i + 2 < times.len() {
+        f = next_forward(times, rates, i, f);
+        i += 1;
+        mus[i] = f.mu;
+        zs[i] = f.z;
+    }
+    Forwards { mu: mus, z: zs }
+}
+
+// Down from the last knot, where c is 0.
+fn bends_on(times: &[f64], rates: &[f64], i: usize) -> Bends
+    requires { ⌜ (suc i < length (now times)) × (length (now times) ≤ 120) ⌝ }
+    ensures { λ r. ⌜ (r .here ≡ cAt (now (times .entry)) (now (rates .entry)) i) × (r .next ≡ cAt (now (times .entry)) (now (rates .entry)) (suc i)) ⌝ }
+{
+    let f = all_forwards(times, rates);
+    let mut c = 0.0;
+    let mut k = times.len() - 1;
+    while k > i + 1 {
+        k -= 1;
+        c = f.z[k] - f.mu[k] * c;
+    }
+    Bends {
+        here: f.z[i] - f.mu[i] * c,
+        next: c,
+    }
+}
+
+// a + b·dx + c·dx·dx + d·dx·dx·dx on the segment i.
+fn cubic(times: &[f64], rates: &[f64], i: usize, t: f64) -> f64
+    requires { ⌜ (suc i < length (now times)) × (length (now times) ≤ 120) ⌝ }
+    ensures { λ r. ⌜ r ≡ cubic (now (times .entry)) (now (rates .entry)) i (sub binary64 t (knot (now (times .entry)) i)) ⌝ }
+{
+    let c = bends_on(times, rates, i);
+    let h = rise(times, i);
+    let b = slope(times, rates, i) - h * (c.next + 2.0 * c.here) / 3.0;
+    let d = (c.next - c.here) / (3.0 * h);
+    let dx = t - knot_at(times, i);
+    knot_at(rates, i) + b * dx + c.here * dx * dx + d * dx * dx * dx
+}
+
+// The spline at a time, for at most 120 knots; fewer than three make a straight line.
+fn spline_of(times: &[f64], rates: &[f64], t: f64) -> f64
+    requires { ⌜ length (now times) ≤ 120 ⌝ }
+    ensures { λ r. ⌜ r ≡ splineOf (now (times .entry)) (now (rates .entry)) t ⌝ }
+{
+    if times.len() < 3 {
+        return yield_of(times, rates, t);
+    }
+    if t <= knot_at(times, 0) {
+        return knot_at(rates, 0);
+    }
+    if last_knot(times) <= t {
+        return last_knot(rates);
+    }
+    let i = segment_ending(times, t);
+    if i < times.len() - 1 {
+        return cubic(times, rates, i, t);
+    }
+    no_knot()
+}
+
+pub fn cubic_spline_interpolate(times: &[f64], rates: &[f64], t: f64) -> Number
+    ensures { λ r. ⌜ numberOutcome r ≡ cubicSplineInterpolate (now (times .entry)) (now (rates .entry)) t ⌝ }
+{
+    match judge_asked(times, rates, bad_time(t)) {
+        Verdict::Refused(refusal) => Number::Refused(refusal),
+        Verdict::Accepted => Number::Given(spline_of(times, rates, t)),
+    }
+}
