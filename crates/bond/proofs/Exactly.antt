@@ -1,15 +1,18 @@
 -- Every entry point refuses by the table's rule: number k at place p is given exactly when that is the lowest line with a cause and its first place. Assumes nothing.
 use mathlib.Core.Path.{_≡_, refl, ap, _∙_}
 use mathlib.Core.Logic.{_⊎_, inl, inr, _↔_}
+use mathlib.Core.Bool.{not}
 use mathlib.Core.List.{List, [], _∷_, _++_}
 use Prim.Native.Nat.{ℕ}
 use native.Mathlib.Omega.{arith}
 use lib.Ieee.{Float}
+use lib.Ieee.Scale.{finite}
 use Rattle.refusals.specs.Outcome.{Outcome, refused, accepted, Line, line, Lowest, ExactlyWhen, above}
+use Rattle.refusals.specs.Table.{badNumber}
 use Rattle.refusals.proofs.Judging.{exactly}
 use Rattle.bond.specs.declared.Bond.{Bond}
 use Rattle.bond.specs.Bonds.{bondLines}
-use Rattle.bond.specs.Price.{price, dv01, currentYield}
+use Rattle.bond.specs.Price.{price, dv01, currentYield, zeroCouponPrice}
 use Rattle.bond.specs.Yield.{noBracket, yieldToMaturity}
 use Rattle.bond.specs.Durations.{macaulayDuration, modifiedDuration, convexity, priceChange, atYield, macaulayAtPrice, modifiedAtPrice, convexityAtPrice}
 use Rattle.bond.specs.Codes.{badCode, frequencyOf}
@@ -25,6 +28,13 @@ dv01-refused-exactly ytm b = exactly _ (bondLines b ytm) tt
 pub current-yield-refused-exactly : (market : Float) (b : Bond) → ExactlyWhen (bondLines b market) (currentYield market b)
 unfolding currentYield above
 current-yield-refused-exactly market b = exactly _ (bondLines b market) tt
+
+abbrev pub zeroCouponLines : Float → Float → List Line
+zeroCouponLines ytm maturity = line 7 (not (finite maturity)) ∷ line 9 (badNumber ytm) ∷ []
+
+pub zero-coupon-refused-exactly : (ytm maturity : Float) → ExactlyWhen (zeroCouponLines ytm maturity) (zeroCouponPrice ytm maturity)
+unfolding zeroCouponPrice above
+zero-coupon-refused-exactly ytm maturity = exactly _ (zeroCouponLines ytm maturity) tt
 
 abbrev pub yieldLines : Bond → Float → List Line
 yieldLines b market = bondLines b market ++ line 12 (noBracket b market) ∷ []

@@ -11,6 +11,8 @@ use Rattle.bond.proofs.price.dv01.Kinds as dv01-kinds
 use Rattle.bond.proofs.price.dv01.Reads as dv01
 use Rattle.bond.proofs.price.current_yield.Kinds as current-yield-kinds
 use Rattle.bond.proofs.price.current_yield.Reads as current-yield
+use Rattle.bond.proofs.price.zero_coupon_bond_price.Kinds as zero-coupon-bond-price-kinds
+use Rattle.bond.proofs.price.zero_coupon_bond_price.Reads as zero-coupon-bond-price
 use Rattle.bond.proofs.yields.yield_to_maturity.Kinds as yield-to-maturity-kinds
 use Rattle.bond.proofs.yields.yield_to_maturity.Reads as yield-to-maturity
 use Rattle.bond.proofs.durations.macaulay_duration.Kinds as macaulay-duration-kinds
@@ -46,6 +48,9 @@ dv01-determined κs a x y e e′ p q = number-one-to-one x y (p ∙ sym q)
 
 pub current-yield-determined : Determined 0 current-yield-kinds.ps current-yield-kinds.r current-yield.Post
 current-yield-determined κs a x y e e′ p q = number-one-to-one x y (p ∙ sym q)
+
+pub zero-coupon-bond-price-determined : Determined 0 zero-coupon-bond-price-kinds.ps zero-coupon-bond-price-kinds.r zero-coupon-bond-price.Post
+zero-coupon-bond-price-determined κs a x y e e′ p q = number-one-to-one x y (p ∙ sym q)
 
 pub yield-to-maturity-determined : Determined 0 yield-to-maturity-kinds.ps yield-to-maturity-kinds.r yield-to-maturity.Post
 yield-to-maturity-determined κs a x y e e′ p q = number-one-to-one x y (p ∙ sym q)

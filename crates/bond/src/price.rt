@@ -3,8 +3,8 @@ ghost use mathlib.Core.Path.{_≡_};
 ghost use lib.Ieee.{lt};
 ghost use Rattle.numbers.specs.Sizes.{absolute};
 ghost use Rattle.refusals.specs.Answers.{numberOutcome};
-ghost use Rattle.bond.specs.Price.{epsilon, periodRate, undiscounted, discounted, priceOf, currentYield};
-ghost use Rattle.bond.specs.Price.{price, dv01};
+ghost use Rattle.bond.specs.Price.{epsilon, periodRate, undiscounted, discounted, priceOf};
+ghost use Rattle.bond.specs.Price.{price, dv01, currentYield, zeroCouponPrice};
 ghost use Rattle.bond.specs.Worked.{WorkedOut};
 use crate::Bond;
 use crate::bonds::Worked;
@@ -97,4 +97,17 @@ pub fn current_yield(market: f64, bond: Bond) -> Number
             Number::Given(bond.face * bond.coupon / market)
         }
     }
+}
+
+// The price of a bond of face 1 without coupons. It has no periods, so line 7 is for a maturity that is not finite alone.
+pub fn zero_coupon_bond_price(ytm: f64, maturity: f64) -> Number
+    ensures { λ r. ⌜ numberOutcome r ≡ zeroCouponPrice ytm maturity ⌝ }
+{
+    if refusals::bad_number(maturity) {
+        return Number::Refused(refusals::refuse(7));
+    }
+    if refusals::bad_number(ytm) {
+        return Number::Refused(refusals::refuse(9));
+    }
+    Number::Given(elementary::power::power(1.0 + ytm, -maturity))
 }

@@ -97,7 +97,7 @@ fn one_sided(search: Search) -> bool
     search.fa * search.fb > 0.0
 }
 
-// The yield in the first bracket whose ends err to both sides; where neither has such ends, line 12.
+// The yield in the first bracket whose ends do not both err to one side; where the ends of both brackets do, line 12.
 fn yield_in_bracket(worked: Worked, market: f64) -> Number
     requires { ⌜ WorkedOut worked ⌝ }
     ensures { λ r. ⌜ numberOutcome r ≡ judged (line 12 (noBracket (worked .bond) market) ∷ []) (yieldOf (worked .bond) market) ⌝ }

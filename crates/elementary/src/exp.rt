@@ -111,7 +111,7 @@ pub fn exp(x: f64) -> f64
     series(rest_of(x)) * scale_of(x)
 }
 
-// Whether all pass neither end.
+// Whether each is a number between the ends.
 fn all_inside(numbers: &[f64]) -> bool
     ensures { λ r. ⌜ (r ≡ true → (k : ℕ) → k < length (now (numbers .entry))
         → (ne (getD (now (numbers .entry)) k nan) (getD (now (numbers .entry)) k nan) ≡ false)
@@ -165,7 +165,7 @@ fn exp_one_by_one(numbers: &mut [f64])
     }
 }
 
-// Eight at once, where none passes an end.
+// Eight at once, where each is a number between the ends.
 fn exp_eight(numbers: &mut [f64])
     requires { ⌜ length (now numbers) ≡ 8 ⌝ }
     ensures { λ _. ⌜ now (numbers .exit) ≡ map exp (now (numbers .entry)) ⌝ }

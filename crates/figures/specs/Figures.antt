@@ -7,7 +7,7 @@ use lib.Ieee.{Float, nan, binary64, add, sub, mul, div, lt, le, eq, ofInt, ofBit
 use Rattle.numbers.specs.Sizes.{absolute}
 use Rattle.numbers.specs.Whole.{nearestWhole}
 use Rattle.refusals.specs.Outcome.{accepted, firstOr, judged}
-use Rattle.refusals.specs.Table.{badAmount, badTerm, badNumber, badRecord}
+use Rattle.refusals.specs.Table.{badAmount, badTerm, badNumber, badRecord, unequal, badKnotCount, badKnot, badKnotsAfter, badKnots, badTime}
 use Rattle.elementary.specs.WholePower.{turns, wholePower, negativePower}
 use Rattle.records.specs.declared.Terms.{Terms}
 use Rattle.records.specs.declared.Row.{Row}
@@ -21,6 +21,8 @@ use Rattle.bond.specs.declared.Bond.{Bond}
 use Rattle.bond.specs.declared.Frequency.the-variants.{Annual}
 use Rattle.bond.specs.Bonds.{periodCoupon, periods, badMaturity}
 use Rattle.bond.specs.Price.{periodRate, undiscounted, discount, discounted, priceOf, price}
+use Rattle.yield_curve.specs.Segments.{segmentEnding, flatOutside}
+use Rattle.swaps.specs.Discount.{share, alongZeros, zeroRateOf, rateAt}
 use Rattle.listing.specs.Digits.{hexDigits, decimalDigits, decimal}
 use Rattle.listing.specs.Listing.{spaced, rowLine, footer, refusedLine, loanLines, termsLines, listing}
 
@@ -100,9 +102,11 @@ pub record Figures : Type 0 where
   pub bond-at-one : price (number 1) (annual-bond 2) ≡ accepted (pattern 0x404f_4000_0000_0000)
   pub bond-at-zero : price (number 0) (annual-bond 2) ≡ accepted (number 200)
   pub bond-at-maturity : price (pattern 0x3fe0_0000_0000_0000) (annual-bond 0) ≡ accepted (number 100)
+  -- discount knots (1, 0.25), (3, 0.75) at 2: 0.5
+  pub between-knots : rateAt (number 1 ∷ number 3 ∷ []) (pattern 0x3fd0_0000_0000_0000 ∷ pattern 0x3fe8_0000_0000_0000 ∷ []) (number 2) ≡ accepted (pattern 0x3fe0_0000_0000_0000)
 
 pub figures : Figures
-unfolding nearestWhole absolute badAmount badNumber badTerm badRecord firstOr judged turns wholePower negativePower periodCoupon periods badMaturity periodRate undiscounted discount discounted priceOf price valueOf wholeAt floatAt readTerms termsIn monthlyRate growth levelPayment payment monthlyPayment loanOf openedWith opened endMonth due last interestOf principalOf paymentOf newBalance rowOf nextOf stepped written hexDigits decimalDigits decimal spaced rowLine footer refusedLine loanLines termsLines listing add sub mul div lt le eq ofInt ofBits toBits
+unfolding nearestWhole absolute badAmount badNumber unequal badKnotCount badKnot badKnotsAfter badKnots badTime segmentEnding flatOutside share alongZeros zeroRateOf rateAt badTerm badRecord firstOr judged turns wholePower negativePower periodCoupon periods badMaturity periodRate undiscounted discount discounted priceOf price valueOf wholeAt floatAt readTerms termsIn monthlyRate growth levelPayment payment monthlyPayment loanOf openedWith opened endMonth due last interestOf principalOf paymentOf newBalance rowOf nextOf stepped written hexDigits decimalDigits decimal spaced rowLine footer refusedLine loanLines termsLines listing add sub mul div lt le eq ofInt ofBits toBits
 figures = record {
   two-and-a-half = refl;
   nearly-a-half = refl;
@@ -119,4 +123,5 @@ figures = record {
   bond-at-one = refl;
   bond-at-zero = refl;
   bond-at-maturity = refl;
+  between-knots = refl;
 }

@@ -1,8 +1,9 @@
-// Document 01's figures that are run only: terms of 1,200 and 1,201, and room for 4 and 5 numbers.
+// Document 01's figures that are run only: terms of 1,200 and 1,201, room for 4 and 5 numbers, and curves of 120 and 121 knots.
 use libc::STDOUT_FILENO;
 use mortgage::draws::Drawing;
 use mortgage::opening::Opening;
 use records::Terms;
+use refusals::Number;
 use refusals::Refusal;
 
 fn say_refused(refusal: Refusal) {
@@ -44,6 +45,36 @@ fn draw(term: u32, room: &mut [f64]) {
     }
 }
 
+// Times a year apart, from 0.
+fn set_years(times: &mut [f64]) {
+    let mut year: u32 = 0;
+    let mut k: usize = 0;
+    while k < times.len() {
+        times[k] = year as f64;
+        if year < 1000 {
+            year += 1;
+        }
+        k += 1;
+    }
+}
+
+// A curve asked at a time between its first two knots.
+fn ask(times: &[f64], rates: &[f64]) {
+    io::write_all(STDOUT_FILENO, b"knots ");
+    io::print_decimal(STDOUT_FILENO, times.len() as u64);
+    io::write_all(STDOUT_FILENO, b": ");
+    match yield_curve::linear::linear_interpolate(times, rates, 0.25) {
+        Number::Refused(refusal) => say_refused(refusal),
+        Number::Given(rate) => {
+            if rate == 0.5 {
+                io::write_all(STDOUT_FILENO, b"rate 0.5\n");
+            } else {
+                io::write_all(STDOUT_FILENO, b"another rate\n");
+            }
+        }
+    }
+}
+
 fn main() {
     let mut whole = [0.0; 6000];
     let mut four = [0.0; 4];
@@ -52,4 +83,10 @@ fn main() {
     draw(1201, &mut whole);
     draw(3, &mut four);
     draw(3, &mut five);
+    let mut years = [0.0; 120];
+    set_years(&mut years);
+    ask(&years, &[0.5; 120]);
+    let mut more_years = [0.0; 121];
+    set_years(&mut more_years);
+    ask(&more_years, &[0.5; 121]);
 }

@@ -1,10 +1,11 @@
--- Document 01's table, of the two readers: refusal 11 at place 0, and no other, is given exactly when the kind is unknown or the length wrong. Assumes nothing.
+-- Document 01's table, of the readers: refusal 11 at place 0, and no other, is given exactly when the kind is unknown, the length wrong or a code outside its set. Assumes nothing.
+use mathlib.Core.Bool.{_||_}
 use mathlib.Core.List.{List, [], _∷_}
 use Prim.Native.Nat.{ℕ}
 use Rattle.refusals.specs.Outcome.{ExactlyWhen, above, line}
 use Rattle.refusals.specs.Table.{badRecord}
 use Rattle.refusals.proofs.Judging.{exactly}
-use Rattle.records.specs.Kinds.{termsKind, termsSize, termsIn, readTerms, rowKind, rowSize, rowIn, readRow}
+use Rattle.records.specs.Kinds.{termsKind, termsSize, termsIn, readTerms, rowKind, rowSize, rowIn, readRow, badCode, bondKind, bondSize, bondIn, readBond, swapKind, swapSize, swapIn, readSwap}
 
 pub read-terms-exactly : (bytes : List ℕ) → ExactlyWhen (line 11 (badRecord termsKind termsSize bytes) ∷ []) (readTerms bytes)
 unfolding readTerms above
@@ -13,3 +14,11 @@ read-terms-exactly bytes = exactly (termsIn bytes) (line 11 (badRecord termsKind
 pub read-row-exactly : (bytes : List ℕ) → ExactlyWhen (line 11 (badRecord rowKind rowSize bytes) ∷ []) (readRow bytes)
 unfolding readRow above
 read-row-exactly bytes = exactly (rowIn bytes) (line 11 (badRecord rowKind rowSize bytes) ∷ []) tt
+
+pub read-bond-exactly : (bytes : List ℕ) → ExactlyWhen (line 11 (badRecord bondKind bondSize bytes || badCode 3 (bondIn bytes .frequency)) ∷ []) (readBond bytes)
+unfolding readBond above
+read-bond-exactly bytes = exactly (bondIn bytes) (line 11 (badRecord bondKind bondSize bytes || badCode 3 (bondIn bytes .frequency)) ∷ []) tt
+
+pub read-swap-exactly : (bytes : List ℕ) → ExactlyWhen (line 11 (badRecord swapKind swapSize bytes || badCode 2 (swapIn bytes .count)) ∷ []) (readSwap bytes)
+unfolding readSwap above
+read-swap-exactly bytes = exactly (swapIn bytes) (line 11 (badRecord swapKind swapSize bytes || badCode 2 (swapIn bytes .count)) ∷ []) tt

@@ -1,6 +1,7 @@
 -- Line 11 over the bytes of any kind: where the record is bad, 11 at place 0 is given, and where it is not, the value. Assumes nothing.
-use mathlib.Core.Path.{_≡_, refl, sym, _∙_}
-use mathlib.Core.Bool.{Bool, true, false, not, cond, _&&_}
+use mathlib.Core.Path.{_≡_, refl, sym, ap, _∙_}
+use mathlib.Core.Logic.{_⊎_, inl, inr}
+use mathlib.Core.Bool.{Bool, true, false, not, cond, _&&_, _||_}
 use mathlib.Core.List.{List, [], _∷_}
 use Prim.Native.Nat.{ℕ}
 use native.Mathlib.Omega.{arith}
@@ -14,6 +15,14 @@ both : (a b : Bool) → not (a && b) ≡ false → (a ≡ true) × (b ≡ true)
 both true true h = (refl, refl)
 both true false h = (cc, cc)
 both false b h = (cc, cc)
+
+or-true : (a : Bool) → (a || true) ≡ true
+or-true true = refl
+or-true false = refl
+
+or-false : (a : Bool) → (a || false) ≡ a
+or-false true = refl
+or-false false = refl
 
 module _ (kind size : ℕ) (bytes : List ℕ) where
   pub other-length : (length bytes ≡ size → ⊥) → true ≡ badRecord kind size bytes
@@ -53,3 +62,28 @@ module _ (kind size : ℕ) (bytes : List ℕ) where
     pub right-length : bad ≡ false → length bytes ≡ size
     unfolding badRecord
     right-length h = eqb-true _ _ (both (eqb (length bytes) size) (eqb (getD bytes 0 0) kind) (sym is ∙ h) .0)
+
+-- ---- a kind with a code: 11 also where that is outside its set
+module _ {Value : Type 0} (v : Value) (a b : Bool) where
+  pub coded-refuses : {number place : ℕ} → (number ≡ 11) × (place ≡ 0) → (a ≡ true) ⊎ (b ≡ true) → refused number place ≡ judged (line 11 (a || b) ∷ []) v
+  unfolding judged firstOr
+  coded-refuses e (inl h) = simp (h, e .0, e .1)
+  coded-refuses e (inr h) = simp (h, or-true a, e .0, e .1)
+
+  pub coded-accepts : {w : Value} → w ≡ v → a ≡ false → b ≡ false → accepted w ≡ judged (line 11 (a || b) ∷ []) v
+  unfolding judged firstOr
+  coded-accepts e h g = simp (h, g, e)
+
+  -- where the code is in its set, the record alone decides; and only there is a value given
+  pub coded-given : b ≡ false → judged (line 11 a ∷ []) v ≡ judged (line 11 (a || b) ∷ []) v
+  unfolding judged firstOr
+  coded-given h = ap (λ (t : Bool). cond t (refused 11 0) (accepted v)) (sym (or-false a) ∙ ap (λ (t : Bool). a || t) (sym h))
+
+  pub coded-only : (w : Value) → judged (line 11 (a || b) ∷ []) v ≡ accepted w → judged (line 11 a ∷ []) v ≡ accepted w
+  unfolding judged firstOr
+  coded-only w = go a b
+    where
+      go : (c d : Bool) → cond (c || d) (refused 11 0) (accepted v) ≡ accepted w → cond c (refused 11 0) (accepted v) ≡ accepted w
+      go true d e = e
+      go false true e = let z : _≡_ {A = ℕ} 0 1 = cc in absurd (omega arith)
+      go false false e = e

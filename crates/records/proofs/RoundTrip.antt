@@ -1,9 +1,10 @@
 -- Reading a written record gives its value, and writing what was read gives the record's bytes, with the one NaN for any NaN. One law for every layout of fields, and
--- kinds 1 and 3 by it. Assumes nothing.
+-- kinds 1 to 4 by it. Assumes nothing.
 use mathlib.Core.Path.{_≡_, sym, ap, _∙_, subst}
 use mathlib.Core.Bool.{false}
 use mathlib.Core.List.{List, [], _∷_}
-use Prim.Native.Nat.{ℕ, _^_, _<_}
+use Prim.Native.Nat.{ℕ, _^_, _<_, _≤_}
+use borrow.Author.Tests.{le-ltb}
 use native.Mathlib.Omega.{arith}
 use lib.Dec.{T}
 use lib.ListN.{length, getD}
@@ -11,12 +12,14 @@ use lib.Ieee.{binary64, fits, isNan}
 use Rattle.refusals.specs.Outcome.{Outcome, accepted, line, judged}
 use Rattle.refusals.specs.Table.{badRecord}
 use Rattle.records.specs.declared.Terms.{Terms}
+use Rattle.records.specs.declared.BondRecord.{BondRecord}
 use Rattle.records.specs.declared.Row.{Row}
-use Rattle.records.specs.Kinds.{termsBytes, readTerms, rowBytes, readRow}
-use Rattle.records.specs.OneNan.{AreBytes, oneNan, termsFields, rowFields}
+use Rattle.records.specs.declared.SwapRecord.{SwapRecord}
+use Rattle.records.specs.Kinds.{termsBytes, readTerms, badCode, bondKind, bondSize, bondBytes, bondIn, readBond, rowBytes, readRow, swapKind, swapSize, swapBytes, swapIn, readSwap}
+use Rattle.records.specs.OneNan.{AreBytes, oneNan, termsFields, bondFields, rowFields, swapFields}
 use Rattle.records.proofs.Slots.{Held, NoNan, Every, size, written, slotsIn, length-written, values-again, bytes-again, bytes-stay}
-use Rattle.records.proofs.Layouts.{Layout, termsLayout, rowLayout}
-use Rattle.records.proofs.Judged.{given, given-only}
+use Rattle.records.proofs.Layouts.{Layout, termsLayout, bondSlots, bondLayout, rowLayout, swapSlots, swapLayout}
+use Rattle.records.proofs.Judged.{given, given-only, coded-given, coded-only}
 
 module _ {Value : Type 0} (l : Layout Value) where
   abbrev answer : List ℕ → Outcome Value
@@ -30,6 +33,10 @@ module _ {Value : Type 0} (l : Layout Value) where
       let is = l .same (getD bytes 0 0) (l .kind) (l .valueIn bytes) v (sym (l .reads bytes) ∙ again) in
       let long : length bytes ≡ size (l .fields) = ap length (sym (l .writes v)) ∙ length-written ss ∙ ap size (l .shape (l .kind) v) in
       given (l .kind) (size (l .fields)) bytes (l .valueIn bytes) long (is .0) ∙ ap accepted (is .1)
+
+  -- what is read of a written record is the value itself
+  value-is : (v : Value) → Every Held (l .slots (l .kind) v) → l .valueIn (l .recordOf v) ≡ v
+  value-is v held = given-only (l .kind) (size (l .fields)) (l .recordOf v) (l .valueIn (l .recordOf v)) v (value-again v held) .1 .1
 
   module _ (bytes : List ℕ) (v : Value) (small : AreBytes bytes) (reads : answer bytes ≡ accepted v) where
     slots-are : slotsIn (l .fields) bytes ≡ l .slots (l .kind) v
@@ -77,3 +84,47 @@ module _ (bytes : List ℕ) (r : Row) (small : AreBytes bytes) (reads : readRow 
   unfolding readRow
   row-same-record payment principal interest balance =
       same-record rowLayout bytes r small reads (tt, (tt, (payment, (principal, (interest, (balance, tt))))))
+
+-- ---- kind 2
+
+pub bond-again : (b : BondRecord) → T (fits binary64 (b .face)) → T (fits binary64 (b .coupon)) → T (fits binary64 (b .maturity)) → b .frequency ≤ 3
+    → readBond (bondBytes b) ≡ accepted b
+unfolding readBond
+bond-again b face coupon maturity code =
+    let held : Every Held (bondSlots bondKind b) = (omega arith, (face, (coupon, (maturity, (omega arith, tt))))) in
+    let is : bondIn (bondBytes b) ≡ b = value-is bondLayout b held in
+    sym (coded-given (bondIn (bondBytes b)) (badRecord bondKind bondSize (bondBytes b)) (badCode 3 (bondIn (bondBytes b) .frequency)) (rw is (le-ltb 3 (b .frequency) code)))
+    ∙ value-again bondLayout b held
+
+module _ (bytes : List ℕ) (b : BondRecord) (small : AreBytes bytes) (reads : readBond bytes ≡ accepted b) where
+  plain-bond : judged (line 11 (badRecord bondKind bondSize bytes) ∷ []) (bondIn bytes) ≡ accepted b
+  unfolding readBond
+  plain-bond = coded-only (bondIn bytes) (badRecord bondKind bondSize bytes) (badCode 3 (bondIn bytes .frequency)) b reads
+
+  pub bond-record-again : bondBytes b ≡ oneNan bondFields bytes
+  bond-record-again = record-again bondLayout bytes b small plain-bond
+
+  pub bond-same-record : isNan (b .face) ≡ false → isNan (b .coupon) ≡ false → isNan (b .maturity) ≡ false → bondBytes b ≡ bytes
+  bond-same-record face coupon maturity = same-record bondLayout bytes b small plain-bond (tt, (face, (coupon, (maturity, (tt, tt)))))
+
+-- ---- kind 4
+
+pub swap-again : (s : SwapRecord) → T (fits binary64 (s .notional)) → T (fits binary64 (s .rate)) → T (fits binary64 (s .tenor)) → s .frequency < 2 ^ 32 → s .count ≤ 2
+    → readSwap (swapBytes s) ≡ accepted s
+unfolding readSwap
+swap-again s notional rate tenor frequency code =
+    let held : Every Held (swapSlots swapKind s) = (omega arith, (notional, (rate, (tenor, (frequency, (omega arith, tt)))))) in
+    let is : swapIn (swapBytes s) ≡ s = value-is swapLayout s held in
+    sym (coded-given (swapIn (swapBytes s)) (badRecord swapKind swapSize (swapBytes s)) (badCode 2 (swapIn (swapBytes s) .count)) (rw is (le-ltb 2 (s .count) code)))
+    ∙ value-again swapLayout s held
+
+module _ (bytes : List ℕ) (s : SwapRecord) (small : AreBytes bytes) (reads : readSwap bytes ≡ accepted s) where
+  plain-swap : judged (line 11 (badRecord swapKind swapSize bytes) ∷ []) (swapIn bytes) ≡ accepted s
+  unfolding readSwap
+  plain-swap = coded-only (swapIn bytes) (badRecord swapKind swapSize bytes) (badCode 2 (swapIn bytes .count)) s reads
+
+  pub swap-record-again : swapBytes s ≡ oneNan swapFields bytes
+  swap-record-again = record-again swapLayout bytes s small plain-swap
+
+  pub swap-same-record : isNan (s .notional) ≡ false → isNan (s .rate) ≡ false → isNan (s .tenor) ≡ false → swapBytes s ≡ bytes
+  swap-same-record notional rate tenor = same-record swapLayout bytes s small plain-swap (tt, (notional, (rate, (tenor, (tt, (tt, tt))))))

@@ -8,7 +8,19 @@ use Rattle.records.specs.declared.TermsRead.{TermsRead}
 use Rattle.records.specs.declared.TermsRead.the-variants as terms-is
 use Rattle.records.specs.declared.RowRead.{RowRead}
 use Rattle.records.specs.declared.RowRead.the-variants as row-is
-use Rattle.records.specs.Kinds.{termsOutcome, rowOutcome}
+use Rattle.records.specs.declared.BondRead.{BondRead}
+use Rattle.records.specs.declared.BondRead.the-variants as bond-is
+use Rattle.records.specs.declared.SwapRead.{SwapRead}
+use Rattle.records.specs.declared.SwapRead.the-variants as swap-is
+use Rattle.records.specs.Kinds.{swapOutcome, bondOutcome, termsOutcome, rowOutcome}
+use Rattle.records.proofs.bond_record.read_bond.Kinds as read-bond-kinds
+use Rattle.records.proofs.bond_record.read_bond.Reads as read-bond
+use Rattle.records.proofs.bond_record.write_bond.Kinds as write-bond-kinds
+use Rattle.records.proofs.bond_record.write_bond.Reads as write-bond
+use Rattle.records.proofs.swap_record.read_swap.Kinds as read-swap-kinds
+use Rattle.records.proofs.swap_record.read_swap.Reads as read-swap
+use Rattle.records.proofs.swap_record.write_swap.Kinds as write-swap-kinds
+use Rattle.records.proofs.swap_record.write_swap.Reads as write-swap
 use Rattle.records.proofs.terms_record.read_terms.Kinds as read-terms-kinds
 use Rattle.records.proofs.terms_record.read_terms.Reads as read-terms
 use Rattle.records.proofs.terms_record.write_terms.Kinds as write-terms-kinds
@@ -45,3 +57,31 @@ write-terms-settled κs a x y w w′ p q = ap (λ (l : List ℕ). (tt, (l, tt)))
 
 pub write-row-settled : Settled 1 write-row-kinds.ps write-row-kinds.r write-row.Post
 write-row-settled κs a x y w w′ p q = ap (λ (l : List ℕ). (tt, (l, tt))) (p ∙ sym q)
+
+-- ---- kind 2
+
+pub bond-told : (a b : BondRead) → bondOutcome a ≡ bondOutcome b → a ≡ b
+bond-told (bond-is.Refused a) (bond-is.Refused b) e = ap bond-is.Refused (same-refusal a b e)
+bond-told (bond-is.Given v) (bond-is.Given w) e = cc
+bond-told (bond-is.Refused a) (bond-is.Given w) e = cc
+bond-told (bond-is.Given v) (bond-is.Refused b) e = cc
+
+pub read-bond-determined : Determined 1 read-bond-kinds.ps read-bond-kinds.r read-bond.Post
+read-bond-determined κs a x y e e′ p q = bond-told x y (p ∙ sym q)
+
+pub write-bond-settled : Settled 1 write-bond-kinds.ps write-bond-kinds.r write-bond.Post
+write-bond-settled κs a x y w w′ p q = ap (λ (l : List ℕ). (tt, (l, tt))) (p ∙ sym q)
+
+-- ---- kind 4
+
+pub swap-told : (a b : SwapRead) → swapOutcome a ≡ swapOutcome b → a ≡ b
+swap-told (swap-is.Refused a) (swap-is.Refused b) e = ap swap-is.Refused (same-refusal a b e)
+swap-told (swap-is.Given v) (swap-is.Given w) e = cc
+swap-told (swap-is.Refused a) (swap-is.Given w) e = cc
+swap-told (swap-is.Given v) (swap-is.Refused b) e = cc
+
+pub read-swap-determined : Determined 1 read-swap-kinds.ps read-swap-kinds.r read-swap.Post
+read-swap-determined κs a x y e e′ p q = swap-told x y (p ∙ sym q)
+
+pub write-swap-settled : Settled 1 write-swap-kinds.ps write-swap-kinds.r write-swap.Post
+write-swap-settled κs a x y w w′ p q = ap (λ (l : List ℕ). (tt, (l, tt))) (p ∙ sym q)

@@ -20,12 +20,18 @@ sizeOf byte = 1
 sizeOf whole = 4
 sizeOf float = 8
 
--- the fields of kind 1 and of kind 3, in order
+-- the fields of each kind, in order
 abbrev pub termsFields : List Field
 termsFields = byte ∷ float ∷ float ∷ whole ∷ []
 
 abbrev pub rowFields : List Field
 rowFields = byte ∷ whole ∷ float ∷ float ∷ float ∷ float ∷ []
+
+abbrev pub bondFields : List Field
+bondFields = byte ∷ float ∷ float ∷ float ∷ byte ∷ []
+
+abbrev pub swapFields : List Field
+swapFields = byte ∷ float ∷ float ∷ float ∷ whole ∷ byte ∷ []
 
 -- a float's bytes that stand for a NaN give way to the one NaN's, and all others stay
 unfoldable pub oneNanIn : Field → List ℕ → List ℕ

@@ -3,8 +3,10 @@ ghost use mathlib.Core.Path.{_≡_};
 ghost use Prim.Native.Nat.{_<_};
 ghost use Rattle.refusals.specs.Table.{badRecord};
 
+pub mod bond_record;
 mod fields;
 pub mod row_record;
+pub mod swap_record;
 pub mod terms_record;
 
 // Kind 1, a loan's terms.
@@ -12,6 +14,14 @@ pub struct Terms {
     pub principal: f64,
     pub rate: f64,
     pub term: u32,
+}
+
+// Kind 2, a bond; its frequency is the code that the record holds.
+pub struct BondRecord {
+    pub face: f64,
+    pub coupon: f64,
+    pub maturity: f64,
+    pub frequency: u8,
 }
 
 // Kind 3, a row of a schedule.
@@ -23,6 +33,15 @@ pub struct Row {
     pub balance: f64,
 }
 
+// Kind 4, a swap; its day count is the code that the record holds.
+pub struct SwapRecord {
+    pub notional: f64,
+    pub rate: f64,
+    pub tenor: f64,
+    pub frequency: u32,
+    pub count: u8,
+}
+
 pub enum TermsRead {
     Refused(refusals::Refusal),
     Given(Terms),
@@ -31,6 +50,16 @@ pub enum TermsRead {
 pub enum RowRead {
     Refused(refusals::Refusal),
     Given(Row),
+}
+
+pub enum BondRead {
+    Refused(refusals::Refusal),
+    Given(BondRecord),
+}
+
+pub enum SwapRead {
+    Refused(refusals::Refusal),
+    Given(SwapRecord),
 }
 
 // Line 11: a record of another kind or another length.

@@ -1,4 +1,8 @@
 // Spreads: points and decimals, the rate curves, cash flows, the spread that a price implies.
+pub mod curves;
 pub mod dated;
+pub mod flows;
+pub mod judging;
 pub mod spread;
 pub mod units;
+pub mod worth;

@@ -1,5 +1,31 @@
-// The spread over a curve.
+// The present value of cash flows over a curve and a spread, and the spread that a market price implies.
+ghost use mathlib.Core.Path.{_≡_};
+ghost use mathlib.Core.Bool.{cond};
+ghost use mathlib.Core.List.{List};
+ghost use Prim.Native.Nat.{ℕ, _<_, _≤_};
+ghost use lib.ListN.{length};
+ghost use lib.Ieee.{Float, lt};
+ghost use Rattle.numbers.specs.Sizes.{absolute};
+ghost use Rattle.refusals.specs.Outcome.{accepted};
+ghost use Rattle.refusals.specs.Answers.{numberOutcome};
+ghost use Rattle.yield_curve.specs.Segments.{knot};
+ghost use Rattle.spread_analytics.specs.Curves.{rateOf};
+ghost use Rattle.spread_analytics.specs.Spread.{lowest, highest, worthOf, pvCashFlows, miss, halved, spreadOf, zSpread, spreadOutcome};
+ghost use Rattle.spread_analytics.specs.Spread.{sensitivityOf, durationConvexity, sensitivityOutcome};
+use crate::judging::judge_spread;
 use crate::units::BasisPoints;
+use crate::units::to_decimal;
+use crate::worth::keep_rates;
+use crate::worth::put_factors;
+use crate::worth::sums_of;
+use crate::worth::worth_at;
+use numbers::sizes::absolute_value;
+use refusals::Number;
+use refusals::Verdict;
+
+const LOWEST: f64 = -500.0;
+
+const HIGHEST: f64 = 2000.0;
 
 pub enum SpreadAnswer {
     Refused(refusals::Refusal),
@@ -15,4 +41,199 @@ pub struct Sensitivity {
 pub enum SensitivityAnswer {
     Refused(refusals::Refusal),
     Given(Sensitivity),
+}
+
+// The worth at a spread over a curve.
+fn worth_of(
+    times: &[f64],
+    amounts: &[f64],
+    tenors: &[f64],
+    rates: &[f64],
+    spread: BasisPoints,
+) -> f64
+    requires { ⌜ (length (now times) ≡ length (now amounts)) × (length (now times) ≤ 1200) ⌝ }
+    ensures { λ r. ⌜ r ≡ worthOf (now (times .entry)) (now (amounts .entry)) (now (tenors .entry)) (now (rates .entry)) (spread .0) ⌝ }
+{
+    let mut kept = [0.0; 1200];
+    let mut room = [0.0; 1200];
+    keep_rates(times, tenors, rates, &mut kept);
+    worth_at(times, amounts, &kept, &mut room, spread)
+}
+
+pub fn pv_cash_flows(
+    times: &[f64],
+    amounts: &[f64],
+    tenors: &[f64],
+    rates: &[f64],
+    spread: BasisPoints,
+) -> Number
+    ensures { λ r. ⌜ numberOutcome r ≡ pvCashFlows (now (times .entry)) (now (amounts .entry)) (now (tenors .entry)) (now (rates .entry)) (spread .0) ⌝ }
+{
+    match judge_spread(times, amounts, tenors, rates, false) {
+        Verdict::Refused(refusal) => Number::Refused(refusal),
+        Verdict::Accepted => Number::Given(worth_of(times, amounts, tenors, rates, spread)),
+    }
+}
+
+// The error of a spread: its worth less the market's.
+fn miss(
+    times: &[f64],
+    amounts: &[f64],
+    kept: &[f64],
+    room: &mut [f64],
+    market: f64,
+    spread: BasisPoints,
+) -> f64
+    requires { ⌜ (length (now times) ≡ length (now amounts)) × (length (now times) ≤ length (now kept)) × (length (now times) ≤ length (now room)) ⌝ }
+    ensures { λ r. ⌜ ((tenors rates : List Float) → ((i : ℕ) → i < length (now (times .entry)) → knot (now (kept .entry)) i ≡ rateOf tenors rates (knot (now (times .entry)) i))
+        → r ≡ miss (now (times .entry)) (now (amounts .entry)) tenors rates market (spread .0)) ⌝ }
+{
+    worth_at(times, amounts, kept, room, spread) - market
+}
+
+// The spread between the ends, by at most 100 halvings; the error at the lower end is kept.
+fn halved(
+    times: &[f64],
+    amounts: &[f64],
+    kept: &[f64],
+    room: &mut [f64],
+    market: f64,
+    low: f64,
+) -> BasisPoints
+    requires { ⌜ (length (now times) ≡ length (now amounts)) × (length (now times) ≤ length (now kept)) × (length (now times) ≤ length (now room)) ⌝ }
+    ensures { λ r. ⌜ ((tenors rates : List Float) → ((i : ℕ) → i < length (now (times .entry)) → knot (now (kept .entry)) i ≡ rateOf tenors rates (knot (now (times .entry)) i))
+        → low ≡ miss (now (times .entry)) (now (amounts .entry)) tenors rates market lowest
+        → r .0 ≡ halved (now (times .entry)) (now (amounts .entry)) tenors rates market 100 lowest highest) ⌝ }
+{
+    let mut lo = LOWEST;
+    let mut hi = HIGHEST;
+    let mut below = low;
+    let mut left: u32 = 100;
+    while left > 0 {
+        let middle = (lo + hi) / 2.0;
+        if absolute_value(hi - lo) < 1e-8 {
+            return BasisPoints(middle);
+        }
+        let error = miss(times, amounts, kept, room, market, BasisPoints(middle));
+        if below * error <= 0.0 {
+            hi = middle;
+        } else {
+            lo = middle;
+            below = error;
+        }
+        left -= 1;
+    }
+    BasisPoints((lo + hi) / 2.0)
+}
+
+// The end with the smaller error.
+fn nearer_end(low: f64, high: f64) -> BasisPoints
+    ensures { λ r. ⌜ r .0 ≡ cond (lt (absolute low) (absolute high)) lowest highest ⌝ }
+{
+    if absolute_value(low) < absolute_value(high) {
+        BasisPoints(LOWEST)
+    } else {
+        BasisPoints(HIGHEST)
+    }
+}
+
+// The spread, whatever the flows and the curve are: where the end errors are on one side, the end nearer zero.
+fn spread_of(
+    times: &[f64],
+    amounts: &[f64],
+    tenors: &[f64],
+    rates: &[f64],
+    market: f64,
+) -> SpreadAnswer
+    requires { ⌜ (length (now times) ≡ length (now amounts)) × (length (now times) ≤ 1200) ⌝ }
+    ensures { λ r. ⌜ spreadOutcome r ≡ accepted (spreadOf (now (times .entry)) (now (amounts .entry)) (now (tenors .entry)) (now (rates .entry)) market) ⌝ }
+{
+    let mut kept = [0.0; 1200];
+    let mut room = [0.0; 1200];
+    keep_rates(times, tenors, rates, &mut kept);
+    let low = miss(
+        times,
+        amounts,
+        &kept,
+        &mut room,
+        market,
+        BasisPoints(LOWEST),
+    );
+    let high = miss(
+        times,
+        amounts,
+        &kept,
+        &mut room,
+        market,
+        BasisPoints(HIGHEST),
+    );
+    if low * high > 0.0 {
+        return SpreadAnswer::NoSignChange(nearer_end(low, high));
+    }
+    SpreadAnswer::Found(halved(times, amounts, &kept, &mut room, market, low))
+}
+
+// The spread at which the flows are worth the market price.
+pub fn z_spread(
+    times: &[f64],
+    amounts: &[f64],
+    tenors: &[f64],
+    rates: &[f64],
+    market: f64,
+) -> SpreadAnswer
+    ensures { λ r. ⌜ spreadOutcome r ≡ zSpread (now (times .entry)) (now (amounts .entry)) (now (tenors .entry)) (now (rates .entry)) market ⌝ }
+{
+    match judge_spread(times, amounts, tenors, rates, refusals::bad_number(market)) {
+        Verdict::Refused(refusal) => SpreadAnswer::Refused(refusal),
+        Verdict::Accepted => spread_of(times, amounts, tenors, rates, market),
+    }
+}
+
+// Duration and convexity, whatever the flows and the curve are: 0 where the flows are worth next to nothing.
+fn sensitivity_of(
+    times: &[f64],
+    amounts: &[f64],
+    tenors: &[f64],
+    rates: &[f64],
+    spread: BasisPoints,
+) -> Sensitivity
+    requires { ⌜ (length (now times) ≡ length (now amounts)) × (length (now times) ≤ 1200) ⌝ }
+    ensures { λ r. ⌜ r ≡ sensitivityOf (now (times .entry)) (now (amounts .entry)) (now (tenors .entry)) (now (rates .entry)) (spread .0) ⌝ }
+{
+    let mut kept = [0.0; 1200];
+    let mut factors = [0.0; 1200];
+    keep_rates(times, tenors, rates, &mut kept);
+    put_factors(times, &kept, to_decimal(spread), &mut factors);
+    let sums = sums_of(times, amounts, &factors);
+    if absolute_value(sums.worth) < 1e-12 {
+        return Sensitivity {
+            duration: 0.0,
+            convexity: 0.0,
+        };
+    }
+    Sensitivity {
+        duration: sums.timed / sums.worth,
+        convexity: sums.squared / sums.worth,
+    }
+}
+
+pub fn duration_convexity(
+    times: &[f64],
+    amounts: &[f64],
+    tenors: &[f64],
+    rates: &[f64],
+    spread: BasisPoints,
+) -> SensitivityAnswer
+    ensures { λ r. ⌜ sensitivityOutcome r ≡ durationConvexity (now (times .entry)) (now (amounts .entry)) (now (tenors .entry)) (now (rates .entry)) (spread .0) ⌝ }
+{
+    match judge_spread(times, amounts, tenors, rates, false) {
+        Verdict::Refused(refusal) => SensitivityAnswer::Refused(refusal),
+        Verdict::Accepted => SensitivityAnswer::Given(sensitivity_of(
+            times,
+            amounts,
+            tenors,
+            rates,
+            spread,
+        )),
+    }
 }

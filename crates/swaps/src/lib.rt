@@ -1,5 +1,13 @@
 // Swaps: day counts, the discount curve and its bootstrap, legs and values.
+pub mod bootstrap;
 pub mod day_counts;
+pub mod discount;
+mod judging;
+pub mod knots;
+pub mod legs;
+mod periods;
+mod rooms;
+mod trials;
 pub mod valuation;
 
 // A fixed-for-floating swap.

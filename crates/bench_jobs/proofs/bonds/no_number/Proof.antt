@@ -1,0 +1,12 @@
+-- `bench_jobs::bonds::no_number` meets its contract. Assumes nothing.
+use mathlib.Core.Path.{refl}
+use lib.Ieee.{div, ofBits}
+use Rattle.bench_jobs.proofs.bonds.no_number.Statement.{statement}
+use Rattle.bench_jobs.proofs.bonds.no_number.Tie as tie
+
+returns : tie.Need-returns
+unfolding div ofBits
+returns c = refl
+
+pub no-number-spec : {M : Type 1} → statement M
+no-number-spec = tie.close (tie.spec returns)

@@ -1,0 +1,9 @@
+pub mod LinesInParts
+pub mod Columns
+pub mod BondFlows
+pub mod ItemLine
+pub mod SpreadVerdict
+pub mod KeptRates
+pub mod Halvings
+pub mod Tight
+pub mod Exactly

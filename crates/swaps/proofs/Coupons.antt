@@ -1,0 +1,68 @@
+-- The coupons of a par swap: a date, one coupon, and that the sum of the settled ones is the same whatever rate is tried. Assumes nothing.
+use mathlib.Core.Path.{_≡_, refl, sym, ap, _∙_}
+use mathlib.Core.Bool.{Bool, true, false, cond}
+use mathlib.Core.List.{List}
+use Prim.Native.Nat.{ℕ, zero, suc, _+_, _-_, _<_}
+use native.Mathlib.Nat.{le-refl}
+use native.Mathlib.Numerals.{add-one}
+use native.Mathlib.Omega.{arith}
+use lib.IntN.{pos}
+use lib.ListN.{length}
+use lib.Ieee.{Float, binary64, sub, mul, lt, le, ofInt}
+use Rattle.numbers.specs.Clamps.{lowered}
+use Rattle.numbers.specs.Sums.{addedUp}
+use Rattle.yield_curve.specs.Segments.{knot, lastOf}
+use Rattle.swaps.specs.Discount.{discountOf}
+use Rattle.swaps.specs.Bootstrap.{date, couponAt}
+use Rattle.swaps.proofs.TriedRates.{withRate, same-discount}
+
+pub later-date : (T : Float) (k : ℕ) → (k ≡ 0 → ⊥) → lowered (ofInt binary64 (pos k)) T ≡ date T k
+unfolding date
+later-date T zero h = absurd (h refl)
+later-date T (suc k) h = refl
+
+module _ (tenors zeros : List Float) (T c : Float) (k : ℕ) where
+  abbrev whole : Float
+  whole = ofInt binary64 (pos (k + 1))
+
+  date-is : (b : Bool) → lt whole T ≡ b → date T (suc k) ≡ cond b whole T
+  unfolding date
+  date-is b e = rw (sym (add-one k), e)
+
+  coupon-is : (b : Bool) → lt whole T ≡ b → (before factor : Float) → before ≡ date T k → factor ≡ discountOf tenors zeros (cond b whole T)
+      → mul binary64 (mul binary64 c (sub binary64 (cond b whole T) before)) factor ≡ couponAt tenors zeros T c k
+  unfolding couponAt
+  coupon-is b e before factor is-before is-factor = rw (date-is b e, is-before, is-factor)
+
+  pub coupon-before : (before factor : Float) → lt whole T ≡ true → before ≡ date T k → factor ≡ discountOf tenors zeros whole
+      → mul binary64 (mul binary64 c (sub binary64 whole before)) factor ≡ couponAt tenors zeros T c k
+  coupon-before before factor e b f = coupon-is true e before factor b f
+
+  pub coupon-at-tenor : (before last : Float) → lt whole T ≡ false → before ≡ date T k → last ≡ discountOf tenors zeros T
+      → mul binary64 (mul binary64 c (sub binary64 T before)) last ≡ couponAt tenors zeros T c k
+  coupon-at-tenor before last e b f = coupon-is false e before last b f
+
+same-added : (f g : ℕ → Float) (n : ℕ) → ((k : ℕ) → k < n → f k ≡ g k) → addedUp f n ≡ addedUp g n
+unfolding addedUp
+same-added f g zero same = refl
+same-added f g (suc n) same = rw (same-added f g n (λ k h. same k (omega arith)), same n (le-refl (suc n)))
+
+-- a date that is passed is settled
+pub settled-here : (T previous next : Float) (k : ℕ) → next ≡ date T (k + 1) → le next previous ≡ true → le T next ≡ false
+    → (le (date T (suc k)) previous ≡ true) × (le T (date T (suc k)) ≡ false)
+settled-here T previous next k e before inside = rw (sym (add-one k), sym e) (before, inside)
+
+-- the first n dates are at or before the knot before, and before the tenor
+module _ (tenors earlier : List Float) (T c : Float) (n : ℕ) (same : length tenors ≡ length earlier + 1) (last : T ≡ lastOf tenors) where
+  abbrev pub SettledTo : Type 0
+  SettledTo = (k : ℕ) → k < n → (1 < length tenors) × (le (date T (suc k)) (knot tenors (length tenors - 2)) ≡ true) × (le T (date T (suc k)) ≡ false)
+
+  module _ (settled : SettledTo) (r s : Float) where
+    same-coupon : (k : ℕ) → k < n → couponAt tenors (withRate earlier r) T c k ≡ couponAt tenors (withRate earlier s) T c k
+    unfolding couponAt
+    same-coupon k h =
+        let f = settled k h in
+        rw (same-discount tenors earlier (date T (suc k)) same (f .0) (f .1) (ap (λ (x : Float). le x (date T (suc k))) (sym last) ∙ f .2) r s)
+
+    pub settled-sum : addedUp (couponAt tenors (withRate earlier r) T c) n ≡ addedUp (couponAt tenors (withRate earlier s) T c) n
+    settled-sum = same-added _ _ n same-coupon

@@ -1,0 +1,62 @@
+-- Every entry point refuses by the table's rule: number k at place p is given exactly when that is the lowest line with a cause and its first place. Assumes nothing.
+use mathlib.Core.Bool.{Bool}
+use mathlib.Core.List.{List, [], _∷_}
+use Prim.Native.Nat.{ℕ}
+use lib.Ieee.{Float}
+use Rattle.refusals.specs.Outcome.{line, ExactlyWhen, above}
+use Rattle.refusals.proofs.Judging.{exactly}
+use Rattle.yield_curve.specs.Curve.{askedLines}
+use Rattle.swaps.specs.declared.Swap.{Swap}
+use Rattle.swaps.specs.Codes.{badCode, dayCountOf}
+use Rattle.swaps.specs.Discount.{rateAt, discountFactor}
+use Rattle.swaps.specs.Bootstrap.{parLines, fromParRates}
+use Rattle.swaps.specs.Swap.{swapLines}
+use Rattle.swaps.specs.Valuation.{fixedLegPv, floatingLegPv, swapNpv, parSwapRate, swapDv01, swapDuration, valueSwap}
+
+pub code-refused-exactly : (code : ℕ) → ExactlyWhen (line 11 (badCode code) ∷ []) (dayCountOf code)
+unfolding dayCountOf above
+code-refused-exactly code = exactly _ (line 11 (badCode code) ∷ []) tt
+
+module _ (tenors zeros : List Float) where
+  pub rate-refused-exactly : (t : Float) → ExactlyWhen (askedLines tenors zeros t) (rateAt tenors zeros t)
+  unfolding rateAt above
+  rate-refused-exactly t = exactly _ (askedLines tenors zeros t) tt
+
+  pub discount-refused-exactly : (t : Float) → ExactlyWhen (askedLines tenors zeros t) (discountFactor tenors zeros t)
+  unfolding discountFactor above
+  discount-refused-exactly t = exactly _ (askedLines tenors zeros t) tt
+
+-- the verdict of a bootstrap, and its zero rates
+pub bootstrap-refused-exactly : (tenors pars : List Float) → ExactlyWhen (parLines tenors pars) (fromParRates tenors pars)
+unfolding fromParRates above
+bootstrap-refused-exactly tenors pars = exactly _ (parLines tenors pars) tt
+
+module _ (s : Swap) (tenors zeros : List Float) where
+  pub fixed-leg-refused-exactly : ExactlyWhen (swapLines s tenors zeros) (fixedLegPv s tenors zeros)
+  unfolding fixedLegPv above
+  fixed-leg-refused-exactly = exactly _ (swapLines s tenors zeros) tt
+
+  pub floating-leg-refused-exactly : ExactlyWhen (swapLines s tenors zeros) (floatingLegPv s tenors zeros)
+  unfolding floatingLegPv above
+  floating-leg-refused-exactly = exactly _ (swapLines s tenors zeros) tt
+
+  pub par-rate-refused-exactly : ExactlyWhen (swapLines s tenors zeros) (parSwapRate s tenors zeros)
+  unfolding parSwapRate above
+  par-rate-refused-exactly = exactly _ (swapLines s tenors zeros) tt
+
+  pub duration-refused-exactly : ExactlyWhen (swapLines s tenors zeros) (swapDuration s tenors zeros)
+  unfolding swapDuration above
+  duration-refused-exactly = exactly _ (swapLines s tenors zeros) tt
+
+  module _ (receivesFixed : Bool) where
+    pub npv-refused-exactly : ExactlyWhen (swapLines s tenors zeros) (swapNpv s tenors zeros receivesFixed)
+    unfolding swapNpv above
+    npv-refused-exactly = exactly _ (swapLines s tenors zeros) tt
+
+    pub dv01-refused-exactly : ExactlyWhen (swapLines s tenors zeros) (swapDv01 s tenors zeros receivesFixed)
+    unfolding swapDv01 above
+    dv01-refused-exactly = exactly _ (swapLines s tenors zeros) tt
+
+    pub value-refused-exactly : ExactlyWhen (swapLines s tenors zeros) (valueSwap s tenors zeros receivesFixed)
+    unfolding valueSwap above
+    value-refused-exactly = exactly _ (swapLines s tenors zeros) tt

@@ -1,0 +1,13 @@
+pub mod LaterLines
+pub mod PaymentSums
+pub mod Writing
+pub mod Values
+pub mod Fronts
+pub mod TriedRates
+pub mod Coupons
+pub mod ParLines
+pub mod Bisecting
+pub mod SolvedKnots
+pub mod CodeTrips
+pub mod Exactly
+pub mod Tight

@@ -1,0 +1,23 @@
+-- `swaps::trials::discount_with` meets its contract: 1 at or before time 0. Assumes nothing.
+use mathlib.Core.Path.{_∙_}
+use Rattle.swaps.specs.Discount.{discountOf}
+use borrow.Author.Needs.{needs}
+use Rattle.swaps.proofs.trials.discount_with.Statement.{statement}
+use Rattle.swaps.proofs.trials.discount_with.Tie as tie
+
+returns : tie.Need-returns
+unfolding discountOf
+returns c = rw (c .if1 .taken)
+
+zero-rate-with-requires : tie.Need-zero-rate-with-requires
+zero-rate-with-requires c κs = search needs
+
+exp-requires : tie.Need-exp-requires
+exp-requires c κs = search needs
+
+returns-2 : tie.Need-returns-2
+unfolding discountOf
+returns-2 c = c .exp .ensures ∙ rw (c .before .zero-rate-with .ensures, c .before .before .if1 .left)
+
+pub discount-with-spec : {M : Type 1} → statement M
+discount-with-spec = tie.close (tie.spec returns zero-rate-with-requires exp-requires returns-2)

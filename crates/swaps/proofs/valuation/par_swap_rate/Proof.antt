@@ -1,0 +1,47 @@
+-- `swaps::valuation::par_swap_rate` meets its contract: the verdict on the swap and the curve is its answer's. Assumes nothing.
+use mathlib.Core.Path.{ap, _∙_}
+use Rattle.refusals.specs.Outcome.{accepted}
+use Rattle.refusals.proofs.Verdicts.{refused-by, accepted-by}
+use Rattle.swaps.specs.Valuation.{parSwapRate}
+use Rattle.swaps.proofs.Values.{par-is}
+use borrow.Author.Needs.{needs}
+use Rattle.swaps.proofs.valuation.par_swap_rate.Statement.{statement}
+use Rattle.swaps.proofs.valuation.par_swap_rate.Tie as tie
+
+judge-swap-requires : tie.Need-judge-swap-requires
+judge-swap-requires c κs = search needs
+
+enum-known-refusal : tie.Need-enum-known-refusal
+enum-known-refusal c = search needs
+
+enum-told : tie.Need-enum-told
+enum-told c = search needs
+
+legs-of-requires : tie.Need-legs-of-requires
+legs-of-requires c κs = search needs
+
+par-of-requires : tie.Need-par-of-requires
+par-of-requires c κs = search needs
+
+returns : tie.Need-returns
+unfolding parSwapRate
+returns c = refused-by _ _ _ _ (c .before .refusal .given .1) (c .before .before .before .judge-swap .ensures)
+
+returns-2 : tie.Need-returns-2
+unfolding parSwapRate
+returns-2 c =
+    let told = c .before .before in
+    ap accepted (c .par-of .ensures ∙ par-is _ _ _ (c .before .legs-of .ensures .4) (c .before .legs-of .ensures .2))
+    ∙ accepted-by _ _ _ (told .enum-told .given .1) (told .before .before .judge-swap .ensures)
+
+pub par-swap-rate-spec : {M : Type 1} → statement M
+par-swap-rate-spec =
+    tie.close
+    (tie.spec
+    judge-swap-requires
+    enum-known-refusal
+    enum-told
+    legs-of-requires
+    par-of-requires
+    returns
+    returns-2)

@@ -1,0 +1,61 @@
+// What every function over a swap and a curve asks first.
+ghost use mathlib.Core.Path.{_≡_};
+ghost use mathlib.Core.Bool.{_||_};
+ghost use mathlib.Core.List.{[], _∷_};
+ghost use Rattle.refusals.specs.Outcome.{line, judged};
+ghost use Rattle.refusals.specs.Answers.{verdictOutcome};
+ghost use Rattle.refusals.specs.Table.{badTime, tooManyPeriods, badFrequency, badNumber};
+ghost use Rattle.swaps.specs.Swap.{payments, swapLines};
+use crate::Swap;
+use crate::periods::payments;
+use refusals::Verdict;
+use refusals::refuse;
+
+// Line 7: a tenor that is not finite, or gives more than 1,200 payments.
+fn bad_tenor(swap: Swap) -> bool
+    ensures { λ r. ⌜ r ≡ (badTime (swap .tenor) || tooManyPeriods (payments swap)) ⌝ }
+{
+    if yield_curve::curve::bad_time(swap.tenor) {
+        return true;
+    }
+    payments(swap) > 1200
+}
+
+// Line 8: a frequency of 0 or above 365.
+fn bad_frequency(frequency: u32) -> bool
+    ensures { λ r. ⌜ r ≡ badFrequency frequency ⌝ }
+{
+    if frequency == 0 {
+        return true;
+    }
+    frequency > 365
+}
+
+// Lines 7, 8 and 9, of a swap alone.
+fn judge_terms(swap: Swap) -> Verdict
+    ensures { λ r. ⌜ verdictOutcome r ≡ judged (line 7 (badTime (swap .tenor) || tooManyPeriods (payments swap)) ∷ line 8 (badFrequency (swap .frequency)) ∷ line 9 (badNumber (swap .«fixed_rate»)) ∷ []) tt ⌝ }
+{
+    if bad_tenor(swap) {
+        return Verdict::Refused(refuse(7));
+    }
+    if bad_frequency(swap.frequency) {
+        return Verdict::Refused(refuse(8));
+    }
+    if refusals::bad_number(swap.fixed_rate) {
+        return Verdict::Refused(refuse(9));
+    }
+    Verdict::Accepted
+}
+
+// Line 1 of the notional, lines 4, 5 and 6 of the curve, and then those of the swap's terms.
+pub(crate) fn judge_swap(swap: Swap, tenors: &[f64], zeros: &[f64]) -> Verdict
+    ensures { λ r. ⌜ verdictOutcome r ≡ judged (swapLines swap (now (tenors .entry)) (now (zeros .entry))) tt ⌝ }
+{
+    if refusals::bad_amount(swap.notional) {
+        return Verdict::Refused(refuse(1));
+    }
+    match yield_curve::curve::judge_curve(tenors, zeros) {
+        Verdict::Refused(refusal) => Verdict::Refused(refusal),
+        Verdict::Accepted => judge_terms(swap),
+    }
+}
