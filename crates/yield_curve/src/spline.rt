@@ -21,13 +21,13 @@ use refusals::Number;
 use refusals::Verdict;
 
 // mu and z of one knot.
-pub struct Forward {
+pub struct Swept {
     pub mu: f64,
     pub z: f64,
 }
 
 // mu and z of every knot but the last.
-pub struct Forwards {
+pub struct SweptKnots {
     pub mu: [f64; 120],
     pub z: [f64; 120],
 }
@@ -66,51 +66,51 @@ fn guarded(x: f64) -> f64
     if absolute_value(x) < 1e-15 { 1e-15 } else { x }
 }
 
-// mu and z of the knot after i, by those of i.
-fn next_forward(times: &[f64], rates: &[f64], i: usize, f: Forward) -> Forward
-    requires { ⌜ (i < 120) × (f .mu ≡ mu (now times) (now rates) i) × (f .z ≡ z (now times) (now rates) i) ⌝ }
+// The sweep up: mu and z of the knot after i, by those of i.
+fn sweep_next(times: &[f64], rates: &[f64], i: usize, s: Swept) -> Swept
+    requires { ⌜ (i < 120) × (s .mu ≡ mu (now times) (now rates) i) × (s .z ≡ z (now times) (now rates) i) ⌝ }
     ensures { λ r. ⌜ (r .mu ≡ mu (now (times .entry)) (now (rates .entry)) (suc i)) × (r .z ≡ z (now (times .entry)) (now (rates .entry)) (suc i)) ⌝ }
 {
     let h = rise(times, i);
-    let p = guarded(2.0 * (knot_after(times, i + 1) - knot_at(times, i)) - h * f.mu);
-    Forward {
+    let p = guarded(2.0 * (knot_after(times, i + 1) - knot_at(times, i)) - h * s.mu);
+    Swept {
         mu: rise(times, i + 1) / p,
-        z: (bend(times, rates, i) - h * f.z) / p,
+        z: (bend(times, rates, i) - h * s.z) / p,
     }
 }
 
-// Up from the first knot, where both are 0.
-fn all_forwards(times: &[f64], rates: &[f64]) -> Forwards
+// The whole sweep, from the first knot, where both are 0.
+fn sweep_up(times: &[f64], rates: &[f64]) -> SweptKnots
     requires { ⌜ length (now times) ≤ 120 ⌝ }
-    ensures { λ r. ⌜ ((i : ℕ) → suc i < length (now (times .entry)) → getD (r .mu) i nan ≡ mu (now (times .entry)) (now (rates .entry)) i) × ((i : ℕ) → suc i < length (now (times .entry)) → getD (r .z) i nan ≡ z (now (times .entry)) (now (rates .entry)) i) ⌝ }
+    ensures { λ r. ⌜ ((i : ℕ) → suc i < length (now (times .entry)) → (getD (r .mu) i nan ≡ mu (now (times .entry)) (now (rates .entry)) i) × (getD (r .z) i nan ≡ z (now (times .entry)) (now (rates .entry)) i)) ⌝ }
 {
     let mut mus = [0.0; 120];
     let mut zs = [0.0; 120];
-    let mut f = Forward { mu: 0.0, z: 0.0 };
+    let mut s = Swept { mu: 0.0, z: 0.0 };
     let mut i: usize = 0;
     while i + 2 < times.len() {
-        f = next_forward(times, rates, i, f);
+        s = sweep_next(times, rates, i, s);
         i += 1;
-        mus[i] = f.mu;
-        zs[i] = f.z;
+        mus[i] = s.mu;
+        zs[i] = s.z;
     }
-    Forwards { mu: mus, z: zs }
+    SweptKnots { mu: mus, z: zs }
 }
 
-// Down from the last knot, where c is 0.
+// The way down: c from the last knot, where it is 0, to the two ends of the segment i.
 fn bends_on(times: &[f64], rates: &[f64], i: usize) -> Bends
     requires { ⌜ (suc i < length (now times)) × (length (now times) ≤ 120) ⌝ }
     ensures { λ r. ⌜ (r .here ≡ cAt (now (times .entry)) (now (rates .entry)) i) × (r .next ≡ cAt (now (times .entry)) (now (rates .entry)) (suc i)) ⌝ }
 {
-    let f = all_forwards(times, rates);
+    let s = sweep_up(times, rates);
     let mut c = 0.0;
     let mut k = times.len() - 1;
     while k > i + 1 {
         k -= 1;
-        c = f.z[k] - f.mu[k] * c;
+        c = s.z[k] - s.mu[k] * c;
     }
     Bends {
-        here: f.z[i] - f.mu[i] * c,
+        here: s.z[i] - s.mu[i] * c,
         next: c,
     }
 }

@@ -9,13 +9,13 @@ use Rattle.yield_curve.proofs.spline.bends_on.Statement.{statement}
 use Rattle.yield_curve.proofs.spline.bends_on.Tie as tie
 
 abbrev Inv-loop : tie.InvT-loop
-Inv-loop times rates i f c₀ k₀ c k = (suc i ≤ k) × (k < length times) × (c ≡ cAt times rates k)
+Inv-loop times rates i s c₀ k₀ c k = (suc i ≤ k) × (k < length times) × (c ≡ cAt times rates k)
 
 abbrev μ-loop : tie.MeasureT-loop
-μ-loop times rates i f c₀ k₀ c k = k
+μ-loop times rates i s c₀ k₀ c k = k
 
-all-forwards-requires : tie.Need-all-forwards-requires Inv-loop μ-loop
-all-forwards-requires c κs = omega arith
+sweep-up-requires : tie.Need-sweep-up-requires Inv-loop μ-loop
+sweep-up-requires c κs = omega arith
 
 sub-k : tie.Need-sub-k Inv-loop μ-loop
 sub-k c = omega arith
@@ -48,14 +48,14 @@ loop-again : tie.Need-loop-again Inv-loop μ-loop
 loop-again c =
     let turn = c .before .before in
     let head = turn .before in
-    let f = head .before .all-forwards .ensures in
     let a = head .before .before .before .before .args in
     let k = head .loop .k in
     let e : k ≡ suc (k - 1) = omega arith in
-    let h : suc (k - 1) < length (a .times .now) = omega arith in (
+    let h : suc (k - 1) < length (a .times .now) = omega arith in
+    let swept = head .before .sweep-up .ensures _ h in (
       omega arith,
       omega arith,
-      down (a .times .now) (a .rates .now) (k - 1) _ _ _ h (f .1 _ h) (f .0 _ h) (head .loop .inv .2 ∙ ap (cAt (a .times .now) (a .rates .now)) e),
+      down (a .times .now) (a .rates .now) (k - 1) _ _ _ h (swept .1) (swept .0) (head .loop .inv .2 ∙ ap (cAt (a .times .now) (a .rates .now)) e),
     )
 
 mul-t8 : tie.Need-mul-t8 Inv-loop μ-loop
@@ -74,12 +74,12 @@ returns : tie.Need-returns Inv-loop μ-loop
 returns c =
     let end = c .before .before in
     let head = end .before in
-    let f = head .before .all-forwards .ensures in
     let a = head .before .before .before .before .args in
     let e : head .loop .k ≡ suc (a .i) = omega arith in
     let h : suc (a .i) < length (a .times .now) = omega arith in
+    let swept = head .before .sweep-up .ensures _ h in
     let next = head .loop .inv .2 ∙ ap (cAt (a .times .now) (a .rates .now)) e in
-    (down (a .times .now) (a .rates .now) (a .i) _ _ _ h (f .1 _ h) (f .0 _ h) next, next)
+    (down (a .times .now) (a .rates .now) (a .i) _ _ _ h (swept .1) (swept .0) next, next)
 
 pub bends-on-spec : {M : Type 1} → statement M
 bends-on-spec =
@@ -87,7 +87,7 @@ bends-on-spec =
     (tie.spec
     Inv-loop
     μ-loop
-    all-forwards-requires
+    sweep-up-requires
     sub-k
     loop-holds
     add-loop

@@ -1,8 +1,8 @@
--- `yield_curve::spline::next_forward` meets its contract. Assumes nothing.
+-- `yield_curve::spline::sweep_next` meets its contract. Assumes nothing.
 use Rattle.yield_curve.proofs.Splines.{mu-next, z-next}
 use borrow.Author.Needs.{needs}
-use Rattle.yield_curve.proofs.spline.next_forward.Statement.{statement}
-use Rattle.yield_curve.proofs.spline.next_forward.Tie as tie
+use Rattle.yield_curve.proofs.spline.sweep_next.Statement.{statement}
+use Rattle.yield_curve.proofs.spline.sweep_next.Tie as tie
 
 rise-requires : tie.Need-rise-requires
 rise-requires c κs = search needs
@@ -41,8 +41,8 @@ returns c =
       z-next (a .times .now) (a .rates .now) (a .i) _ _ _ (h .rise .ensures) (far .knot-after .ensures) (near .knot-at .ensures) _ _ (p .guarded .ensures) (start .pre .1) _ (start .pre .2) _ (c .before .bend .ensures),
     )
 
-pub next-forward-spec : {M : Type 1} → statement M
-next-forward-spec =
+pub sweep-next-spec : {M : Type 1} → statement M
+sweep-next-spec =
     tie.close
     (tie.spec
     rise-requires
