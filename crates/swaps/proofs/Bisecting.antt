@@ -1,7 +1,7 @@
 -- A bisection, for any error: what a halving leaves, and the loop of them; and the errors of a knot's trials. Assumes nothing.
 use mathlib.Core.Path.{_≡_, refl, sym, ap, _∙_}
 use mathlib.Core.Bool.{Bool, true, false, cond}
-use mathlib.Core.List.{List, [], _∷_, _++_}
+use mathlib.Core.List.{List}
 use Prim.Native.Nat.{ℕ, zero, suc, _-_, _<_}
 use native.Mathlib.Omega.{arith}
 use lib.Ieee.{Float, binary64, neg, add, sub, lt, ofBits}
@@ -9,6 +9,7 @@ use Rattle.numbers.specs.Clamps.{plusZero}
 use Rattle.numbers.specs.Sums.{addedUp}
 use Rattle.elementary.specs.WholePower.{one}
 use Rattle.yield_curve.proofs.Choices.{by-first, by-second}
+use Rattle.swaps.specs.Knots.{withRate}
 use Rattle.swaps.specs.Discount.{discountOf}
 use Rattle.swaps.specs.Bootstrap.{lowest, highest, narrow, dates, couponAt, parError, middle, lowerEnd, upperEnd, halved, noChange, solvedOr}
 
@@ -67,20 +68,20 @@ module _ (error : Float → Float) where
 
 -- ---- a trial's own numbers, T′, c′ and r′, are the knot's and the rate in hand
 module _ (tenors earlier : List Float) {T c r T′ c′ r′ : Float} (is-T : T′ ≡ T) (is-c : c′ ≡ c) (is-r : r′ ≡ r) where
-  pub last-is : {last : Float} → last ≡ discountOf tenors (earlier ++ r ∷ []) T → last ≡ discountOf tenors (earlier ++ r′ ∷ []) T′
+  pub last-is : {last : Float} → last ≡ discountOf tenors (withRate earlier r) T → last ≡ discountOf tenors (withRate earlier r′) T′
   last-is e = rw (is-T, is-r) e
 
-  pub sum-is : {sum : Float} (n : ℕ) → sum ≡ addedUp (couponAt tenors (earlier ++ r′ ∷ []) T c) n → sum ≡ addedUp (couponAt tenors (earlier ++ r′ ∷ []) T′ c′) n
+  pub sum-is : {sum : Float} (n : ℕ) → sum ≡ addedUp (couponAt tenors (withRate earlier r′) T c) n → sum ≡ addedUp (couponAt tenors (withRate earlier r′) T′ c′) n
   sum-is n e = rw (is-T, is-c) e
 
-  pub sum-was : {sum : Float} (n : ℕ) → sum ≡ addedUp (couponAt tenors (earlier ++ r′ ∷ []) T′ c′) n → sum ≡ addedUp (couponAt tenors (earlier ++ r′ ∷ []) T c) n
+  pub sum-was : {sum : Float} (n : ℕ) → sum ≡ addedUp (couponAt tenors (withRate earlier r′) T′ c′) n → sum ≡ addedUp (couponAt tenors (withRate earlier r′) T c) n
   sum-was n e = e ∙ rw (is-T, is-c)
 
-  pub error-is : {total last : Float} (n : ℕ) → n ≡ dates T → total ≡ addedUp (couponAt tenors (earlier ++ r′ ∷ []) T′ c′) n
-      → last ≡ discountOf tenors (earlier ++ r ∷ []) T → sub binary64 (add binary64 total last) one ≡ parError tenors (earlier ++ r ∷ []) T c
+  pub error-is : {total last : Float} (n : ℕ) → n ≡ dates T → total ≡ addedUp (couponAt tenors (withRate earlier r′) T′ c′) n
+      → last ≡ discountOf tenors (withRate earlier r) T → sub binary64 (add binary64 total last) one ≡ parError tenors (withRate earlier r) T c
   unfolding parError
   error-is n is-n t l = rw (t, l, is-T, is-c, is-r, is-n)
 
 pub solved-at : (tenors earlier : List Float) (other : Float) {T c T′ c′ : Float} → T′ ≡ T → c′ ≡ c
-    → solvedOr (λ (x : Float). parError tenors (earlier ++ x ∷ []) T′ c′) other ≡ solvedOr (λ (x : Float). parError tenors (earlier ++ x ∷ []) T c) other
+    → solvedOr (λ (x : Float). parError tenors (withRate earlier x) T′ c′) other ≡ solvedOr (λ (x : Float). parError tenors (withRate earlier x) T c) other
 solved-at tenors earlier other is-T is-c = rw (is-T, is-c)

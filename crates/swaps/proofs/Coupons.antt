@@ -14,7 +14,8 @@ use Rattle.numbers.specs.Sums.{addedUp}
 use Rattle.yield_curve.specs.Segments.{knot, lastOf}
 use Rattle.swaps.specs.Discount.{discountOf}
 use Rattle.swaps.specs.Bootstrap.{date, couponAt}
-use Rattle.swaps.proofs.TriedRates.{withRate, same-discount}
+use Rattle.swaps.specs.Knots.{withRate, SettledTo}
+use Rattle.swaps.proofs.TriedRates.{same-discount}
 
 pub later-date : (T : Float) (k : ℕ) → (k ≡ 0 → ⊥) → lowered (ofInt binary64 (pos k)) T ≡ date T k
 unfolding date
@@ -52,17 +53,20 @@ pub settled-here : (T previous next : Float) (k : ℕ) → next ≡ date T (k + 
     → (le (date T (suc k)) previous ≡ true) × (le T (date T (suc k)) ≡ false)
 settled-here T previous next k e before inside = rw (sym (add-one k), sym e) (before, inside)
 
--- the first n dates are at or before the knot before, and before the tenor
-module _ (tenors earlier : List Float) (T c : Float) (n : ℕ) (same : length tenors ≡ length earlier + 1) (last : T ≡ lastOf tenors) where
-  abbrev pub SettledTo : Type 0
-  SettledTo = (k : ℕ) → k < n → (1 < length tenors) × (le (date T (suc k)) (knot tenors (length tenors - 2)) ≡ true) × (le T (date T (suc k)) ≡ false)
+-- where a date is settled there is a knot before
+some-before : (count n k : ℕ) → (count < 2 → n ≡ 0) → k < n → 1 < count
+some-before zero n k h less = let e = h (omega arith) in absurd (omega arith)
+some-before (suc zero) n k h less = let e = h (omega arith) in absurd (omega arith)
+some-before (suc (suc count)) n k h less = omega arith
 
-  module _ (settled : SettledTo) (r s : Float) where
+module _ (tenors earlier : List Float) (T c : Float) (n : ℕ) (same : length tenors ≡ length earlier + 1) (last : T ≡ lastOf tenors) where
+  module _ (settled : SettledTo T (knot tenors (length tenors - 2)) n) (none : length tenors < 2 → n ≡ 0) (r s : Float) where
     same-coupon : (k : ℕ) → k < n → couponAt tenors (withRate earlier r) T c k ≡ couponAt tenors (withRate earlier s) T c k
     unfolding couponAt
     same-coupon k h =
         let f = settled k h in
-        rw (same-discount tenors earlier (date T (suc k)) same (f .0) (f .1) (ap (λ (x : Float). le x (date T (suc k))) (sym last) ∙ f .2) r s)
+        let inside = ap (λ (x : Float). le x (date T (suc k))) (sym last) ∙ f .1 in
+        rw (same-discount tenors earlier (date T (suc k)) same (some-before (length tenors) n k none h) (f .0) inside r s)
 
     pub settled-sum : addedUp (couponAt tenors (withRate earlier r) T c) n ≡ addedUp (couponAt tenors (withRate earlier s) T c) n
     settled-sum = same-added _ _ n same-coupon

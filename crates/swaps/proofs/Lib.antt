@@ -11,3 +11,4 @@ pub mod SolvedKnots
 pub mod CodeTrips
 pub mod Exactly
 pub mod Tight
+pub mod Outside

@@ -13,23 +13,15 @@ use Rattle.swaps.specs.declared.Swap.{Swap}
 use Rattle.swaps.specs.Discount.{discountOf}
 use Rattle.swaps.specs.Swap.{period, fraction, payDate}
 use Rattle.swaps.specs.Legs.{factorAt, fixedPayment, forward, floatingPayment}
+use Rattle.swaps.specs.LegSums.{fixedTerm, annuityTerm, timedTerm}
 
 module _ (s : Swap) (tenors zeros : List Float) where
-  abbrev pub fixedTerm : ℕ → Float
-  fixedTerm i = mul binary64 (fixedPayment s tenors zeros) (factorAt s tenors zeros (suc i))
-
-  abbrev pub annuityTerm : ℕ → Float
-  annuityTerm i = mul binary64 (factorAt s tenors zeros (suc i)) (fraction s)
-
-  abbrev pub timedTerm : ℕ → Float
-  timedTerm i = mul binary64 (mul binary64 (payDate s (suc i)) (fixedPayment s tenors zeros)) (factorAt s tenors zeros (suc i))
-
   -- after k payments: the four sums, and the discount factor of the last of them
   pub record Summed (k : ℕ) (fixed floating annuity timed before : Float) : Type 0 where
-    pub of-fixed : fixed ≡ addedUp fixedTerm k
+    pub of-fixed : fixed ≡ addedUp (fixedTerm s tenors zeros) k
     pub of-floating : floating ≡ addedUp (floatingPayment s tenors zeros) k
-    pub of-annuity : annuity ≡ addedUp annuityTerm k
-    pub of-timed : timed ≡ addedUp timedTerm k
+    pub of-annuity : annuity ≡ addedUp (annuityTerm s tenors zeros) k
+    pub of-timed : timed ≡ addedUp (timedTerm s tenors zeros) k
     pub of-before : before ≡ factorAt s tenors zeros k
 
   pub at-start : Summed 0 plusZero plusZero plusZero plusZero one
@@ -59,9 +51,9 @@ module _ (s : Swap) (tenors zeros : List Float) where
           (add binary64 floating (mul binary64 (mul binary64 (mul binary64 (s .notional) (div binary64 (sub binary64 (div binary64 before factor) one) part)) part) factor))
           (add binary64 annuity (mul binary64 factor part)) (add binary64 timed (mul binary64 (mul binary64 dateOf payment) factor)) factor
       one-payment-more {fixed} {floating} {annuity} {timed} {before} h = record {
-        of-fixed = one-more fixedTerm k _ _ (h .of-fixed) (rw (factor-is, is-payment));
+        of-fixed = one-more (fixedTerm s tenors zeros) k _ _ (h .of-fixed) (rw (factor-is, is-payment));
         of-floating = one-more (floatingPayment s tenors zeros) k _ _ (h .of-floating) (floating-is before (h .of-before));
-        of-annuity = one-more annuityTerm k _ _ (h .of-annuity) (rw (factor-is, is-part));
-        of-timed = one-more timedTerm k _ _ (h .of-timed) (rw (factor-is, is-payment, date-is));
+        of-annuity = one-more (annuityTerm s tenors zeros) k _ _ (h .of-annuity) (rw (factor-is, is-part));
+        of-timed = one-more (timedTerm s tenors zeros) k _ _ (h .of-timed) (rw (factor-is, is-payment, date-is));
         of-before = factor-is ∙ ap (factorAt s tenors zeros) (sym (add-one k));
       }

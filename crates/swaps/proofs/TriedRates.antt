@@ -1,7 +1,7 @@
 -- Zero rates with one more at the end, that is tried: each rate of them; and that before the knot before the last none of it is felt. Assumes nothing.
 use mathlib.Core.Path.{_≡_, refl, sym, ap, _∙_}
 use mathlib.Core.Bool.{Bool, true, false, cond}
-use mathlib.Core.List.{List, [], _∷_, _++_}
+use mathlib.Core.List.{List, [], _∷_}
 use Prim.Native.Nat.{ℕ, zero, suc, _+_, _-_, _<_, _≤_}
 use native.Mathlib.Numerals.{add-one}
 use native.Mathlib.Omega.{arith}
@@ -9,6 +9,7 @@ use lib.ListN.{length, getD, length-append, List·getD-eq-default}
 use lib.Seq.{getD-append-seam}
 use lib.Ieee.{Float, nan, le}
 use Rattle.yield_curve.specs.Segments.{segmentEnding, knot, lastOf, flatOutside, Ends, endsOf}
+use Rattle.swaps.specs.Knots.{withRate}
 use Rattle.swaps.specs.Discount.{alongZeros, zeroRateOf, discountOf}
 
 -- what is neither true nor false
@@ -16,22 +17,19 @@ never : {Any : Type 0} (b : Bool) → b ≡ true → b ≡ false → Any
 never b t f = let z : _≡_ {A = ℕ} 0 1 = cc in absurd (omega arith)
 
 module _ (xs : List Float) (r : Float) where
-  abbrev pub withRate : List Float
-  withRate = xs ++ r ∷ []
-
-  pub with-length : length withRate ≡ length xs + 1
+  pub with-length : length (withRate xs r) ≡ length xs + 1
   with-length = length-append xs (r ∷ [])
 
-  pub tried : (i : ℕ) → i ≡ length xs → r ≡ knot withRate i
+  pub tried : (i : ℕ) → i ≡ length xs → r ≡ knot (withRate xs r) i
   tried i e = rw e (sym (getD-append-seam xs r [] nan))
 
-  pub last-tried : r ≡ lastOf withRate
-  last-tried = let e : length withRate - 1 ≡ length xs = omega (arith, with-length) in tried _ e
+  pub last-tried : r ≡ lastOf (withRate xs r)
+  last-tried = let e : length (withRate xs r) - 1 ≡ length xs = omega (arith, with-length) in tried _ e
 
-  pub past-tried : (i : ℕ) → length xs ≤ i → knot xs i ≡ knot withRate (suc i)
+  pub past-tried : (i : ℕ) → length xs ≤ i → knot xs i ≡ knot (withRate xs r) (suc i)
   past-tried i h =
-      let g : length withRate ≤ suc i = omega (arith, with-length) in
-      List·getD-eq-default xs nan h ∙ sym (List·getD-eq-default withRate nan g)
+      let g : length (withRate xs r) ≤ suc i = omega (arith, with-length) in
+      List·getD-eq-default xs nan h ∙ sym (List·getD-eq-default (withRate xs r) nan g)
 
 pub earlier-kept : (xs : List Float) (r : Float) (i : ℕ) → (i ≡ length xs → ⊥) → knot xs i ≡ knot (withRate xs r) i
 earlier-kept [] r zero h = absurd (h refl)

@@ -2,13 +2,12 @@
 use mathlib.Core.Path.{_≡_}
 use mathlib.Core.Bool.{Bool, false, cond}
 use mathlib.Core.List.{List}
-use Prim.Native.Nat.{ℕ, suc, _≤_}
+use Prim.Native.Nat.{_≤_}
 use native.Mathlib.Omega.{arith}
 use lib.ListN.{length}
-use lib.Ieee.{Float, binary64, add, sub, mul, div, eq}
+use lib.Ieee.{Float, binary64, add, sub, div, eq}
 use borrow.Author.Tests.{eqb-true, not-false}
 use Rattle.numbers.specs.Clamps.{plusZero}
-use Rattle.numbers.specs.Sums.{addedUp}
 use Rattle.elementary.specs.WholePower.{one}
 use Rattle.refusals.specs.Outcome.{accepted}
 use Rattle.refusals.specs.Table.{unequal}
@@ -17,9 +16,10 @@ use Rattle.refusals.proofs.Verdicts.{verdict}
 use Rattle.yield_curve.proofs.CurveLines.{at-most-120}
 use Rattle.swaps.specs.declared.Swap.{Swap}
 use Rattle.swaps.specs.Discount.{zeroRateOf}
-use Rattle.swaps.specs.Swap.{perYear, payments, fraction, swapLines}
+use Rattle.swaps.specs.Swap.{perYear, swapLines}
 use Rattle.swaps.specs.Valuation.{bumped, pointValue}
-use Rattle.swaps.specs.Legs.{factorAt, lastFactor, fixedLeg, floatingLeg, netValue, parRate, weighted, duration}
+use Rattle.swaps.specs.LegSums.{annuity}
+use Rattle.swaps.specs.Legs.{lastFactor, fixedLeg, floatingLeg, netValue, parRate, weighted, duration}
 
 module _ (s : Swap) (tenors zeros : List Float) where
   pub net-is : {fixed floating : Float} (receivesFixed : Bool) → fixed ≡ fixedLeg s tenors zeros → floating ≡ floatingLeg s tenors zeros
@@ -27,9 +27,9 @@ module _ (s : Swap) (tenors zeros : List Float) where
   unfolding netValue
   net-is receivesFixed f g = rw (f, g)
 
-  pub par-is : {last annuity : Float} → last ≡ lastFactor s tenors zeros
-      → annuity ≡ addedUp (λ (i : ℕ). mul binary64 (factorAt s tenors zeros (suc i)) (fraction s)) (payments s)
-      → div binary64 (sub binary64 one last) annuity ≡ parRate s tenors zeros
+  pub par-is : {last added : Float} → last ≡ lastFactor s tenors zeros
+      → added ≡ annuity s tenors zeros
+      → div binary64 (sub binary64 one last) added ≡ parRate s tenors zeros
   unfolding parRate
   par-is l a = rw (l, a)
 

@@ -6,4 +6,5 @@ pub mod Bootstrapped
 pub mod Knots
 pub mod Swap
 pub mod Legs
+pub mod LegSums
 pub mod Valuation

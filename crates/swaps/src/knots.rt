@@ -1,17 +1,15 @@
 // A knot of a bootstrap, solved so that its par swap is worth par. Coupons up to the knot before do not depend on the rate that is tried: they are added once.
 ghost use mathlib.Core.Path.{_≡_};
-ghost use mathlib.Core.Bool.{true, false};
-ghost use mathlib.Core.List.{[], _∷_, _++_};
-ghost use Prim.Native.Nat.{ℕ, suc, _+_, _-_, _<_, _≤_};
+ghost use Prim.Native.Nat.{_+_, _-_, _<_, _≤_};
 ghost use lib.ListN.{length};
-ghost use lib.Ieee.{Float, binary64, add, mul, le};
+ghost use lib.Ieee.{Float, binary64, add, mul};
 ghost use Rattle.numbers.specs.Sums.{addedUp};
 ghost use Rattle.elementary.specs.WholePower.{one};
 ghost use Rattle.elementary.specs.Ln.{ln};
 ghost use Rattle.yield_curve.specs.Segments.{knot, lastOf};
 ghost use Rattle.swaps.specs.Discount.{discountOf};
 ghost use Rattle.swaps.specs.Bootstrap.{lowest, highest, half, date, couponAt, parError, lowerEnd, upperEnd, halved, noChange, solvedOr};
-ghost use Rattle.swaps.specs.Knots.{errorOf, Ready};
+ghost use Rattle.swaps.specs.Knots.{withRate, SettledTo, errorOf, Ready};
 use crate::trials::discount_with;
 use numbers::clamps::lower_to;
 
@@ -50,8 +48,8 @@ fn date(tenor: f64, k: u32) -> f64
 
 // The coupon paid at the date after k, discounted; the discount factor of the tenor is at hand.
 fn coupon(tenors: &[f64], earlier: &[f64], trial: Trial, k: u32) -> f64
-    requires { ⌜ (k < 4294967295) × (trial .last ≡ discountOf (now tenors) (now earlier ++ trial .rate ∷ []) (trial .tenor)) ⌝ }
-    ensures { λ r. ⌜ r ≡ couponAt (now (tenors .entry)) (now (earlier .entry) ++ trial .rate ∷ []) (trial .tenor) (trial .par) k ⌝ }
+    requires { ⌜ (k < 4294967295) × (trial .last ≡ discountOf (now tenors) (withRate (now earlier) (trial .rate)) (trial .tenor)) ⌝ }
+    ensures { λ r. ⌜ r ≡ couponAt (now (tenors .entry)) (withRate (now (earlier .entry)) (trial .rate)) (trial .tenor) (trial .par) k ⌝ }
 {
     let whole = (k + 1) as f64;
     let before = date(trial.tenor, k);
@@ -63,8 +61,8 @@ fn coupon(tenors: &[f64], earlier: &[f64], trial: Trial, k: u32) -> f64
 
 // The sum of the first coupons, carried on.
 fn add_coupons(tenors: &[f64], earlier: &[f64], trial: Trial, sum: f64, from: u32, to: u32) -> f64
-    requires { ⌜ (from ≤ to) × (trial .last ≡ discountOf (now tenors) (now earlier ++ trial .rate ∷ []) (trial .tenor)) × (sum ≡ addedUp (couponAt (now tenors) (now earlier ++ trial .rate ∷ []) (trial .tenor) (trial .par)) from) ⌝ }
-    ensures { λ r. ⌜ r ≡ addedUp (couponAt (now (tenors .entry)) (now (earlier .entry) ++ trial .rate ∷ []) (trial .tenor) (trial .par)) to ⌝ }
+    requires { ⌜ (from ≤ to) × (trial .last ≡ discountOf (now tenors) (withRate (now earlier) (trial .rate)) (trial .tenor)) × (sum ≡ addedUp (couponAt (now tenors) (withRate (now earlier) (trial .rate)) (trial .tenor) (trial .par)) from) ⌝ }
+    ensures { λ r. ⌜ r ≡ addedUp (couponAt (now (tenors .entry)) (withRate (now (earlier .entry)) (trial .rate)) (trial .tenor) (trial .par)) to ⌝ }
 {
     let mut total = sum;
     let mut k = from;
@@ -77,7 +75,7 @@ fn add_coupons(tenors: &[f64], earlier: &[f64], trial: Trial, sum: f64, from: u3
 
 // How many dates are at or before the knot before, and before the tenor.
 fn settled_dates(tenor: f64, dates: u32, previous: f64) -> u32
-    ensures { λ r. ⌜ (r ≤ dates) × ((k : ℕ) → k < r → (le (date tenor (suc k)) previous ≡ true) × (le tenor (date tenor (suc k)) ≡ false)) ⌝ }
+    ensures { λ r. ⌜ (r ≤ dates) × SettledTo tenor previous r ⌝ }
 {
     let mut k: u32 = 0;
     while k < dates {
@@ -95,7 +93,7 @@ fn settled_dates(tenor: f64, dates: u32, previous: f64) -> u32
 
 // The same, none for the first knot.
 fn settled_at(tenors: &[f64], tenor: f64, dates: u32) -> u32
-    ensures { λ r. ⌜ (r ≤ dates) × ((k : ℕ) → k < r → (1 < length (now (tenors .entry))) × (le (date tenor (suc k)) (knot (now (tenors .entry)) (length (now (tenors .entry)) - 2)) ≡ true) × (le tenor (date tenor (suc k)) ≡ false)) ⌝ }
+    ensures { λ r. ⌜ (r ≤ dates) × SettledTo tenor (knot (now (tenors .entry)) (length (now (tenors .entry)) - 2)) r × (length (now (tenors .entry)) < 2 → r ≡ 0) ⌝ }
 {
     if tenors.len() < 2 {
         return 0;
@@ -104,7 +102,7 @@ fn settled_at(tenors: &[f64], tenor: f64, dates: u32) -> u32
 }
 
 fn try_rate(tenors: &[f64], earlier: &[f64], tenor: f64, par: f64, rate: f64) -> Trial
-    ensures { λ r. ⌜ (r .tenor ≡ tenor) × (r .par ≡ par) × (r .rate ≡ rate) × (r .last ≡ discountOf (now (tenors .entry)) (now (earlier .entry) ++ rate ∷ []) tenor) ⌝ }
+    ensures { λ r. ⌜ (r .tenor ≡ tenor) × (r .par ≡ par) × (r .rate ≡ rate) × (r .last ≡ discountOf (now (tenors .entry)) (withRate (now (earlier .entry)) rate) tenor) ⌝ }
 {
     Trial {
         tenor,
@@ -197,7 +195,7 @@ fn no_change(tenors: &[f64], earlier: &[f64], knot: Knot) -> bool
 // The zero rate of the last of the tenors, beside those before it; no sign change gives ln(1+c).
 pub(crate) fn next_zero(tenors: &[f64], earlier: &[f64], par: f64) -> f64
     requires { ⌜ length (now tenors) ≡ length (now earlier) + 1 ⌝ }
-    ensures { λ r. ⌜ r ≡ solvedOr (λ (x : Float). parError (now (tenors .entry)) (now (earlier .entry) ++ x ∷ []) (lastOf (now (tenors .entry))) par) (ln (add binary64 one par)) ⌝ }
+    ensures { λ r. ⌜ r ≡ solvedOr (λ (x : Float). parError (now (tenors .entry)) (withRate (now (earlier .entry)) x) (lastOf (now (tenors .entry))) par) (ln (add binary64 one par)) ⌝ }
 {
     let knot = last_of(tenors, earlier, par);
     if no_change(tenors, earlier, knot) {

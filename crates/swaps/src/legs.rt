@@ -1,11 +1,8 @@
 // The two legs of a swap and the sums that all its values are made of, each discount factor worked out once.
 ghost use mathlib.Core.Path.{_≡_};
-ghost use Prim.Native.Nat.{ℕ, suc};
-ghost use lib.Ieee.{binary64, mul};
-ghost use Rattle.numbers.specs.Sums.{addedUp};
 ghost use Rattle.refusals.specs.Answers.{numberOutcome};
-ghost use Rattle.swaps.specs.Swap.{payments, fraction, payDate};
-ghost use Rattle.swaps.specs.Legs.{factorAt, lastFactor, fixedPayment, fixedLeg, floatingPayment, floatingLeg, weighted};
+ghost use Rattle.swaps.specs.Legs.{lastFactor, fixedLeg, floatingLeg, weighted};
+ghost use Rattle.swaps.specs.LegSums.{fixedSum, floatingSum, annuity, timedSum};
 ghost use Rattle.swaps.specs.Valuation.{fixedLegPv, floatingLegPv};
 use crate::Swap;
 use crate::discount::discount_of;
@@ -27,7 +24,7 @@ pub struct PaymentSums {
 }
 
 fn payment_sums(swap: Swap, tenors: &[f64], zeros: &[f64]) -> PaymentSums
-    ensures { λ r. ⌜ (r .fixed ≡ addedUp (λ (i : ℕ). mul binary64 (fixedPayment swap (now (tenors .entry)) (now (zeros .entry))) (factorAt swap (now (tenors .entry)) (now (zeros .entry)) (suc i))) (payments swap)) × (r .floating ≡ addedUp (floatingPayment swap (now (tenors .entry)) (now (zeros .entry))) (payments swap)) × (r .annuity ≡ addedUp (λ (i : ℕ). mul binary64 (factorAt swap (now (tenors .entry)) (now (zeros .entry)) (suc i)) (fraction swap)) (payments swap)) × (r .timed ≡ addedUp (λ (i : ℕ). mul binary64 (mul binary64 (payDate swap (suc i)) (fixedPayment swap (now (tenors .entry)) (now (zeros .entry)))) (factorAt swap (now (tenors .entry)) (now (zeros .entry)) (suc i))) (payments swap)) ⌝ }
+    ensures { λ r. ⌜ (r .fixed ≡ fixedSum swap (now (tenors .entry)) (now (zeros .entry))) × (r .floating ≡ floatingSum swap (now (tenors .entry)) (now (zeros .entry))) × (r .annuity ≡ annuity swap (now (tenors .entry)) (now (zeros .entry))) × (r .timed ≡ timedSum swap (now (tenors .entry)) (now (zeros .entry))) ⌝ }
 {
     let count = payments(swap);
     let dt = period(swap);
@@ -69,7 +66,7 @@ pub struct Legs {
 
 // The legs, whatever the swap and the lists are.
 pub(crate) fn legs_of(swap: Swap, tenors: &[f64], zeros: &[f64]) -> Legs
-    ensures { λ r. ⌜ (r .fixed ≡ fixedLeg swap (now (tenors .entry)) (now (zeros .entry))) × (r .floating ≡ floatingLeg swap (now (tenors .entry)) (now (zeros .entry))) × (r .annuity ≡ addedUp (λ (i : ℕ). mul binary64 (factorAt swap (now (tenors .entry)) (now (zeros .entry)) (suc i)) (fraction swap)) (payments swap)) × (r .weighted ≡ weighted swap (now (tenors .entry)) (now (zeros .entry))) × (r .last ≡ lastFactor swap (now (tenors .entry)) (now (zeros .entry))) ⌝ }
+    ensures { λ r. ⌜ (r .fixed ≡ fixedLeg swap (now (tenors .entry)) (now (zeros .entry))) × (r .floating ≡ floatingLeg swap (now (tenors .entry)) (now (zeros .entry))) × (r .annuity ≡ annuity swap (now (tenors .entry)) (now (zeros .entry))) × (r .weighted ≡ weighted swap (now (tenors .entry)) (now (zeros .entry))) × (r .last ≡ lastFactor swap (now (tenors .entry)) (now (zeros .entry))) ⌝ }
 {
     let sums = payment_sums(swap, tenors, zeros);
     let last = discount_of(tenors, zeros, swap.tenor);

@@ -3,7 +3,7 @@ pub mod bootstrap;
 pub mod day_counts;
 pub mod discount;
 mod judging;
-pub mod knots;
+mod knots;
 pub mod legs;
 mod periods;
 mod rooms;

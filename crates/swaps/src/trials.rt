@@ -1,9 +1,9 @@
 // The curve of a bootstrap while the rate of its last knot is tried: the zero rates before it, and the rate in hand.
 ghost use mathlib.Core.Path.{_≡_};
-ghost use mathlib.Core.List.{[], _∷_, _++_};
 ghost use Prim.Native.Nat.{suc};
 ghost use Rattle.yield_curve.specs.Segments.{knot};
 ghost use Rattle.swaps.specs.Discount.{zeroRateOf, discountOf};
+ghost use Rattle.swaps.specs.Knots.{withRate};
 use crate::discount::along_zeros;
 use yield_curve::segments::Ends;
 use yield_curve::segments::knot_after;
@@ -13,7 +13,7 @@ use yield_curve::segments::segment_ending;
 
 // The rate of the knot i.
 fn rate_with(earlier: &[f64], rate: f64, i: usize) -> f64
-    ensures { λ r. ⌜ r ≡ knot (now (earlier .entry) ++ rate ∷ []) i ⌝ }
+    ensures { λ r. ⌜ r ≡ knot (withRate (now (earlier .entry)) rate) i ⌝ }
 {
     if i == earlier.len() {
         return rate;
@@ -23,7 +23,7 @@ fn rate_with(earlier: &[f64], rate: f64, i: usize) -> f64
 
 // The rate of the knot after i.
 fn rate_after(earlier: &[f64], rate: f64, i: usize) -> f64
-    ensures { λ r. ⌜ r ≡ knot (now (earlier .entry) ++ rate ∷ []) (suc i) ⌝ }
+    ensures { λ r. ⌜ r ≡ knot (withRate (now (earlier .entry)) rate) (suc i) ⌝ }
 {
     if i < earlier.len() {
         return rate_with(earlier, rate, i + 1);
@@ -33,7 +33,7 @@ fn rate_after(earlier: &[f64], rate: f64, i: usize) -> f64
 
 // The zero rate at a time.
 fn zero_rate_with(tenors: &[f64], earlier: &[f64], rate: f64, t: f64) -> f64
-    ensures { λ r. ⌜ r ≡ zeroRateOf (now (tenors .entry)) (now (earlier .entry) ++ rate ∷ []) t ⌝ }
+    ensures { λ r. ⌜ r ≡ zeroRateOf (now (tenors .entry)) (withRate (now (earlier .entry)) rate) t ⌝ }
 {
     if t <= knot_at(tenors, 0) {
         return rate_with(earlier, rate, 0);
@@ -55,7 +55,7 @@ fn zero_rate_with(tenors: &[f64], earlier: &[f64], rate: f64, t: f64) -> f64
 
 // The discount factor at a time.
 pub(crate) fn discount_with(tenors: &[f64], earlier: &[f64], rate: f64, t: f64) -> f64
-    ensures { λ r. ⌜ r ≡ discountOf (now (tenors .entry)) (now (earlier .entry) ++ rate ∷ []) t ⌝ }
+    ensures { λ r. ⌜ r ≡ discountOf (now (tenors .entry)) (withRate (now (earlier .entry)) rate) t ⌝ }
 {
     if t <= 0.0 {
         return 1.0;

@@ -1,10 +1,5 @@
 -- `swaps::discount::rate_at` meets its contract: the verdict on the curve and the time is its answer's. Assumes nothing.
-use mathlib.Core.Path.{ap, _∙_}
-use mathlib.Core.Bool.{Bool}
-use mathlib.Core.List.{[], _∷_, _++_}
-use Rattle.refusals.specs.Outcome.{accepted, line}
-use Rattle.refusals.proofs.Verdicts.{verdict, refused-by, accepted-by}
-use Rattle.yield_curve.specs.Curve.{curveLines}
+use Rattle.yield_curve.proofs.CurveLines.{answer-refused, answer-given}
 use Rattle.swaps.specs.Discount.{rateAt}
 use borrow.Author.Needs.{needs}
 use Rattle.swaps.proofs.discount.rate_at.Statement.{statement}
@@ -28,19 +23,16 @@ zero-rate-of-requires c κs = search needs
 returns : tie.Need-returns
 unfolding rateAt
 returns c =
-    let e = c .before .before .before in
-    let a = e .before .before .before .before .args in
-    refused-by _ _ _ _ (c .before .refusal .given .1)
-    (e .judge-asked .ensures ∙ ap (λ (b : Bool). verdict (curveLines (a .tenors .now) (a .zeros .now) ++ line 7 b ∷ [])) (e .before .bad-time .ensures))
+    let judged = c .before .before .before in
+    let a = judged .before .before .before .before .args in
+    answer-refused (a .tenors .now) (a .zeros .now) _ _ _ _ (judged .before .bad-time .ensures) (judged .judge-asked .ensures) _ (c .before .refusal .given .1)
 
 returns-2 : tie.Need-returns-2
 unfolding rateAt
 returns-2 c =
-    let e = c .before .before .before in
-    let a = e .before .before .before .before .args in
-    ap accepted (c .zero-rate-of .ensures)
-    ∙ accepted-by _ _ _ (c .before .enum-told .given .1)
-    (e .judge-asked .ensures ∙ ap (λ (b : Bool). verdict (curveLines (a .tenors .now) (a .zeros .now) ++ line 7 b ∷ [])) (e .before .bad-time .ensures))
+    let judged = c .before .before .before in
+    let a = judged .before .before .before .before .args in
+    answer-given (a .tenors .now) (a .zeros .now) _ _ _ _ (judged .before .bad-time .ensures) (judged .judge-asked .ensures) _ (c .zero-rate-of .ensures) (c .before .enum-told .given .1)
 
 pub rate-at-spec : {M : Type 1} → statement M
 rate-at-spec =

@@ -1,17 +1,17 @@
 -- `swaps::knots::add_coupons` meets its contract: each turn of the loop adds one coupon. Assumes nothing.
 use mathlib.Core.Path.{_≡_, ap, _∙_}
-use mathlib.Core.List.{[], _∷_, _++_}
 use Prim.Native.Nat.{_-_, _≤_}
 use native.Mathlib.Omega.{arith}
 use Rattle.numbers.specs.Sums.{addedUp}
 use Rattle.yield_curve.proofs.Adding.{one-more}
 use Rattle.swaps.specs.Bootstrap.{couponAt}
+use Rattle.swaps.specs.Knots.{withRate}
 use Rattle.swaps.proofs.knots.add_coupons.Statement.{statement}
 use Rattle.swaps.proofs.knots.add_coupons.Tie as tie
 
 abbrev Inv-loop : tie.InvT-loop
 Inv-loop tenors earlier trial sum from to total₀ k₀ total k =
-    (k ≤ to) × (total ≡ addedUp (couponAt tenors (earlier ++ trial .rate ∷ []) (trial .tenor) (trial .par)) k)
+    (k ≤ to) × (total ≡ addedUp (couponAt tenors (withRate earlier (trial .rate)) (trial .tenor) (trial .par)) k)
 
 abbrev μ-loop : tie.MeasureT-loop
 μ-loop tenors earlier trial sum from to total₀ k₀ total k =

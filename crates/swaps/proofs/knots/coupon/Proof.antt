@@ -1,6 +1,6 @@
 -- `swaps::knots::coupon` meets its contract: the date is whole before the tenor, else it is the tenor, whose discount factor is at hand. Assumes nothing.
 use native.Mathlib.Omega.{arith}
-use Rattle.swaps.proofs.TriedRates.{withRate}
+use Rattle.swaps.specs.Knots.{withRate}
 use Rattle.swaps.proofs.Coupons.{coupon-before, coupon-at-tenor}
 use borrow.Author.Needs.{needs}
 use Rattle.swaps.proofs.knots.coupon.Statement.{statement}

@@ -42,7 +42,7 @@ returns c =
         counted = settled .before .ceiling-to-u32 .ensures;
         within = settled .settled-at .ensures .0;
         summed = λ r. sum-was (a .tenors .now) (a .earlier .now) (e .0) (e .1) (e .2) _ (c .add-coupons .ensures)
-            ∙ settled-sum (a .tenors .now) (a .earlier .now) _ _ _ (last .before .before .before .pre) (last .last-knot .ensures) (settled .settled-at .ensures .1) _ r;
+            ∙ settled-sum (a .tenors .now) (a .earlier .now) _ _ _ (last .before .before .before .pre) (last .last-knot .ensures) (settled .settled-at .ensures .1) (settled .settled-at .ensures .2) _ r;
       },
     )
 

@@ -1,10 +1,11 @@
 -- `swaps::knots::settled_at` meets its contract. Assumes nothing.
+use mathlib.Core.Path.{refl}
 use native.Mathlib.Omega.{arith}
 use Rattle.swaps.proofs.knots.settled_at.Statement.{statement}
 use Rattle.swaps.proofs.knots.settled_at.Tie as tie
 
 returns : tie.Need-returns
-returns c = (omega arith, λ k h. absurd (omega arith))
+returns c = (omega arith, λ k h. absurd (omega arith), λ h. refl)
 
 sub-settled-dates : tie.Need-sub-settled-dates
 sub-settled-dates c = omega arith
@@ -20,9 +21,8 @@ settled-dates-requires c κs = tt
 
 returns-2 : tie.Need-returns-2
 returns-2 c =
-    let e = c .settled-dates .ensures in
     let many = c .before .before .if1 .left in
-    (e .0, λ k h. (omega arith, e .1 k h .0, e .1 k h .1))
+    (c .settled-dates .ensures .0, c .settled-dates .ensures .1, λ h. absurd (omega arith))
 
 pub settled-at-spec : {M : Type 1} → statement M
 settled-at-spec =

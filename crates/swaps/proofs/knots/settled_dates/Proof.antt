@@ -1,12 +1,13 @@
 -- `swaps::knots::settled_dates` meets its contract: every date passed is settled. Assumes nothing.
 use mathlib.Core.Path.{_≡_}
 use mathlib.Core.Bool.{true, false}
-use Prim.Native.Nat.{ℕ, suc, _-_, _<_, _≤_}
+use Prim.Native.Nat.{ℕ, suc, _-_, _≤_}
 use native.Mathlib.Omega.{arith}
 use lib.Ieee.{le}
 use borrow.Author.Count.{below-more}
 use borrow.Author.Tests.{not-false}
 use Rattle.swaps.specs.Bootstrap.{date}
+use Rattle.swaps.specs.Knots.{SettledTo}
 use Rattle.swaps.proofs.Coupons.{settled-here}
 use borrow.Author.Needs.{needs}
 use Rattle.swaps.proofs.knots.settled_dates.Statement.{statement}
@@ -14,7 +15,7 @@ use Rattle.swaps.proofs.knots.settled_dates.Tie as tie
 
 abbrev Inv-loop : tie.InvT-loop
 Inv-loop tenor dates previous k₀ k =
-    (k ≤ dates) × ((j : ℕ) → j < k → (le (date tenor (suc j)) previous ≡ true) × (le tenor (date tenor (suc j)) ≡ false))
+    (k ≤ dates) × SettledTo tenor previous k
 
 abbrev μ-loop : tie.MeasureT-loop
 μ-loop tenor dates previous k₀ k =

@@ -2,7 +2,8 @@
 use mathlib.Core.Path.{ap, _∙_}
 use native.Mathlib.Numerals.{add-one}
 use Rattle.yield_curve.specs.Segments.{knot}
-use Rattle.swaps.proofs.TriedRates.{withRate, past-tried}
+use Rattle.swaps.specs.Knots.{withRate}
+use Rattle.swaps.proofs.TriedRates.{past-tried}
 use borrow.Author.Needs.{needs}
 use Rattle.swaps.proofs.trials.rate_after.Statement.{statement}
 use Rattle.swaps.proofs.trials.rate_after.Tie as tie

@@ -3,7 +3,8 @@ use mathlib.Core.Path.{ap, _∙_}
 use Rattle.yield_curve.specs.Segments.{Ends, endsOf}
 use Rattle.yield_curve.proofs.Flat.{before-first, past-last, inside, ends-are}
 use Rattle.swaps.specs.Discount.{alongZeros, zeroRateOf}
-use Rattle.swaps.proofs.TriedRates.{withRate, last-tried}
+use Rattle.swaps.specs.Knots.{withRate}
+use Rattle.swaps.proofs.TriedRates.{last-tried}
 use borrow.Author.Needs.{needs}
 use Rattle.swaps.proofs.trials.zero_rate_with.Statement.{statement}
 use Rattle.swaps.proofs.trials.zero_rate_with.Tie as tie
