@@ -23,6 +23,8 @@ use Rattle.bond.specs.Bonds.{periodCoupon, periods, badMaturity}
 use Rattle.bond.specs.Price.{periodRate, undiscounted, discount, discounted, priceOf, price}
 use Rattle.yield_curve.specs.Segments.{segmentEnding, flatOutside}
 use Rattle.swaps.specs.Discount.{share, alongZeros, zeroRateOf, rateAt}
+use Rattle.pool.specs.declared.speed.Speed.the-variants.{History}
+use Rattle.pool.specs.Speed.{smm}
 use Rattle.listing.specs.Digits.{hexDigits, decimalDigits, decimal}
 use Rattle.listing.specs.Listing.{spaced, rowLine, footer, refusedLine, loanLines, termsLines, listing}
 
@@ -104,9 +106,12 @@ pub record Figures : Type 0 where
   pub bond-at-maturity : price (pattern 0x3fe0_0000_0000_0000) (annual-bond 0) ≡ accepted (number 100)
   -- discount knots (1, 0.25), (3, 0.75) at 2: 0.5
   pub between-knots : rateAt (number 1 ∷ number 3 ∷ []) (pattern 0x3fd0_0000_0000_0000 ∷ pattern 0x3fe8_0000_0000_0000 ∷ []) (number 2) ≡ accepted (pattern 0x3fe0_0000_0000_0000)
+  -- history [0.5]: month 0 gives 0.5, month 2 gives 0.0
+  pub month-zero : smm History (pattern 0x3fe0_0000_0000_0000 ∷ []) 0 ≡ pattern 0x3fe0_0000_0000_0000
+  pub past-the-end : smm History (pattern 0x3fe0_0000_0000_0000 ∷ []) 2 ≡ pattern 0
 
 pub figures : Figures
-unfolding nearestWhole absolute badAmount badNumber unequal badKnotCount badKnot badKnotsAfter badKnots badTime segmentEnding flatOutside share alongZeros zeroRateOf rateAt badTerm badRecord firstOr judged turns wholePower negativePower periodCoupon periods badMaturity periodRate undiscounted discount discounted priceOf price valueOf wholeAt floatAt readTerms termsIn monthlyRate growth levelPayment payment monthlyPayment loanOf openedWith opened endMonth due last interestOf principalOf paymentOf newBalance rowOf nextOf stepped written hexDigits decimalDigits decimal spaced rowLine footer refusedLine loanLines termsLines listing add sub mul div lt le eq ofInt ofBits toBits
+unfolding nearestWhole absolute badAmount badNumber unequal badKnotCount badKnot badKnotsAfter badKnots badTime segmentEnding flatOutside share alongZeros zeroRateOf rateAt smm badTerm badRecord firstOr judged turns wholePower negativePower periodCoupon periods badMaturity periodRate undiscounted discount discounted priceOf price valueOf wholeAt floatAt readTerms termsIn monthlyRate growth levelPayment payment monthlyPayment loanOf openedWith opened endMonth due last interestOf principalOf paymentOf newBalance rowOf nextOf stepped written hexDigits decimalDigits decimal spaced rowLine footer refusedLine loanLines termsLines listing add sub mul div lt le eq ofInt ofBits toBits
 figures = record {
   two-and-a-half = refl;
   nearly-a-half = refl;
@@ -124,4 +129,6 @@ figures = record {
   bond-at-zero = refl;
   bond-at-maturity = refl;
   between-knots = refl;
+  month-zero = refl;
+  past-the-end = refl;
 }

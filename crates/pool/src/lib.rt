@@ -1,4 +1,8 @@
 // Pools of loans: prepayment speeds, months, price, duration and convexity.
+pub mod flows;
+mod loans;
 pub mod months;
+pub mod price;
 pub mod speed;
 pub mod totals;
+mod walk;

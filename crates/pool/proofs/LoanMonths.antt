@@ -1,0 +1,108 @@
+-- A loan's month in a pool from the balance that is carried: what it adds, and the balance before the next month. The definition asks the schedule anew for each month. Assumes nothing.
+use mathlib.Core.Path.{_≡_, refl, sym, ap, _∙_}
+use mathlib.Core.Bool.{Bool, true, false, cond, not}
+use Prim.Native.Nat.{ℕ, zero, suc, _+_, _<_}
+use native.Mathlib.Numerals.{add-one}
+use native.Mathlib.Omega.{arith}
+use lib.Dec.{ltb}
+use lib.Ieee.{Float, binary64, sub, mul, lt, le}
+use lib.Ieee.Scale.{finite}
+use borrow.Author.Tests.{le-ltb, ne-eqb, not-false}
+use Rattle.numbers.specs.Clamps.{plusZero, raised, lowered}
+use Rattle.refusals.specs.Table.{badAmount}
+use Rattle.records.specs.declared.Terms.{Terms}
+use Rattle.mortgage.specs.declared.Loan.{Loan}
+use Rattle.mortgage.specs.Payment.{monthlyRate, payment, loanOf}
+use Rattle.mortgage.specs.RowRule.{endMonth, last, interestOf, principalOf, newBalance, rowOf, nextOf}
+use Rattle.mortgage.specs.Steps.{stepped}
+use Rattle.mortgage.specs.Rows.{after}
+use Rattle.mortgage.specs.Totals.{balanceAfter}
+use Rattle.mortgage.proofs.RowLaws.{end-after, rate-after, payment-after, done-after, within}
+use Rattle.pool.specs.declared.months.Month.{Month}
+use Rattle.pool.specs.Months.{flowsOn, plus, balanceBefore, withLoan}
+use Rattle.pool.proofs.Each.{neither}
+use Rattle.pool.proofs.Signs.{above-not-at-most, at-most, zero-at-most}
+
+-- ---- the balance that the schedule shows after k rows, from the one in hand
+shown-above : (l : Loan) (k : ℕ) → lt plusZero (after k l .balance) ≡ true → balanceAfter l k ≡ after k l .balance
+unfolding stepped balanceAfter rowOf nextOf
+shown-above l zero h = refl
+shown-above l (suc k) h = rw h
+
+shown-at-most : (l : Loan) (k : ℕ) → finite (l .balance) ≡ true → lt plusZero (after k l .balance) ≡ false → le (balanceAfter l k) plusZero ≡ true
+unfolding stepped balanceAfter rowOf nextOf
+shown-at-most l zero f h = at-most (l .balance) f h
+shown-at-most l (suc k) f h = rw h zero-at-most
+
+amount-finite : (x : Float) → badAmount x ≡ false → finite x ≡ true
+unfolding badAmount
+amount-finite x e = not-false (finite x) (neither (not (finite x)) (lt x plusZero) e .0)
+
+rate-of : (t : Terms) (pay : Float) → loanOf t pay .rate ≡ t .rate
+unfolding loanOf
+rate-of t pay = refl
+
+payment-of : (t : Terms) (pay : Float) → loanOf t pay .payment ≡ pay
+unfolding loanOf
+payment-of t pay = refl
+
+-- ---- the month k of a loan, from 0, before which the balance is b
+module _ (t : Terms) (k : ℕ) (b : Float) (due : k < t .term) (carried : b ≡ after k (loanOf t (payment t)) .balance) where
+  in-term : ltb (t .term) (suc k) ≡ false
+  in-term = le-ltb (t .term) (suc k) (omega arith)
+
+  pub adds : (s : Month) (v p : Float) → lt plusZero b ≡ true → p ≡ lowered (raised (sub binary64 (payment t) (mul binary64 b (monthlyRate (t .rate))))) b
+      → withLoan s t (suc k) v ≡ plus s (record { principal = p; interest = mul binary64 b (monthlyRate (t .rate)); prepayment = mul binary64 (sub binary64 b p) v })
+  unfolding withLoan balanceBefore flowsOn
+  adds s v p h ep =
+      let g : lt plusZero (after k (loanOf t (payment t)) .balance) ≡ true = rw (sym carried) h in
+      let e : balanceAfter (loanOf t (payment t)) k ≡ b = shown-above (loanOf t (payment t)) k g ∙ sym carried in
+      rw (in-term, e, above-not-at-most b h, ep)
+
+  pub passes : (s : Month) (v : Float) → badAmount (t .principal) ≡ false → lt plusZero b ≡ false → withLoan s t (suc k) v ≡ s
+  unfolding withLoan balanceBefore loanOf
+  passes s v a h =
+      let g : lt plusZero (after k (loanOf t (payment t)) .balance) ≡ false = rw (sym carried) h in
+      rw (in-term, shown-at-most (loanOf t (payment t)) k (amount-finite (t .principal) a) g)
+
+  not-last : suc k < t .term → last (after k (loanOf t (payment t))) ≡ false
+  unfolding last endMonth loanOf
+  not-last h =
+      let l = after k (loanOf t (payment t)) in
+      ne-eqb (l .done + 1) (endMonth l) (λ e. omega (arith, done-after k (loanOf t (payment t)), end-after k (loanOf t (payment t))))
+
+  pub next-balance : (p : Float) → p ≡ lowered (raised (sub binary64 (payment t) (mul binary64 b (monthlyRate (t .rate))))) b → k + 1 < t .term
+      → sub binary64 b p ≡ after (k + 1) (loanOf t (payment t)) .balance
+  unfolding stepped nextOf newBalance principalOf interestOf
+  next-balance p ep h =
+      let er : after k (loanOf t (payment t)) .rate ≡ t .rate = rate-loan in
+      let e : after k (loanOf t (payment t)) .payment ≡ payment t = payment-loan in
+      rw (add-one k, not-last (omega arith), er, e, sym carried, ep)
+    where
+      rate-loan : after k (loanOf t (payment t)) .rate ≡ t .rate
+      rate-loan = rate-after k (loanOf t (payment t)) ∙ rate-of t (payment t)
+
+      payment-loan : after k (loanOf t (payment t)) .payment ≡ payment t
+      payment-loan = payment-after k (loanOf t (payment t)) ∙ payment-of t (payment t)
+
+  -- ---- as a turn of the code has it: `pay` is the payment, `p` the month's principal
+  module _ (pay : Float) (is : pay ≡ payment t) where
+    pub ordinary : (p : Float) → p ≡ sub binary64 pay (mul binary64 b (monthlyRate (t .rate))) → lt plusZero b ≡ true → lt plusZero p ≡ true → lt p b ≡ true
+        → ((s : Month) (v : Float) → plus s (record { principal = p; interest = mul binary64 b (monthlyRate (t .rate)); prepayment = mul binary64 (sub binary64 b p) v }) ≡ withLoan s t (suc k) v)
+        × (k + 1 < t .term → sub binary64 b p ≡ after (k + 1) (loanOf t (payment t)) .balance)
+    ordinary p e h g l =
+        let ep : p ≡ lowered (raised (sub binary64 (payment t) (mul binary64 b (monthlyRate (t .rate))))) b = rw (sym is, sym e) (within p b g l) in
+        (λ s v. sym (adds s v p h ep), next-balance p ep)
+
+    pub any-month : (q p : Float) → q ≡ raised (sub binary64 pay (mul binary64 b (monthlyRate (t .rate)))) → p ≡ lowered q b → badAmount (t .principal) ≡ false
+        → ((s : Month) (v : Float) → cond (lt plusZero b) (plus s (record { principal = p; interest = mul binary64 b (monthlyRate (t .rate)); prepayment = mul binary64 (sub binary64 b p) v })) s ≡ withLoan s t (suc k) v)
+        × (k + 1 < t .term → sub binary64 b p ≡ after (k + 1) (loanOf t (payment t)) .balance)
+    any-month q p eq el a = (λ s v. go s v (lt plusZero b) refl, next-balance p ep)
+      where
+        ep : p ≡ lowered (raised (sub binary64 (payment t) (mul binary64 b (monthlyRate (t .rate))))) b
+        ep = el ∙ ap (λ (x : Float). lowered x b) (eq ∙ ap (λ (y : Float). raised (sub binary64 y (mul binary64 b (monthlyRate (t .rate))))) is)
+
+        go : (s : Month) (v : Float) (above : Bool) → lt plusZero b ≡ above
+            → cond above (plus s (record { principal = p; interest = mul binary64 b (monthlyRate (t .rate)); prepayment = mul binary64 (sub binary64 b p) v })) s ≡ withLoan s t (suc k) v
+        go s v true h = sym (adds s v p h ep)
+        go s v false h = sym (passes s v a h)

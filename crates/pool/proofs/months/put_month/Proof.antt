@@ -1,0 +1,52 @@
+-- `pool::months::put_month` meets its contract: three stores in a row are the stores of the list. Assumes nothing.
+use native.Mathlib.Omega.{arith}
+use native.Mathlib.Numerals.{unary-clauses}
+use lib.ListN.{length-set}
+use borrow.Author.Needs.{needs}
+use Rattle.pool.proofs.months.put_month.Statement.{statement}
+use Rattle.pool.proofs.months.put_month.Tie as tie
+
+mul-room : tie.Need-mul-room
+mul-room c = search needs
+
+slice-write-room : tie.Need-slice-write-room
+slice-write-room c = search needs
+
+add-room : tie.Need-add-room
+add-room c = search needs
+
+mul-room-2 : tie.Need-mul-room-2
+mul-room-2 c = search needs
+
+slice-write-room-2 : tie.Need-slice-write-room-2
+slice-write-room-2 c = simp length-set (omega arith)
+
+add-room-2 : tie.Need-add-room-2
+add-room-2 c = search needs
+
+mul-room-3 : tie.Need-mul-room-3
+mul-room-3 c = search needs
+
+slice-write-room-3 : tie.Need-slice-write-room-3
+slice-write-room-3 c = simp length-set (omega arith)
+
+same-length : tie.Need-same-length
+same-length c = search needs
+
+returns : tie.Need-returns
+returns c = simp unary-clauses
+
+pub put-month-spec : {M : Type 1} → statement M
+put-month-spec =
+    tie.close
+    (tie.spec
+    mul-room
+    slice-write-room
+    add-room
+    mul-room-2
+    slice-write-room-2
+    add-room-2
+    mul-room-3
+    slice-write-room-3
+    same-length
+    returns)
