@@ -6,7 +6,7 @@ mod bond;
 mod mortgage;
 
 use bond::{Bond, CouponFrequency};
-use mortgage::{MortgageCalculator, MortgageTerms};
+use mortgage::{MbsPool, MortgageCalculator, MortgageLoan, MortgageTerms, MortgageType, PrepaymentModel};
 use std::hint::black_box;
 use std::time::Instant;
 
@@ -15,6 +15,9 @@ extern "C" {
     fn bench_schedule_with(principal: f64, rate: f64, term: u32, payment: f64, room: *mut f64, places: usize) -> u32;
     fn bench_price(face: f64, coupon: f64, maturity: f64, code: u8, ytm: f64) -> f64;
     fn bench_yield(face: f64, coupon: f64, maturity: f64, code: u8, market: f64) -> f64;
+    fn bench_pool_months(bytes: *const u8, length: usize, cpr: f64, room: *mut f64, places: usize) -> u32;
+    fn bench_pool_price(bytes: *const u8, length: usize, cpr: f64, rate: f64) -> f64;
+    fn bench_pool_duration(bytes: *const u8, length: usize, cpr: f64, rate: f64) -> f64;
     fn bench_exp(x: f64) -> f64;
     fn bench_exp_each(numbers: *mut f64, count: usize);
 }
@@ -33,20 +36,24 @@ fn fail(said: String) -> ! {
     std::process::exit(1);
 }
 
-fn one<F: FnMut()>(mut work: F) -> f64 {
+fn times<F: FnMut()>(runs: usize, mut work: F) -> f64 {
     let start = Instant::now();
-    for _ in 0..RUNS {
+    for _ in 0..runs {
         work();
     }
-    start.elapsed().as_nanos() as f64 / RUNS as f64
+    start.elapsed().as_nanos() as f64 / runs as f64
 }
 
-// The best time of each, by turns.
-fn beside<A: FnMut(), B: FnMut()>(job: &str, mut ours: A, mut rust: B) {
+// The best time of each, by turns; a job that takes long is run less often.
+fn beside<A: FnMut(), B: FnMut()>(job: &str, ours: A, rust: B) {
+    beside_times(job, REPEATS, RUNS, ours, rust);
+}
+
+fn beside_times<A: FnMut(), B: FnMut()>(job: &str, repeats: usize, runs: usize, mut ours: A, mut rust: B) {
     let (mut a, mut b) = (f64::MAX, f64::MAX);
-    for _ in 0..REPEATS {
-        a = a.min(one(&mut ours));
-        b = b.min(one(&mut rust));
+    for _ in 0..repeats {
+        a = a.min(times(runs, &mut ours));
+        b = b.min(times(runs, &mut rust));
     }
     println!("{job} ours {a:.1} rust {b:.1} ratio {:.2}", b / a);
 }
@@ -193,8 +200,86 @@ fn exps() {
     );
 }
 
+// A pool of loans that differ, as the Rust's and as records end to end.
+fn pool_of(count: usize, months: u32) -> (MbsPool, Vec<u8>) {
+    let mut loans = Vec::new();
+    let mut bytes = Vec::new();
+    for i in 0..count {
+        let (principal, annual_rate) = (100_000.0 + 1_000.0 * i as f64, 0.03 + 0.0005 * i as f64);
+        loans.push(MortgageLoan { principal, annual_rate, term_months: months, mortgage_type: MortgageType::Fixed, origination_date: 0 });
+        bytes.push(1);
+        bytes.extend_from_slice(&principal.to_le_bytes());
+        bytes.extend_from_slice(&annual_rate.to_le_bytes());
+        bytes.extend_from_slice(&months.to_le_bytes());
+    }
+    (MbsPool::new(loans), bytes)
+}
+
+fn pools() {
+    let (cpr, rate) = (0.06, 0.05);
+    let speed = PrepaymentModel::CPR(cpr);
+    let mut room = vec![0.0f64; 3600];
+    let (pool, bytes) = pool_of(8, 120);
+    let theirs = pool.cash_flows(&speed);
+    let n = unsafe { bench_pool_months(bytes.as_ptr(), bytes.len(), cpr, room.as_mut_ptr(), room.len()) };
+    if n as usize != theirs.len() {
+        fail(format!("a pool of {n} months and not {}", theirs.len()));
+    }
+    let mut worst = 0.0f64;
+    for (i, (principal, interest, prepayment)) in theirs.iter().enumerate() {
+        for (a, b) in room[i * 3..i * 3 + 3].iter().zip([principal, interest, prepayment]) {
+            worst = worst.max((a - b).abs() / b.abs().max(1.0));
+        }
+    }
+    let ours = unsafe { bench_pool_price(bytes.as_ptr(), bytes.len(), cpr, rate) };
+    worst = worst.max((ours / pool.price(rate, &speed) - 1.0).abs());
+    println!("pool months and price beside the Rust's: at most {worst:.1e} apart, relative");
+    if worst > 1e-9 {
+        fail("a pool's months are farther from the Rust's than 1e-9".to_string());
+    }
+    for (loans, months) in [(8usize, 120u32), (64, 120), (8, 360), (64, 360), (8, 1200), (64, 1200)] {
+        let (pool, bytes) = pool_of(loans, months);
+        let rust_runs = if loans as u32 * months > 5000 { 1 } else { 2 };
+        beside_times(
+            &format!("pool months of {loans} loans of {months}"),
+            3,
+            rust_runs,
+            || {
+                black_box(unsafe { bench_pool_months(bytes.as_ptr(), bytes.len(), cpr, room.as_mut_ptr(), room.len()) });
+            },
+            || {
+                black_box(pool.cash_flows(black_box(&speed)));
+            },
+        );
+    }
+    let (pool, bytes) = pool_of(64, 360);
+    beside_times(
+        "pool price of 64 loans of 360",
+        2,
+        1,
+        || {
+            black_box(unsafe { bench_pool_price(bytes.as_ptr(), bytes.len(), cpr, rate) });
+        },
+        || {
+            black_box(pool.price(rate, black_box(&speed)));
+        },
+    );
+    beside_times(
+        "pool duration of 64 loans of 360",
+        2,
+        1,
+        || {
+            black_box(unsafe { bench_pool_duration(bytes.as_ptr(), bytes.len(), cpr, rate) });
+        },
+        || {
+            black_box(pool.duration(rate, black_box(&speed)));
+        },
+    );
+}
+
 fn main() {
     schedules();
     bonds();
     exps();
+    pools();
 }

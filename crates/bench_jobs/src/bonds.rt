@@ -13,7 +13,7 @@ fn no_number() -> f64
     0.0 / 0.0
 }
 
-fn number_or_nan(number: Number) -> f64
+pub(crate) fn number_or_nan(number: Number) -> f64
     ensures { λ r. ⌜ r ≡ numberOr (numberOutcome number) ⌝ }
 {
     match number {

@@ -1,6 +1,7 @@
-// What the bench links, over plain numbers: a loan opened and drawn once, a bond's price and yield, exp.
+// What the bench links, over plain numbers: a loan opened and drawn once, a bond's price and yield, exp, a pool's months and price.
 mod bonds;
 mod exps;
+mod pools;
 
 ghost use mathlib.Core.Path.{_≡_};
 ghost use Rattle.mortgage.specs.Payment.{opened, openedWith, openingOutcome};
