@@ -5,5 +5,6 @@ pub mod ItemLine
 pub mod SpreadVerdict
 pub mod KeptRates
 pub mod Halvings
+pub mod Gathering
 pub mod Tight
 pub mod Exactly
