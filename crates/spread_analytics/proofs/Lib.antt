@@ -6,5 +6,6 @@ pub mod SpreadVerdict
 pub mod KeptRates
 pub mod Halvings
 pub mod Gathering
+pub mod Enter
 pub mod Tight
 pub mod Exactly
