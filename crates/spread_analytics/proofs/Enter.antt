@@ -16,7 +16,7 @@ use types.Run.{init, enter, alloc1, alloc0, params1, pass1, pass0}
 
 -- the entry of a function of 7 locals and 4 parameters, at any types and any body: antt's kernel is slow where the body is written out
 module _ {M : Type 1} (𝓤 : URA M) (H : Heap 𝓤) (A : Atoms 𝓤) (W : Given 𝓤 H A) (C : Calls 𝓤 H) (Λ : Loops 𝓤 H) (body : Body) (τ₀ τ₁ τ₂ τ₃ τ₄ τ₅ τ₆ : Ty) (v₁ v₂ v₃ v₄ : Val) (Γ : List (Item 𝓤)) (Post : Val → SProp 𝓤) where
-  abbrev fn-7-4 : ℕ → List (ℕ × ℕ) → Fn
+  abbrev pub fn-7-4 : ℕ → List (ℕ × ℕ) → Fn
   fn-7-4 k bs = record { lifetimes = k; outlives = bs; params = 4; locals = local τ₀ valueLocal ∷ local τ₁ valueLocal ∷ local τ₂ valueLocal ∷ local τ₃ valueLocal ∷ local τ₄ valueLocal ∷ local τ₅ valueLocal ∷ local τ₆ valueLocal ∷ []; body = body }
 
   abbrev env-7-4 : ℕ → ℕ → ℕ → ℕ → ℕ → ℕ → ℕ → Env 𝓤 H

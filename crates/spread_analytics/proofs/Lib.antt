@@ -7,5 +7,6 @@ pub mod KeptRates
 pub mod Halvings
 pub mod Gathering
 pub mod Enter
+pub mod ThinWalk
 pub mod Tight
 pub mod Exactly

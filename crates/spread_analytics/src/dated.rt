@@ -25,7 +25,7 @@ pub struct CashFlow {
 }
 
 // Room of our own for the two lists.
-struct Lists {
+pub(crate) struct Lists {
     times: [f64; 1200],
     amounts: [f64; 1200],
 }
@@ -109,7 +109,7 @@ fn sensitivity_of_lists(lists: Lists, count: usize, tenors: &[f64], rates: &[f64
 }
 
 // The flows in room of our own; none where there are too many.
-fn gathered(flows: &[CashFlow]) -> Lists
+pub(crate) fn gathered(flows: &[CashFlow]) -> Lists
     ensures {
         λ l. ⌜ (length (l .times) ≡ 1200) × (length (l .amounts) ≡ 1200)
             × (length (now (flows .entry)) ≤ 1200 → (take (length (now (flows .entry))) (l .times) ≡ timesOf (now (flows .entry))) × (take (length (now (flows .entry))) (l .amounts) ≡ amountsOf (now (flows .entry)))) ⌝
