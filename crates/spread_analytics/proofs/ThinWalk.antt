@@ -53,6 +53,22 @@ flows-ty = sliceTy (tyRef (named 0) imm (pointee (T.the-row .written)))
 abbrev pub floats-ty : ℕ → Ty
 floats-ty k = sliceTy (tyRef (named k) imm (tyFloat binary64))
 
+-- ---- a lent list's machine value, what a lent list owns, and the tokens of lifetimes
+abbrev pub sliceOf : {X : Type 0} → RefT (List X) → Val
+sliceOf x = sliceVal (x .ptr) (length (x .now))
+
+abbrev pub flowsOwn : Lft → RefT (List CashFlow) → Fml
+flowsOwn κ x = ShrSlice (named 0) κ T.the-row .own x (sliceOf x ∷ [])
+
+abbrev pub floatsOwn : ℕ → Lft → RefT (List Float) → Fml
+floatsOwn k κ x = ShrSlice (named k) κ f64 .own x (sliceOf x ∷ [])
+
+abbrev pub oneToken : {M : Type 1} (𝓤 : URA M) → Lft → Share → Item 𝓤
+oneToken 𝓤 κ q = ‵ (flft κ q) ⊛ ‵ ftrue
+
+abbrev pub twoTokens : {M : Type 1} (𝓤 : URA M) → Lft → Lft → Share → Share → Item 𝓤
+twoTokens 𝓤 κ κ′ q q′ = ‵ (flft κ q) ⊛ (‵ (flft κ′ q′) ⊛ ‵ ftrue)
+
 -- ---- the code: the flows are gathered, and the function k is asked
 abbrev asking : Name → Body
 asking k =
@@ -72,29 +88,28 @@ module _ {M : Type 1} (𝓤 : URA M) (H : Heap 𝓤) (A : Atoms 𝓤) (W : Given
   xs = now x₀
 
   abbrev v₀ : Val
-  v₀ = sliceVal (x₀ .ptr) (length xs)
+  v₀ = sliceOf x₀
 
   abbrev v₁ : Val
-  v₁ = sliceVal (x₁ .ptr) (length (x₁ .now))
+  v₁ = sliceOf x₁
 
   abbrev v₂ : Val
-  v₂ = sliceVal (x₂ .ptr) (length (x₂ .now))
+  v₂ = sliceOf x₂
 
-  -- what the three lists own, and the tokens of their lifetimes
   abbrev F₀ : Fml
-  F₀ = ShrSlice (named 0) κ₀ T.the-row .own x₀ (v₀ ∷ [])
+  F₀ = flowsOwn κ₀ x₀
 
   abbrev F₁ : Fml
-  F₁ = ShrSlice (named 1) κ₁ f64 .own x₁ (v₁ ∷ [])
+  F₁ = floatsOwn 1 κ₁ x₁
 
   abbrev F₂ : Fml
-  F₂ = ShrSlice (named 2) κ₂ f64 .own x₂ (v₂ ∷ [])
+  F₂ = floatsOwn 2 κ₂ x₂
 
   abbrev T₀ : Item 𝓤
-  T₀ = ‵ (flft κ₀ q₀) ⊛ ‵ ftrue
+  T₀ = oneToken 𝓤 κ₀ q₀
 
   abbrev T₁₂ : Item 𝓤
-  T₁₂ = ‵ (flft κ₁ q₁) ⊛ (‵ (flft κ₂ q₂) ⊛ ‵ ftrue)
+  T₁₂ = twoTokens 𝓤 κ₁ κ₂ q₁ q₂
 
   -- ---- the call of `gathered`
   abbrev to-gathered : Gathers 𝓤 H A mem run .Ghost
