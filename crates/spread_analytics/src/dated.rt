@@ -51,10 +51,8 @@ fn taken(count: usize) -> usize
 
 // What more than 1,200 flows are refused with: the curve's own refusal, and else line 7.
 fn refused_for_count(tenors: &[f64], rates: &[f64]) -> Refusal
-    ensures {
-        λ r. ⌜ ((times amounts : List Float) (bad : Bool) → length times ≡ length amounts → 1200 < length times
-            → _≡_ {A = Outcome Unit} (refused (r .number) (r .place)) (judged (spreadLines times amounts (now (tenors .entry)) (now (rates .entry)) bad) tt)) ⌝
-    }
+    ensures { λ r. ⌜ ((times amounts : List Float) (bad : Bool) → length times ≡ length amounts → 1200 < length times
+        → _≡_ {A = Outcome Unit} (refused (r .number) (r .place)) (judged (spreadLines times amounts (now (tenors .entry)) (now (rates .entry)) bad) tt)) ⌝ }
 {
     match yield_curve::curve::judge_curve(tenors, rates) {
         Verdict::Refused(refusal) => refusal,
@@ -63,12 +61,16 @@ fn refused_for_count(tenors: &[f64], rates: &[f64]) -> Refusal
 }
 
 // The core over so many of two lists, for whatever flows they were gathered from.
-fn pv_of_lists(lists: Lists, count: usize, tenors: &[f64], rates: &[f64], spread: BasisPoints) -> Number
+fn pv_of_lists(
+    lists: Lists,
+    count: usize,
+    tenors: &[f64],
+    rates: &[f64],
+    spread: BasisPoints,
+) -> Number
     requires { ⌜ (length (lists .times) ≡ 1200) × (length (lists .amounts) ≡ 1200) ⌝ }
-    ensures {
-        λ r. ⌜ ((flows : List CashFlow) → length flows ≡ count → (length flows ≤ 1200 → (take (length flows) (lists .times) ≡ timesOf flows) × (take (length flows) (lists .amounts) ≡ amountsOf flows))
-            → numberOutcome r ≡ pvCashFlows (timesOf flows) (amountsOf flows) (now (tenors .entry)) (now (rates .entry)) (spread .0)) ⌝
-    }
+    ensures { λ r. ⌜ ((flows : List CashFlow) → length flows ≡ count → (length flows ≤ 1200 → (take (length flows) (lists .times) ≡ timesOf flows) × (take (length flows) (lists .amounts) ≡ amountsOf flows))
+        → numberOutcome r ≡ pvCashFlows (timesOf flows) (amountsOf flows) (now (tenors .entry)) (now (rates .entry)) (spread .0)) ⌝ }
 {
     if count > 1200 {
         return Number::Refused(refused_for_count(tenors, rates));
@@ -78,12 +80,16 @@ fn pv_of_lists(lists: Lists, count: usize, tenors: &[f64], rates: &[f64], spread
     crate::spread::pv_cash_flows(&times[..count], &amounts[..count], tenors, rates, spread)
 }
 
-fn z_spread_of_lists(lists: Lists, count: usize, tenors: &[f64], rates: &[f64], market: f64) -> SpreadAnswer
+fn z_spread_of_lists(
+    lists: Lists,
+    count: usize,
+    tenors: &[f64],
+    rates: &[f64],
+    market: f64,
+) -> SpreadAnswer
     requires { ⌜ (length (lists .times) ≡ 1200) × (length (lists .amounts) ≡ 1200) ⌝ }
-    ensures {
-        λ r. ⌜ ((flows : List CashFlow) → length flows ≡ count → (length flows ≤ 1200 → (take (length flows) (lists .times) ≡ timesOf flows) × (take (length flows) (lists .amounts) ≡ amountsOf flows))
-            → spreadOutcome r ≡ zSpread (timesOf flows) (amountsOf flows) (now (tenors .entry)) (now (rates .entry)) market) ⌝
-    }
+    ensures { λ r. ⌜ ((flows : List CashFlow) → length flows ≡ count → (length flows ≤ 1200 → (take (length flows) (lists .times) ≡ timesOf flows) × (take (length flows) (lists .amounts) ≡ amountsOf flows))
+        → spreadOutcome r ≡ zSpread (timesOf flows) (amountsOf flows) (now (tenors .entry)) (now (rates .entry)) market) ⌝ }
 {
     if count > 1200 {
         return SpreadAnswer::Refused(refused_for_count(tenors, rates));
@@ -93,12 +99,16 @@ fn z_spread_of_lists(lists: Lists, count: usize, tenors: &[f64], rates: &[f64], 
     crate::spread::z_spread(&times[..count], &amounts[..count], tenors, rates, market)
 }
 
-fn sensitivity_of_lists(lists: Lists, count: usize, tenors: &[f64], rates: &[f64], spread: BasisPoints) -> SensitivityAnswer
+fn sensitivity_of_lists(
+    lists: Lists,
+    count: usize,
+    tenors: &[f64],
+    rates: &[f64],
+    spread: BasisPoints,
+) -> SensitivityAnswer
     requires { ⌜ (length (lists .times) ≡ 1200) × (length (lists .amounts) ≡ 1200) ⌝ }
-    ensures {
-        λ r. ⌜ ((flows : List CashFlow) → length flows ≡ count → (length flows ≤ 1200 → (take (length flows) (lists .times) ≡ timesOf flows) × (take (length flows) (lists .amounts) ≡ amountsOf flows))
-            → sensitivityOutcome r ≡ durationConvexity (timesOf flows) (amountsOf flows) (now (tenors .entry)) (now (rates .entry)) (spread .0)) ⌝
-    }
+    ensures { λ r. ⌜ ((flows : List CashFlow) → length flows ≡ count → (length flows ≤ 1200 → (take (length flows) (lists .times) ≡ timesOf flows) × (take (length flows) (lists .amounts) ≡ amountsOf flows))
+        → sensitivityOutcome r ≡ durationConvexity (timesOf flows) (amountsOf flows) (now (tenors .entry)) (now (rates .entry)) (spread .0)) ⌝ }
 {
     if count > 1200 {
         return SensitivityAnswer::Refused(refused_for_count(tenors, rates));
@@ -110,10 +120,8 @@ fn sensitivity_of_lists(lists: Lists, count: usize, tenors: &[f64], rates: &[f64
 
 // The flows in room of our own; none where there are too many.
 pub(crate) fn gathered(flows: &[CashFlow]) -> Lists
-    ensures {
-        λ l. ⌜ (length (l .times) ≡ 1200) × (length (l .amounts) ≡ 1200)
-            × (length (now (flows .entry)) ≤ 1200 → (take (length (now (flows .entry))) (l .times) ≡ timesOf (now (flows .entry))) × (take (length (now (flows .entry))) (l .amounts) ≡ amountsOf (now (flows .entry)))) ⌝
-    }
+    ensures { λ l. ⌜ (length (l .times) ≡ 1200) × (length (l .amounts) ≡ 1200)
+        × (length (now (flows .entry)) ≤ 1200 → (take (length (now (flows .entry))) (l .times) ≡ timesOf (now (flows .entry))) × (take (length (now (flows .entry))) (l .amounts) ≡ amountsOf (now (flows .entry)))) ⌝ }
 {
     let n = taken(flows.len());
     let mut times = zeros();
@@ -144,7 +152,12 @@ pub fn z_spread_of(flows: &[CashFlow], tenors: &[f64], rates: &[f64], market: f6
 }
 
 // The duration and convexity of flows.
-pub fn duration_convexity_of(flows: &[CashFlow], tenors: &[f64], rates: &[f64], spread: BasisPoints) -> SensitivityAnswer
+pub fn duration_convexity_of(
+    flows: &[CashFlow],
+    tenors: &[f64],
+    rates: &[f64],
+    spread: BasisPoints,
+) -> SensitivityAnswer
     ensures { λ r. ⌜ sensitivityOutcome r ≡ durationConvexity (timesOf (now (flows .entry))) (amountsOf (now (flows .entry))) (now (tenors .entry)) (now (rates .entry)) (spread .0) ⌝ }
 {
     let lists = gathered(flows);
