@@ -5,5 +5,8 @@ pub mod ItemLine
 pub mod SpreadVerdict
 pub mod KeptRates
 pub mod Halvings
+pub mod Gathering
+pub mod Enter
+pub mod ThinWalk
 pub mod Tight
 pub mod Exactly
