@@ -3,12 +3,11 @@ use mathlib.Core.Path.{_≡_, refl, sym, ap, _∙_}
 use mathlib.Core.Bool.{Bool, true, false, cond}
 use mathlib.Core.List.{List, [], _∷_}
 use Prim.Native.Nat.{ℕ, zero, suc, _+_, _-_, _<_, _≤_}
-use native.Mathlib.Numerals.{add-one}
 use native.Mathlib.Omega.{arith}
-use lib.ListN.{length, getD, length-append, List·getD-eq-default}
+use lib.ListN.{length, length-append, List·getD-eq-default}
 use lib.Seq.{getD-append-seam}
 use lib.Ieee.{Float, nan, le}
-use Rattle.yield_curve.specs.Segments.{segmentEnding, knot, lastOf, flatOutside, Ends, endsOf}
+use Rattle.yield_curve.specs.Segments.{segmentEnding, knot, lastOf, flatOutside, endsOf}
 use Rattle.swaps.specs.Knots.{withRate}
 use Rattle.swaps.specs.Discount.{alongZeros, zeroRateOf, discountOf}
 

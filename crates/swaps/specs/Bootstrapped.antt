@@ -1,5 +1,5 @@
 -- The curve that a bootstrap hands back: in room for 120 knots, +0 beyond them, and all +0 where it is refused. Definitions only. Assumes nothing.
-use Prim.Native.Nat.{ℕ, _-_}
+use Prim.Native.Nat.{_-_}
 use mathlib.Core.List.{List, [], _++_}
 use lib.ListN.{length, replicate}
 use lib.Ieee.{Float}

@@ -1,9 +1,9 @@
 -- `swaps::bootstrap::solved_curve` meets its contract: the tenors and the solved rates stand in front of two rooms of +0. Assumes nothing.
-use mathlib.Core.Path.{_≡_, sym, ap, _∙_}
+use mathlib.Core.Path.{sym, _∙_}
 use Prim.Native.Nat.{_≤_}
 use native.Mathlib.Omega.{arith}
 use lib.ListN.{length}
-use Rattle.swaps.specs.Bootstrapped.{inRoom, curveOf}
+use Rattle.swaps.specs.Bootstrapped.{curveOf}
 use Rattle.swaps.proofs.Fronts.{of-120, counted, in-room}
 use borrow.Author.Needs.{needs}
 use Rattle.swaps.proofs.bootstrap.solved_curve.Statement.{statement}
