@@ -10,10 +10,10 @@ use lib.Dec.{ltb}
 use lib.ListN.{length, take, getD, set, replicate, length-set, length-map, length-replicate, List·getD-map}
 use lib.Seq.{take-suc, take-suc-set, take-length}
 use lib.Ieee.{Float}
-use borrow.Author.Tests.{ltb-true, ltb-false, lt-ltb, le-ltb}
+use borrow.Author.Tests.{ltb-false, lt-ltb, le-ltb}
 use Rattle.numbers.specs.Clamps.{plusZero}
-use Rattle.refusals.specs.Outcome.{Outcome, refused, accepted, Line, alone, firstOr, judged}
-use Rattle.refusals.specs.Table.{tooManyPeriods, badTime}
+use Rattle.refusals.specs.Outcome.{refused, Line, firstOr, judged}
+use Rattle.refusals.specs.Table.{tooManyPeriods}
 use Rattle.refusals.proofs.Verdicts.{verdict}
 use Rattle.spread_analytics.specs.declared.dated.CashFlow.{CashFlow}
 use Rattle.spread_analytics.specs.declared.dated.Lists.{Lists}
