@@ -7,7 +7,7 @@ use native.Mathlib.Omega.{arith}
 use lib.Ieee.{Float, binary64, add, sub, mul, div, lt, le}
 use Rattle.numbers.specs.Clamps.{plusZero}
 use Rattle.numbers.specs.Sizes.{absolute}
-use Rattle.spread_analytics.specs.Spread.{two, narrow, miss, crosses, halved, noChange, nearerEnd, spreadOf, Found, found, atEnd, lowest, highest}
+use Rattle.spread_analytics.specs.Spread.{two, narrow, miss, crosses, halved, noChange, nearerEnd, spreadOf, found, atEnd, lowest, highest}
 
 -- half way between the ends
 abbrev pub middle : Float → Float → Float

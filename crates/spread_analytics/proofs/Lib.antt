@@ -6,6 +6,7 @@ pub mod SpreadVerdict
 pub mod KeptRates
 pub mod Halvings
 pub mod Gathering
+pub mod LocalArrays
 pub mod Enter
 pub mod ThinWalk
 pub mod Tight

@@ -3,7 +3,6 @@ use mathlib.Core.Path.{_≡_, refl, sym, ap, _∙_}
 use mathlib.Core.Bool.{Bool, true, false, not, _||_}
 use mathlib.Core.List.{List, [], _∷_, _++_, map}
 use Prim.Native.Nat.{ℕ, _≤_}
-use native.Mathlib.Omega.{arith}
 use lib.Dec.{eqb, ltb}
 use lib.ListN.{length, getD}
 use lib.Ieee.{Float}
@@ -11,9 +10,9 @@ use borrow.Author.Tests.{eq-eqb, ne-eqb, eqb-true, ltb-false, not-false}
 use Rattle.refusals.specs.declared.Verdict.{Verdict}
 use Rattle.refusals.specs.declared.Verdict.the-variants as verdict-is
 use Rattle.refusals.specs.Answers.{verdictOutcome}
-use Rattle.refusals.specs.Outcome.{Outcome, refused, accepted, Line, line, alone, judged}
+use Rattle.refusals.specs.Outcome.{Outcome, refused, accepted, Line, alone}
 use Rattle.refusals.specs.Table.{unequal, tooManyPeriods, badTime, badNumber}
-use Rattle.refusals.proofs.Judging.{None, none-is, passed}
+use Rattle.refusals.proofs.Judging.{none-is, passed}
 use Rattle.refusals.proofs.Verdicts.{verdict}
 use Rattle.yield_curve.specs.Curve.{curveLines}
 use Rattle.yield_curve.proofs.CurveLines.{caused}

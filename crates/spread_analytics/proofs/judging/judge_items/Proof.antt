@@ -1,5 +1,5 @@
 -- `spread_analytics::judging::judge_items` meets its contract: what the line says of all the items is what it says from the item in hand on. Assumes nothing.
-use mathlib.Core.Path.{_≡_, sym, ap, _∙_}
+use mathlib.Core.Path.{_≡_, sym, _∙_}
 use mathlib.Core.List.{[], _∷_}
 use Prim.Native.Nat.{_-_, _≤_}
 use lib.ListN.{length}

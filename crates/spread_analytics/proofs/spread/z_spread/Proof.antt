@@ -1,7 +1,6 @@
 -- `spread_analytics::spread::z_spread` meets its contract: the verdict on the flows, the curve and the price is its answer's. Assumes nothing.
 use mathlib.Core.Path.{_∙_}
 use denote.Ref.{now}
-use Rattle.refusals.specs.Table.{badNumber}
 use Rattle.refusals.proofs.Verdicts.{refused-by, accepted-by}
 use Rattle.spread_analytics.specs.Spread.{zSpread}
 use Rattle.spread_analytics.proofs.SpreadVerdict.{flows-listed, by-price}

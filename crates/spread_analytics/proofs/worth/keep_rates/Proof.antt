@@ -1,6 +1,6 @@
 -- `spread_analytics::worth::keep_rates` meets its contract: after i turns the room holds the first i rates. Assumes nothing.
 use mathlib.Core.Path.{_≡_, refl}
-use Prim.Native.Nat.{ℕ, _-_, _<_, _≤_}
+use Prim.Native.Nat.{ℕ, _-_, _≤_}
 use lib.ListN.{length, length-set}
 use Rattle.yield_curve.specs.Segments.{knot}
 use borrow.Author.Count.{below-none}

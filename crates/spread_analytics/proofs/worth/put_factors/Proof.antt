@@ -1,5 +1,5 @@
 -- `spread_analytics::worth::put_factors` meets its contract: each exponent's exp stands in its place. Assumes nothing.
-use mathlib.Core.Path.{_≡_, sym, ap, _∙_}
+use mathlib.Core.Path.{sym, ap, _∙_}
 use mathlib.Core.List.{List, _++_}
 use Prim.Native.Nat.{_≤_}
 use lib.ListN.{length, drop}
