@@ -1,3 +1,4 @@
+pub mod FlatOutside
 pub mod LinesInParts
 pub mod Columns
 pub mod BondFlows
