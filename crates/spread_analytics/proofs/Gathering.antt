@@ -61,11 +61,17 @@ module _ (f : CashFlow → Float) where
   all-are flows few = first-are (length flows) flows (le-refl _) few ∙ ap (λ (n : ℕ). take n (map f flows)) (sym (length-map flows f)) ∙ take-length (map f flows)
 
 -- ---- both columns
+abbrev pub timeOf : CashFlow → Float
+timeOf f = f .time
+
+abbrev pub amountOf : CashFlow → Float
+amountOf f = f .amount
+
 abbrev pub timesUpTo : ℕ → List CashFlow → List Float
-timesUpTo = column (λ (f : CashFlow). f .time)
+timesUpTo = column timeOf
 
 abbrev pub amountsUpTo : ℕ → List CashFlow → List Float
-amountsUpTo = column (λ (f : CashFlow). f .amount)
+amountsUpTo = column amountOf
 
 abbrev pub upTo : ℕ → List CashFlow → Lists
 upTo k flows = record { times = timesUpTo k flows; amounts = amountsUpTo k flows }
@@ -98,9 +104,9 @@ Gathered flows lists = (length (lists .times) ≡ 1200) × (length (lists .amoun
 pub gathered-are : (flows : List CashFlow) (lists : Lists) → lists ≡ upTo (taking (length flows)) flows → Gathered flows lists
 gathered-are flows lists e =
     rw e (
-      column-length (λ (f : CashFlow). f .time) (taking (length flows)) flows,
-      column-length (λ (f : CashFlow). f .amount) (taking (length flows)) flows,
-      λ few. rw (taking-few (length flows) few) (all-are (λ (f : CashFlow). f .time) flows few, all-are (λ (f : CashFlow). f .amount) flows few),
+      column-length timeOf (taking (length flows)) flows,
+      column-length amountOf (taking (length flows)) flows,
+      λ few. rw (taking-few (length flows) few) (all-are timeOf flows few, all-are amountOf flows few),
     )
 
 -- ---- the core's answer over the rooms is its answer at the flows' lists
@@ -109,10 +115,10 @@ pub same-lists : {Answer : Type 0} (core : List Float → List Float → Answer)
 same-lists core flows lists count n few h = let g : length flows ≤ 1200 = omega arith in rw (sym n, h g .0, h g .1)
 
 pub same-length : (flows : List CashFlow) → length (timesOf flows) ≡ length (amountsOf flows)
-same-length flows = length-map flows (λ (f : CashFlow). f .time) ∙ sym (length-map flows (λ (f : CashFlow). f .amount))
+same-length flows = length-map flows timeOf ∙ sym (length-map flows amountOf)
 
 pub too-many : (flows : List CashFlow) (count : ℕ) → length flows ≡ count → 1200 < count → 1200 < length (timesOf flows)
-too-many flows count n h = rw (length-map flows (λ (f : CashFlow). f .time), n) h
+too-many flows count n h = rw (length-map flows timeOf, n) h
 
 -- line 7 has its single cause
 pub refused-7 : (times : List Float) (ls : List Line) → 1200 < length times → refused 7 0 ≡ verdict (timesLine times ∷ ls)

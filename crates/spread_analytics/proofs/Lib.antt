@@ -1,3 +1,4 @@
+pub mod FlatOutside
 pub mod LinesInParts
 pub mod Columns
 pub mod BondFlows
@@ -6,6 +7,7 @@ pub mod SpreadVerdict
 pub mod KeptRates
 pub mod Halvings
 pub mod Gathering
+pub mod LocalArrays
 pub mod Enter
 pub mod ThinWalk
 pub mod Tight

@@ -127,7 +127,10 @@ module _ {M : Type 1} (𝓤 : URA M) (H : Heap 𝓤) (A : Atoms 𝓤) (W : Given
     where
       -- what the function itself is handed
       abbrev pub Entry : List (Item 𝓤)
-      Entry = (‵ (flft κ₀ q₀) ⊛ T₁₂) ∷ ‵ (owns (ShrSlice (named 0) κ₀ T.the-row ∷ ShrSlice (named 1) κ₁ f64 ∷ ShrSlice (named 2) κ₂ f64 ∷ P ∷ []) (x₀, (x₁, (x₂, (s, tt)))) (v₀ ∷ [], (v₁ ∷ [], (v₂ ∷ [], (v₄ ∷ [], tt))))) ∷ []
+      Entry =
+          (‵ (flft κ₀ q₀) ⊛ T₁₂)
+          ∷ ‵ (owns (ShrSlice (named 0) κ₀ T.the-row ∷ ShrSlice (named 1) κ₁ f64 ∷ ShrSlice (named 2) κ₂ f64 ∷ P ∷ []) (x₀, (x₁, (x₂, (s, tt))))
+          (v₀ ∷ [], (v₁ ∷ [], (v₂ ∷ [], (v₄ ∷ [], tt))))) ∷ []
 
       abbrev pub Asked : Lists → Val → Contract 𝓤
       Asked l u = record {

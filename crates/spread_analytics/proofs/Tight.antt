@@ -1,9 +1,11 @@
 -- How tight the promises are: whatever a public function is given, any two results that its contract allows are equal, and for a bond's cash flows so are any two last states of the
--- two lent lists. Assumes nothing.
+-- two lent lists. Those over dated flows promise the same equations at the flows' two lists. Assumes nothing.
 use mathlib.Core.Path.{_≡_, sym, ap, _∙_}
 use mathlib.Core.List.{List}
 use lib.Ieee.{Float}
 use Rattle.numbers.proofs.Determined.{Determined, Settled}
+use Rattle.refusals.specs.declared.Number.{Number}
+use Rattle.refusals.specs.Answers.{numberOutcome}
 use Rattle.refusals.proofs.OneToOne.{same-refusal, number-one-to-one, count-one-to-one}
 use Rattle.spread_analytics.specs.declared.units.BasisPoints.{BasisPoints}
 use Rattle.spread_analytics.specs.declared.units.DecimalRate.{DecimalRate}
@@ -11,7 +13,9 @@ use Rattle.spread_analytics.specs.declared.spread.SpreadAnswer.{SpreadAn
 use Rattle.spread_analytics.specs.declared.spread.SpreadAnswer.the-variants as spread-is
 use Rattle.spread_analytics.specs.declared.spread.SensitivityAnswer.{SensitivityAnswer}
 use Rattle.spread_analytics.specs.declared.spread.SensitivityAnswer.the-variants as sensitivity-is
-use Rattle.spread_analytics.specs.Spread.{spreadOutcome, sensitivityOutcome}
+use Rattle.spread_analytics.specs.declared.dated.CashFlow.{CashFlow}
+use Rattle.spread_analytics.specs.Spread.{pvCashFlows, zSpread, durationConvexity, spreadOutcome, sensitivityOutcome}
+use Rattle.spread_analytics.specs.Dated.{timesOf, amountsOf}
 use Rattle.spread_analytics.proofs.units.to_decimal.Kinds as to-decimal-kinds
 use Rattle.spread_analytics.proofs.units.to_decimal.Reads as to-decimal
 use Rattle.spread_analytics.proofs.curves.rate_at.Kinds as rate-at-kinds
@@ -88,3 +92,17 @@ pub bond-cash-flows-settled : Settled 2 bond-cash-flows-kinds.ps bond-cash-flows
 bond-cash-flows-settled κs a x y w w′ p q =
     ap (λ (times : List Float). (tt, (tt, (tt, (tt, (times, (w .1 .1 .1 .1 .1 .0, tt))))))) (p .1 .0 ∙ sym (q .1 .0))
     ∙ ap (λ (amounts : List Float). (tt, (tt, (tt, (tt, (w′ .1 .1 .1 .1 .0, (amounts, tt))))))) (p .1 .1 ∙ sym (q .1 .1))
+
+-- ---- dated flows: a promise of that form leaves one result
+module _ (flows : List CashFlow) (tenors rates : List Float) (s : Float) where
+  pub pv-of-determined : (x y : Number) → numberOutcome x ≡ pvCashFlows (timesOf flows) (amountsOf flows) tenors rates s
+      → numberOutcome y ≡ pvCashFlows (timesOf flows) (amountsOf flows) tenors rates s → x ≡ y
+  pv-of-determined x y p q = number-one-to-one x y (p ∙ sym q)
+
+  pub z-spread-of-determined : (x y : SpreadAnswer) → spreadOutcome x ≡ zSpread (timesOf flows) (amountsOf flows) tenors rates s
+      → spreadOutcome y ≡ zSpread (timesOf flows) (amountsOf flows) tenors rates s → x ≡ y
+  z-spread-of-determined x y p q = spread-one-to-one x y (p ∙ sym q)
+
+  pub duration-convexity-of-determined : (x y : SensitivityAnswer) → sensitivityOutcome x ≡ durationConvexity (timesOf flows) (amountsOf flows) tenors rates s
+      → sensitivityOutcome y ≡ durationConvexity (timesOf flows) (amountsOf flows) tenors rates s → x ≡ y
+  duration-convexity-of-determined x y p q = sensitivity-one-to-one x y (p ∙ sym q)
