@@ -1,8 +1,4 @@
-<<<<<<< HEAD
--- Assumes `Given`.
-=======
 -- The entry of a function, for any body and any types of its locals: each local is allocated and the parameters are in theirs. Assumes nothing.
->>>>>>> 4dc47bc6695af3fcdab6403fce3808fbf3a1a42a
 use mathlib.Core.Path.{refl}
 use Prim.Native.Nat.{ℕ}
 use mathlib.Core.List.{List, [], _∷_}
