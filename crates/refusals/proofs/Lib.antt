@@ -1,4 +1,5 @@
 pub mod Judging
 pub mod Verdicts
+pub mod LaterLines
 pub mod OneToOne
 pub mod Tight

@@ -1,4 +1,3 @@
-pub mod LaterLines
 pub mod PaymentSums
 pub mod Writing
 pub mod Values

@@ -6,7 +6,7 @@ use Rattle.refusals.specs.Outcome.{Line, line}
 use Rattle.bond.specs.declared.Bond.{Bond}
 use Rattle.bond.specs.Bonds.{bondLines}
 use Rattle.bond.specs.Yield.{noBracket, yieldToMaturity}
-use Rattle.bond.proofs.MoreLines.{refused-first, accepted-first}
+use Rattle.refusals.proofs.LaterLines.{refused-first, accepted-first}
 use borrow.Author.Needs.{needs}
 use Rattle.bond.proofs.yields.yield_to_maturity.Statement.{statement}
 use Rattle.bond.proofs.yields.yield_to_maturity.Tie as tie

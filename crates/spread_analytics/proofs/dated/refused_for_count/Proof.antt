@@ -4,7 +4,7 @@ use mathlib.Core.List.{[], _∷_}
 use denote.Ref.{now}
 use Rattle.refusals.proofs.Verdicts.{refused-as}
 use Rattle.yield_curve.specs.Curve.{curveLines}
-use Rattle.spread_analytics.proofs.LinesInParts.{refused-first, accepted-first}
+use Rattle.refusals.proofs.LaterLines.{refused-first, accepted-first}
 use Rattle.spread_analytics.proofs.SpreadVerdict.{timesLine, amountsLine, in-parts}
 use Rattle.spread_analytics.proofs.Gathering.{refused-7}
 use borrow.Author.Needs.{needs}

@@ -3,7 +3,7 @@ use mathlib.Core.Path.{sym, ap, _∙_}
 use mathlib.Core.List.{[], _∷_}
 use denote.Ref.{now}
 use Rattle.refusals.specs.Answers.{verdictOutcome}
-use Rattle.spread_analytics.proofs.LinesInParts.{refused-first, accepted-first}
+use Rattle.refusals.proofs.LaterLines.{refused-first, accepted-first}
 use Rattle.spread_analytics.proofs.SpreadVerdict.{timesLine, amountsLine, times-line, at-most-1200}
 use borrow.Author.Needs.{needs}
 use native.Mathlib.Omega.{arith}

@@ -2,7 +2,7 @@
 use mathlib.Core.Path.{sym, _∙_}
 use Rattle.refusals.proofs.Verdicts.{refused-as}
 use Rattle.yield_curve.proofs.CurveLines.{caused, clear}
-use Rattle.swaps.proofs.LaterLines.{refused-first, accepted-first}
+use Rattle.refusals.proofs.LaterLines.{refused-first, accepted-first}
 use borrow.Author.Needs.{needs}
 use Rattle.swaps.proofs.judging.judge_swap.Statement.{statement}
 use Rattle.swaps.proofs.judging.judge_swap.Tie as tie
