@@ -19,7 +19,7 @@ use Rattle.mortgage.specs.Rows.{after}
 use Rattle.mortgage.specs.Totals.{balanceAfter}
 use Rattle.mortgage.proofs.RowLaws.{end-after, rate-after, payment-after, done-after, within}
 use Rattle.pool.specs.declared.months.Month.{Month}
-use Rattle.pool.specs.Months.{flowsOn, plus, balanceBefore, withLoan}
+use Rattle.pool.specs.Months.{loanMonth, plus, balanceBefore, withLoan}
 use Rattle.pool.proofs.Each.{neither}
 use Rattle.pool.proofs.Signs.{above-not-at-most, at-most, zero-at-most}
 
@@ -53,7 +53,7 @@ module _ (t : Terms) (k : ℕ) (b : Float) (due : k < t .term) (carried : b ≡ 
 
   pub adds : (s : Month) (v p : Float) → lt plusZero b ≡ true → p ≡ lowered (raised (sub binary64 (payment t) (mul binary64 b (monthlyRate (t .rate))))) b
       → withLoan s t (suc k) v ≡ plus s (record { principal = p; interest = mul binary64 b (monthlyRate (t .rate)); prepayment = mul binary64 (sub binary64 b p) v })
-  unfolding withLoan balanceBefore flowsOn
+  unfolding withLoan balanceBefore loanMonth
   adds s v p h ep =
       let g : lt plusZero (after k (loanOf t (payment t)) .balance) ≡ true = rw (sym carried) h in
       let e : balanceAfter (loanOf t (payment t)) k ≡ b = shown-above (loanOf t (payment t)) k g ∙ sym carried in
@@ -84,6 +84,11 @@ module _ (t : Terms) (k : ℕ) (b : Float) (due : k < t .term) (carried : b ≡ 
 
       payment-loan : after k (loanOf t (payment t)) .payment ≡ payment t
       payment-loan = payment-after k (loanOf t (payment t)) ∙ payment-of t (payment t)
+
+  -- the balance that a month hands on is the schedule's before the next month
+  pub handed-on : (v : Float) → k + 1 < t .term → loanMonth t b v .1 ≡ after (k + 1) (loanOf t (payment t)) .balance
+  unfolding loanMonth
+  handed-on v = next-balance (lowered (raised (sub binary64 (payment t) (mul binary64 b (monthlyRate (t .rate))))) b) refl
 
   -- ---- as a turn of the code has it: `pay` is the payment, `p` the month's principal
   module _ (pay : Float) (is : pay ≡ payment t) where

@@ -10,12 +10,13 @@ use Rattle.mortgage.specs.Payment.{monthlyRate, payment, loanOf}
 use Rattle.mortgage.specs.Totals.{balanceAfter}
 use Rattle.pool.specs.declared.months.Month.{Month}
 
--- scheduled principal, interest and prepayment of a balance at a speed: "each loan's scheduled balance, which earlier prepayments do not lower"
-unfoldable pub flowsOn : Terms → Float → Float → Month
-flowsOn t balance speed =
+-- a loan's month: its balance goes in, scheduled principal, interest and prepayment at a speed come out, and the balance of the next month: "each loan's scheduled balance, which earlier prepayments do not lower"
+unfoldable pub loanMonth : Terms → Float → Float → Month × Float
+loanMonth t balance speed =
     let interest : Float = mul binary64 balance (monthlyRate (t .rate)) in
     let scheduled : Float = lowered (raised (sub binary64 (payment t) interest)) balance in
-    record { principal = scheduled; interest = interest; prepayment = mul binary64 (sub binary64 balance scheduled) speed }
+    let left : Float = sub binary64 balance scheduled in
+    (record { principal = scheduled; interest = interest; prepayment = mul binary64 left speed }, left)
 
 abbrev pub nothing : Month
 nothing = record { principal = plusZero; interest = plusZero; prepayment = plusZero }
@@ -35,7 +36,7 @@ balanceBefore t (suc k) = balanceAfter (loanOf t (payment t)) k
 
 unfoldable pub withLoan : Month → Terms → ℕ → Float → Month
 withLoan s t month speed =
-    cond (ltb (t .term) month) s (cond (le (balanceBefore t month) plusZero) s (plus s (flowsOn t (balanceBefore t month) speed)))
+    cond (ltb (t .term) month) s (cond (le (balanceBefore t month) plusZero) s (plus s (loanMonth t (balanceBefore t month) speed .0)))
 
 -- the pool's month: loan by loan, left to right from +0
 unfoldable pub monthOf : List Terms → Month → ℕ → Float → Month
