@@ -4,6 +4,7 @@ pub mod Tables
 pub mod Horners
 pub mod Sizes
 pub mod Values
+pub mod Unrounded
 pub mod Patterns
 pub mod Roundings
 pub mod Bounds

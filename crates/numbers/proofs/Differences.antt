@@ -89,7 +89,7 @@ two-le : (f : Format) → 2 ≤ 2 ^ prec f
 two-le binary32 = omega arith
 two-le binary64 = omega arith
 
-left-above-amounts : (f : Format) (x y : Float) → T (amount f x) → T (amount f y) → T (lt y x) → T (lt plusZero (sub f x y))
+pub left-above-amounts : (f : Format) (x y : Float) → T (amount f x) → T (amount f y) → T (lt y x) → T (lt plusZero (sub f x y))
 left-above-amounts f x y p q l =
     let g : count f y < count f x = lt-amount f y x q p .0 l in
     let d = difference f x y p q (le-of-lt g) in

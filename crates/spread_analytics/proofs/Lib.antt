@@ -1,4 +1,5 @@
 pub mod FlatOutside
+pub mod AtKnots
 pub mod LinesInParts
 pub mod Columns
 pub mod BondFlows

@@ -11,3 +11,4 @@ pub mod CodeTrips
 pub mod Exactly
 pub mod Tight
 pub mod Outside
+pub mod AtKnots

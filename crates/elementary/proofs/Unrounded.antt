@@ -1,0 +1,183 @@
+-- Where rounding changes nothing: x·1 is x, x/x is 1, and a zero added to a value other than 0 leaves it. A zero times a finite number is a zero, and so is a zero over a value other than 0.
+-- Assumes nothing.
+use mathlib.Core.Path.{_≡_, refl, sym, ap, _∙_, subst}
+use mathlib.Core.Bool.{Bool, true, false}
+use Prim.Native.Nat.{ℕ, zero, suc, _+_, _-_, _*_, _^_, _<_}
+use native.Mathlib.Nat.{mul-pos, zero-lt-suc, le-of-lt, eq-of-mul-eq-mul-right}
+use native.Mathlib.Omega.{arith}
+use lib.IntN.{ℤ, pos}
+use lib.Dec.{T, eqb}
+use lib.Ieee.{Float, nan, inf, fin, Format, binary64, low, up, down, fits, unlike, round, sum, add, mul, div, lt, sub, ofBits}
+use lib.Ieee.Exact.{round-exact}
+use lib.Ieee.Fits.{up-pos, down-pos, round-fits}
+use lib.Ieee.Scale.{finite, overflow}
+use borrow.Author.Tests.{le-ltb, lt-ltb, ne-eqb}
+use Rattle.numbers.specs.Clamps.{plusZero}
+use Rattle.numbers.specs.Units.{count}
+use Rattle.numbers.proofs.Zeros.{round-nothing}
+use Rattle.numbers.proofs.Amounts.{amount, counts, held, one-count}
+use Rattle.numbers.proofs.Order.{zero-amount, lt-amount}
+use Rattle.numbers.proofs.Differences.{difference, left-above-amounts}
+use Rattle.elementary.specs.WholePower.{one}
+use Rattle.elementary.proofs.Values.{same-value}
+
+unsigned : (f : Format) (s : Bool) (m : ℕ) (e : ℤ) → T (fits f (fin s m e)) → T (amount f (fin false m e))
+unfolding fits amount
+unsigned f s zero e t = t
+unsigned f s (suc m) e t = t
+
+-- a fraction of the size of a value that the format holds rounds to that value
+pub round-itself : (f : Format) (s : Bool) (m : ℕ) (e : ℤ) (num den : ℕ) → T (fits f (fin s m e)) → 0 < den → num * down e ≡ m * up e * den → round f s num den ≡ fin s m e
+round-itself f s m e num den t D h =
+    let a = unsigned f s m e t in
+    let k = held f (fin false m e) a in
+    let n = count f (fin false m e) in
+    let c : m * up e * 2 ^ low f ≡ n * down e = counts f (fin false m e) a .1 in
+    same-value f (round f s num den) (fin s m e) s num den (m * up e) (down e) D (down-pos e) (round-fits f s num den) t
+    (round-exact f s num den (k .digits) (k .shift) D (k .small) (subst (λ (z : ℕ). z < overflow f) (k .is) (k .below))
+    (subst (λ (z : ℕ). num * 2 ^ low f ≡ z * den) (k .is) (eq-of-mul-eq-mul-right (down e) (down-pos e) (num * 2 ^ low f) (n * den) (turn (down e) (m * up e) (2 ^ low f) n h c))))
+    (refl, refl)
+    h
+  where
+    turn : (d M L n : ℕ) → num * d ≡ M * den → M * L ≡ n * d → num * L * d ≡ n * den * d
+    turn d M L n h c = omega (arith, ap (λ (z : ℕ). z * L) h, ap (λ (z : ℕ). z * den) c)
+
+-- ---- the zeros, and values other than 0
+abbrev pub nought : Bool → Float
+nought s = fin s 0 (pos 0)
+
+abbrev pub nonzero : Float → Bool
+nonzero nan = false
+nonzero (inf s) = false
+nonzero (fin s zero e) = false
+nonzero (fin s (suc m) e) = true
+
+pub nonzero-finite : (x : Float) → T (nonzero x) → T (finite x)
+nonzero-finite nan n = n
+nonzero-finite (inf s) n = n
+nonzero-finite (fin s zero e) n = tt
+nonzero-finite (fin s (suc m) e) n = tt
+
+-- an amount above 0, and so what an amount leaves above a smaller one
+above-nonzero : (f : Format) (x : Float) → T (amount f x) → T (lt plusZero x) → T (nonzero x)
+unfolding amount
+above-nonzero f nan t h = absurd t
+above-nonzero f (inf s) t h = absurd t
+above-nonzero f (fin s zero e) t h = absurd (none (count f (fin s zero e)) (one-count f (fin s zero e) 0 ((λ u. refl), nothing (up e) (2 ^ low f) (down e))) (count f plusZero) (lt-amount f plusZero (fin s zero e) (zero-amount f) t .0 h))
+  where
+    none : (n : ℕ) → n ≡ 0 → (k : ℕ) → k < n → ⊥
+    none n z k l = omega arith
+
+    nothing : (u L d : ℕ) → 0 * u * L ≡ 0 * d
+    nothing u L d = omega arith
+above-nonzero f (fin s (suc m) e) t h = tt
+
+pub nonzero-between : (f : Format) (x y : Float) → T (amount f x) → T (amount f y) → T (lt y x) → T (nonzero (sub f x y))
+nonzero-between f x y p q l = above-nonzero f (sub f x y) (difference f x y p q (le-of-lt (lt-amount f y x q p .0 l)) .is-amount) (left-above-amounts f x y p q l)
+
+-- ---- x + 0 and 0 + x
+nothing-more : (f : Format) (s z : Bool) (A c : ℕ) → 0 < A → sum f s A z 0 c ≡ round f s A c
+unfolding sum
+nothing-more f false false A c h = ap (λ (n : ℕ). round f false n c) (omega arith)
+nothing-more f true true A c h = ap (λ (n : ℕ). round f true n c) (omega arith)
+nothing-more f false true A c h = rw (le-ltb A 0 (omega arith)) (ap (λ (n : ℕ). round f false n c) (omega arith))
+nothing-more f true false A c h = rw (le-ltb A 0 (omega arith), lt-ltb 0 A h) (ap (λ (n : ℕ). round f true n c) (omega arith))
+
+more-than-nothing : (f : Format) (z s : Bool) (A c : ℕ) → 0 < A → sum f z 0 s A c ≡ round f s A c
+unfolding sum
+more-than-nothing f false false A c h = ap (λ (n : ℕ). round f false n c) (omega arith)
+more-than-nothing f true true A c h = ap (λ (n : ℕ). round f true n c) (omega arith)
+more-than-nothing f false true A c h = rw (lt-ltb 0 A h) (ap (λ (n : ℕ). round f true n c) (omega arith))
+more-than-nothing f true false A c h = rw (lt-ltb 0 A h) (ap (λ (n : ℕ). round f false n c) (omega arith))
+
+pub add-nought : (f : Format) (x : Float) (z : Bool) → T (fits f x) → T (nonzero x) → add f x (nought z) ≡ x
+unfolding add
+add-nought f nan z t n = absurd n
+add-nought f (inf s) z t n = absurd n
+add-nought f (fin s zero e) z t n = absurd n
+add-nought f (fin s (suc m) e) z t n =
+    ap (λ (b : ℕ). sum f s (suc m * up e * 1) z b (down e * 1)) (none (down e))
+    ∙ nothing-more f s z (suc m * up e * 1) (down e * 1) (mul-pos (mul-pos (zero-lt-suc m) (up-pos e)) (zero-lt-suc 0))
+    ∙ round-itself f s (suc m) e (suc m * up e * 1) (down e * 1) t (mul-pos (down-pos e) (zero-lt-suc 0)) (turn (suc m * up e) (down e))
+  where
+    none : (d : ℕ) → 0 * 1 * d ≡ 0
+    none d = omega arith
+
+    turn : (M d : ℕ) → M * 1 * d ≡ M * (d * 1)
+    turn M d = omega arith
+
+pub nought-add : (f : Format) (z : Bool) (x : Float) → T (fits f x) → T (nonzero x) → add f (nought z) x ≡ x
+unfolding add
+nought-add f z nan t n = absurd n
+nought-add f z (inf s) t n = absurd n
+nought-add f z (fin s zero e) t n = absurd n
+nought-add f z (fin s (suc m) e) t n =
+    ap (λ (b : ℕ). sum f z b s (suc m * up e * 1) (1 * down e)) (none (down e))
+    ∙ more-than-nothing f z s (suc m * up e * 1) (1 * down e) (mul-pos (mul-pos (zero-lt-suc m) (up-pos e)) (zero-lt-suc 0))
+    ∙ round-itself f s (suc m) e (suc m * up e * 1) (1 * down e) t (mul-pos (zero-lt-suc 0) (down-pos e)) (turn (suc m * up e) (down e))
+  where
+    none : (d : ℕ) → 0 * 1 * d ≡ 0
+    none d = omega arith
+
+    turn : (M d : ℕ) → M * 1 * d ≡ M * (1 * d)
+    turn M d = omega arith
+
+-- ---- x · 1, x / x, and zeros in a product or a quotient
+one-is : one ≡ fin false 1 (pos 0)
+unfolding ofBits
+one-is = refl
+
+like : (s : Bool) → unlike s s ≡ false
+like false = refl
+like true = refl
+
+unlike-plus : (s : Bool) → unlike s false ≡ s
+unlike-plus false = refl
+unlike-plus true = refl
+
+not-none : (m : ℕ) → eqb (suc m) 0 ≡ false
+not-none m = ne-eqb (suc m) 0 (λ h. omega arith)
+
+pub mul-one : (x : Float) → T (fits binary64 x) → T (finite x) → mul binary64 x one ≡ x
+unfolding mul
+mul-one nan t h = absurd h
+mul-one (inf s) t h = absurd h
+mul-one (fin s m e) t h =
+    ap (mul binary64 (fin s m e)) one-is
+    ∙ ap (λ (b : Bool). round binary64 b (m * up e * (1 * 1)) (down e * 1)) (unlike-plus s)
+    ∙ round-itself binary64 s m e (m * up e * (1 * 1)) (down e * 1) t (mul-pos (down-pos e) (zero-lt-suc 0)) (turn (m * up e) (down e))
+  where
+    turn : (M d : ℕ) → M * (1 * 1) * d ≡ M * (d * 1)
+    turn M d = omega arith
+
+pub div-itself : (x : Float) → T (nonzero x) → div binary64 x x ≡ one
+unfolding div fits
+div-itself nan n = absurd n
+div-itself (inf s) n = absurd n
+div-itself (fin s zero e) n = absurd n
+div-itself (fin s (suc m) e) n =
+    rw (not-none m) (ap (λ (b : Bool). round binary64 b (suc m * up e * down e) (suc m * up e * down e)) (like s)
+    ∙ round-itself binary64 false 1 (pos 0) (suc m * up e * down e) (suc m * up e * down e) tt (mul-pos (mul-pos (zero-lt-suc m) (up-pos e)) (down-pos e)) (turn (suc m * up e * down e))
+    ∙ sym one-is)
+  where
+    turn : (M : ℕ) → M * 1 ≡ 1 * 1 * M
+    turn M = omega arith
+
+pub mul-nought : (f : Format) (x : Float) (z : Bool) → T (finite x) → (u : Bool) × (mul f x (nought z) ≡ nought u)
+unfolding mul
+mul-nought f nan z h = absurd h
+mul-nought f (inf s) z h = absurd h
+mul-nought f (fin s m e) z h = (unlike s z, ap (λ (n : ℕ). round f (unlike s z) n (down e * 1)) (none (m * up e)) ∙ round-nothing f (unlike s z) (down e * 1) (mul-pos (down-pos e) (zero-lt-suc 0)))
+  where
+    none : (M : ℕ) → M * (0 * 1) ≡ 0
+    none M = omega arith
+
+pub nought-over : (f : Format) (z : Bool) (x : Float) → T (nonzero x) → (u : Bool) × (div f (nought z) x ≡ nought u)
+unfolding div
+nought-over f z nan n = absurd n
+nought-over f z (inf s) n = absurd n
+nought-over f z (fin s zero e) n = absurd n
+nought-over f z (fin s (suc m) e) n = (unlike z s, rw (not-none m) (ap (λ (n : ℕ). round f (unlike z s) n (suc m * up e * 1)) (none (down e)) ∙ round-nothing f (unlike z s) (suc m * up e * 1) (mul-pos (mul-pos (zero-lt-suc m) (up-pos e)) (zero-lt-suc 0))))
+  where
+    none : (d : ℕ) → 0 * 1 * d ≡ 0
+    none d = omega arith
