@@ -141,6 +141,7 @@ module _ {Value Places : Type 0} (laid : Value → Places) (core : List Float �
       → ((times amounts : List Float) → ¬ (length times ≡ length amounts) → refused 4 0 ≡ core times amounts tenors rates asked)
       → ¬ (length xs % 2 ≡ 0) → (r .number ≡ 4) × (r .place ≡ 0) → result ≡ refusalResult (r .number) (r .place)
       → (result, before) ≡ told laid (core (timesIn xs) (amountsIn xs) tenors rates asked) before
+  unfolding told
   told-odd result r refuses odd is-4 e =
       let differ : ¬ (length (timesIn xs) ≡ length (amountsIn xs)) = λ same. omega (arith, times-length xs, amounts-length xs) in
       rw (e, sym (refused-as 4 r _ is-4 (refuses (timesIn xs) (amountsIn xs) differ)))

@@ -1,6 +1,6 @@
 -- A bond as its record holds it. Definitions only. Assumes nothing.
 use Prim.Native.Nat.{ℕ}
-use mathlib.Core.Bool.{cond, _||_}
+use mathlib.Core.Bool.{_||_}
 use mathlib.Core.List.{List, [], _∷_}
 use lib.Ieee.{Float}
 use Rattle.refusals.specs.Outcome.{Outcome, refused, accepted, Line, line, andThen, judged}
@@ -8,13 +8,17 @@ use Rattle.refusals.specs.Table.{badAmount, badTime, badNumber}
 use Rattle.records.specs.declared.BondRecord.{BondRecord}
 use Rattle.records.specs.Kinds.{bondFields}
 use Rattle.bond.specs.declared.Bond.{Bond}
+use Rattle.bond.specs.declared.Frequency.{Frequency}
 use Rattle.bond.specs.Codes.{frequencyAt, badCode}
 use Rattle.senyolanda.specs.declared.bonds.BondIn.{BondIn}
 use Rattle.senyolanda.specs.declared.bonds.BondIn.the-variants as bond-is
-use Rattle.senyolanda.specs.Told.{codeRefused}
+use Rattle.senyolanda.specs.Told.{coded}
+
+abbrev pub paidEach : Frequency → BondRecord → Bond
+paidEach f b = record { face = b .face; coupon = b .coupon; maturity = b .maturity; frequency = f }
 
 abbrev pub bondOf : BondRecord → Bond
-bondOf b = record { face = b .face; coupon = b .coupon; maturity = b .maturity; frequency = frequencyAt (b .frequency) }
+bondOf b = paidEach (frequencyAt (b .frequency)) b
 
 -- of a bond whose frequency nobody knows no periods are known: 7 is for a maturity that is not finite alone
 abbrev pub uncodedLines : BondRecord → Float → List Line
@@ -25,7 +29,7 @@ uncodedLines b beside =
 unfoldable pub bondRead : List ℕ → Float → Outcome Bond
 bondRead bytes beside =
     andThen (bondFields bytes)
-    (λ (b : BondRecord). cond (badCode (b .frequency)) (codeRefused (judged (uncodedLines b beside) tt)) (accepted (bondOf b)))
+    (λ (b : BondRecord). coded (badCode (b .frequency)) (judged (uncodedLines b beside) tt) (bondOf b))
 
 -- what is asked of it
 abbrev pub ofBond : List ℕ → Float → (Bond → Outcome Float) → Outcome Float

@@ -1,13 +1,12 @@
 -- A Nelson-Siegel model as four numbers, and its metrics as three. Definitions only. Assumes nothing.
 use mathlib.Core.List.{List, [], _∷_}
 use lib.ListN.{getD}
-use lib.Ieee.{Float}
-use Rattle.numbers.specs.Clamps.{plusZero}
+use lib.Ieee.{Float, nan}
 use Rattle.yield_curve.specs.declared.nelson_siegel.NelsonSiegel.{NelsonSiegel}
 use Rattle.yield_curve.specs.declared.nelson_siegel.CurveMetrics.{CurveMetrics}
 
 abbrev pub modelOf : List Float → NelsonSiegel
-modelOf numbers = record { beta0 = getD numbers 0 plusZero; beta1 = getD numbers 1 plusZero; beta2 = getD numbers 2 plusZero; decay = getD numbers 3 plusZero }
+modelOf numbers = record { beta0 = getD numbers 0 nan; beta1 = getD numbers 1 nan; beta2 = getD numbers 2 nan; decay = getD numbers 3 nan }
 
 abbrev pub modelNumbers : NelsonSiegel → List Float
 modelNumbers m = m .beta0 ∷ m .beta1 ∷ m .beta2 ∷ m .decay ∷ []

@@ -15,7 +15,7 @@ use Rattle.pool.specs.Speed.{smm}
 use Rattle.pool.specs.Flows.{tooLittle, cashFlows, flowsInto}
 use Rattle.senyolanda.specs.declared.pools.SpeedIn.{SpeedIn}
 use Rattle.senyolanda.specs.declared.pools.SpeedIn.the-variants as speed-is
-use Rattle.senyolanda.specs.Told.{codeRefused}
+use Rattle.senyolanda.specs.Told.{coded}
 
 -- 0: CPR with its rate; 1: PSA with its factor; 2: a history, which lies beside it
 unfoldable pub speedAt : ℕ → Float → Speed
@@ -29,8 +29,7 @@ speedOf code number = judged (line 11 (badSpeed code) ∷ []) (speedAt code numb
 
 -- the speed that a pool is asked with; whether its room is too little is asked where there is room
 unfoldable pub speedFor : List ℕ → Bool → ℕ → Float → Outcome Speed
-speedFor bytes noRoom code number =
-    cond (badSpeed code) (codeRefused (placed (judged (poolLines bytes noRoom) tt))) (accepted (speedAt code number))
+speedFor bytes noRoom code number = coded (badSpeed code) (placed (judged (poolLines bytes noRoom) tt)) (speedAt code number)
 
 -- the share that is prepaid in a month
 unfoldable pub smmOf : ℕ → Float → List Float → ℕ → Outcome Float

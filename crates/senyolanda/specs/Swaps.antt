@@ -1,6 +1,6 @@
 -- A swap as its record holds it, and what a bootstrap leaves in lent room. Definitions only. Assumes nothing.
 use Prim.Native.Nat.{ℕ}
-use mathlib.Core.Bool.{Bool, not, cond}
+use mathlib.Core.Bool.{Bool, not}
 use mathlib.Core.List.{List, [], _∷_, _++_}
 use lib.Dec.{eqb}
 use lib.ListN.{length, drop}
@@ -16,22 +16,19 @@ use Rattle.swaps.specs.DayCounts.{dayFraction}
 use Rattle.swaps.specs.Swap.{swapLines}
 use Rattle.senyolanda.specs.declared.swap_values.SwapIn.{SwapIn}
 use Rattle.senyolanda.specs.declared.swap_values.SwapIn.the-variants as swap-is
-use Rattle.senyolanda.specs.Told.{codeRefused}
+use Rattle.senyolanda.specs.Told.{coded}
+
+abbrev pub countedBy : DayCount → SwapRecord → Swap
+countedBy d s = record { notional = s .notional; «fixed_rate» = s .rate; tenor = s .tenor; frequency = s .frequency; «day_count» = d }
 
 abbrev pub swapOf : SwapRecord → Swap
-swapOf s = record {
-  notional = s .notional;
-  «fixed_rate» = s .rate;
-  tenor = s .tenor;
-  frequency = s .frequency;
-  «day_count» = dayCountAt (s .count);
-}
+swapOf s = countedBy (dayCountAt (s .count)) s
 
 -- the swap of a record, over a curve of tenors and zero rates
 unfoldable pub swapRead : List ℕ → List Float → List Float → Outcome Swap
 swapRead bytes tenors zeros =
     andThen (swapFields bytes)
-    (λ (s : SwapRecord). cond (badCode (s .count)) (codeRefused (judged (swapLines (swapOf s) tenors zeros) tt)) (accepted (swapOf s)))
+    (λ (s : SwapRecord). coded (badCode (s .count)) (judged (swapLines (swapOf s) tenors zeros) tt) (swapOf s))
 
 -- what is asked of it
 abbrev pub ofSwap : {A : Type 0} → List ℕ → List Float → List Float → (Swap → Outcome A) → Outcome A

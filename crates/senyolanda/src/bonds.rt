@@ -23,19 +23,19 @@ pub(crate) enum BondIn {
 }
 
 // Lines 1, 7 and 9 of a bond whose frequency nobody knows.
-fn judge_uncoded(record: BondRecord, beside: f64) -> Verdict
-    ensures { λ r. ⌜ verdictOutcome r ≡ judged (uncodedLines «record» beside) tt ⌝ }
+fn judge_uncoded(fields: BondRecord, beside: f64) -> Verdict
+    ensures { λ r. ⌜ verdictOutcome r ≡ judged (uncodedLines fields beside) tt ⌝ }
 {
-    if refusals::bad_amount(record.face) {
+    if refusals::bad_amount(fields.face) {
         return Verdict::Refused(refusals::refuse(1));
     }
-    if yield_curve::curve::bad_time(record.maturity) {
+    if yield_curve::curve::bad_time(fields.maturity) {
         return Verdict::Refused(refusals::refuse(7));
     }
     if refusals::bad_number(beside) {
         return Verdict::Refused(refusals::refuse(9));
     }
-    if refusals::bad_number(record.coupon) {
+    if refusals::bad_number(fields.coupon) {
         return Verdict::Refused(refusals::refuse(9));
     }
     Verdict::Accepted
@@ -47,14 +47,14 @@ fn bond_in(bytes: &[u8], beside: f64) -> BondIn
 {
     match records::bond_record::bond_fields(bytes) {
         BondRead::Refused(refusal) => BondIn::Refused(refusal),
-        BondRead::Given(record) => match bond::codes::frequency_of(record.frequency) {
+        BondRead::Given(fields) => match bond::codes::frequency_of(fields.frequency) {
             FrequencyRead::Given(frequency) => BondIn::Given(Bond {
-                face: record.face,
-                coupon: record.coupon,
-                maturity: record.maturity,
+                face: fields.face,
+                coupon: fields.coupon,
+                maturity: fields.maturity,
                 frequency,
             }),
-            FrequencyRead::Refused(unknown) => match judge_uncoded(record, beside) {
+            FrequencyRead::Refused(unknown) => match judge_uncoded(fields, beside) {
                 Verdict::Refused(refusal) => BondIn::Refused(refusal),
                 Verdict::Accepted => BondIn::Refused(unknown),
             },

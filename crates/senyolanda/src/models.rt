@@ -33,10 +33,7 @@ pub extern "C" fn senyolanda_nelson_siegel_fit(
     match yield_curve::fitting::fit(times, rates) {
         FitAnswer::Refused(refusal) => refusal_result(refusal),
         FitAnswer::Given(fitted) => {
-            model[0] = fitted.beta0;
-            model[1] = fitted.beta1;
-            model[2] = fitted.beta2;
-            model[3] = fitted.decay;
+            *model = [fitted.beta0, fitted.beta1, fitted.beta2, fitted.decay];
             ACCEPTED
         }
     }
@@ -84,8 +81,6 @@ pub extern "C" fn senyolanda_nelson_siegel_metrics(model: &[f64; 4], metrics: &m
     ensures { λ r. ⌜ (r, now (metrics .exit)) ≡ always (metricsNumbers (metricsOf (modelOf (now (model .entry))))) ⌝ }
 {
     let curve = yield_curve::nelson_siegel::metrics(model_of(model));
-    metrics[0] = curve.level;
-    metrics[1] = curve.slope;
-    metrics[2] = curve.curvature;
+    *metrics = [curve.level, curve.slope, curve.curvature];
     ACCEPTED
 }

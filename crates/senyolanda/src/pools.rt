@@ -167,9 +167,7 @@ pub extern "C" fn senyolanda_pool_totals(records: &[u8], totals: &mut [f64; 3]) 
     match pool::totals::pool_totals(records) {
         TotalsAnswer::Refused(refusal) => refusal_result(refusal),
         TotalsAnswer::Given(sums) => {
-            totals[0] = sums.balance;
-            totals[1] = sums.coupon;
-            totals[2] = sums.maturity;
+            *totals = [sums.balance, sums.coupon, sums.maturity];
             ACCEPTED
         }
     }

@@ -1,8 +1,7 @@
 // Readers and writers of records, kinds 1 to 4.
 ghost use mathlib.Core.Path.{_≡_};
-ghost use mathlib.Core.Bool.{cond};
-ghost use lib.Dec.{ltb};
-ghost use Rattle.refusals.specs.Outcome.{refused, accepted};
+ghost use mathlib.Core.List.{[], _∷_};
+ghost use Rattle.refusals.specs.Outcome.{line, judged};
 ghost use Rattle.records.specs.Kinds.{readTerms, termsBytes, readBond, bondBytes, badCode, readRow, rowBytes, readSwap, swapBytes};
 ghost use Rattle.senyolanda.specs.Told.{always, told};
 ghost use Rattle.senyolanda.specs.Loans.{termsNumbers, rowNumbers};
@@ -88,7 +87,7 @@ pub extern "C" fn senyolanda_write_bond(
     frequency: u32,
     record: &mut [u8; 26],
 ) -> u64
-    ensures { λ r. ⌜ (r, now («record» .exit)) ≡ told bondBytes (cond (badCode 3 frequency) (refused 11 0) (accepted (record { face = face; coupon = coupon; maturity = maturity; frequency = frequency }))) (now («record» .entry)) ⌝ }
+    ensures { λ r. ⌜ (r, now («record» .exit)) ≡ told bondBytes (judged (line 11 (badCode 3 frequency) ∷ []) (record { face = face; coupon = coupon; maturity = maturity; frequency = frequency })) (now («record» .entry)) ⌝ }
 {
     if frequency > 3 {
         return refusal_result(refusals::refuse(11));
@@ -183,7 +182,7 @@ pub extern "C" fn senyolanda_write_swap(
     day_count: u32,
     record: &mut [u8; 30],
 ) -> u64
-    ensures { λ r. ⌜ (r, now («record» .exit)) ≡ told swapBytes (cond (badCode 2 «day_count») (refused 11 0) (accepted (record { notional = notional; rate = rate; tenor = tenor; frequency = frequency; count = «day_count» }))) (now («record» .entry)) ⌝ }
+    ensures { λ r. ⌜ (r, now («record» .exit)) ≡ told swapBytes (judged (line 11 (badCode 2 «day_count») ∷ []) (record { notional = notional; rate = rate; tenor = tenor; frequency = frequency; count = «day_count» })) (now («record» .entry)) ⌝ }
 {
     if day_count > 2 {
         return refusal_result(refusals::refuse(11));

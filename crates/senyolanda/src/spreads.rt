@@ -132,8 +132,7 @@ pub(crate) fn put_sensitivity(answer: SensitivityAnswer, sensitivity: &mut [f64;
     match answer {
         SensitivityAnswer::Refused(refusal) => refusal_result(refusal),
         SensitivityAnswer::Given(given) => {
-            sensitivity[0] = given.duration;
-            sensitivity[1] = given.convexity;
+            *sensitivity = [given.duration, given.convexity];
             ACCEPTED
         }
     }

@@ -2,13 +2,13 @@
 ghost use mathlib.Core.Path.{_≡_};
 ghost use Prim.Native.Nat.{_≤_};
 ghost use mathlib.Core.List.{_++_};
-ghost use lib.ListN.{length, take, drop};
+ghost use lib.ListN.{length, drop};
 ghost use Rattle.swaps.specs.Discount.{rateAt, discountFactor};
 ghost use Rattle.swaps.specs.Bootstrap.{fromParRates};
 ghost use Rattle.swaps.specs.Valuation.{fixedLegPv, floatingLegPv, swapNpv, parSwapRate, swapDv01, swapDuration, valueSwap, valuationOutcome};
 ghost use Rattle.swaps.specs.declared.Swap.{Swap};
 ghost use Rattle.senyolanda.specs.Told.{told, toldNumber};
-ghost use Rattle.senyolanda.specs.Swaps.{swapRead, swapInOutcome, ofSwap, isTrue, fractionOf, valuationNumbers, zerosOver};
+ghost use Rattle.senyolanda.specs.Swaps.{countedBy, swapRead, swapInOutcome, ofSwap, isTrue, fractionOf, valuationNumbers, zerosOver};
 use crate::results::ACCEPTED;
 use crate::results::put_number;
 use crate::results::refusal_result;
@@ -26,12 +26,14 @@ pub(crate) enum SwapIn {
     Given(Swap),
 }
 
-fn with_day_count(record: SwapRecord, day_count: DayCount) -> Swap {
+fn counted_by(day_count: DayCount, fields: SwapRecord) -> Swap
+    ensures { λ r. ⌜ r ≡ countedBy «day_count» fields ⌝ }
+{
     Swap {
-        notional: record.notional,
-        fixed_rate: record.rate,
-        tenor: record.tenor,
-        frequency: record.frequency,
+        notional: fields.notional,
+        fixed_rate: fields.rate,
+        tenor: fields.tenor,
+        frequency: fields.frequency,
         day_count,
     }
 }
@@ -42,10 +44,10 @@ fn swap_in(bytes: &[u8], tenors: &[f64], zeros: &[f64]) -> SwapIn
 {
     match records::swap_record::swap_fields(bytes) {
         SwapRead::Refused(refusal) => SwapIn::Refused(refusal),
-        SwapRead::Given(record) => match swaps::day_counts::day_count_of(record.count) {
-            DayCountRead::Given(day_count) => SwapIn::Given(with_day_count(record, day_count)),
+        SwapRead::Given(fields) => match swaps::day_counts::day_count_of(fields.count) {
+            DayCountRead::Given(day_count) => SwapIn::Given(counted_by(day_count, fields)),
             DayCountRead::Refused(unknown) => {
-                let swap = with_day_count(record, DayCount::Thirty360);
+                let swap = counted_by(DayCount::Thirty360, fields);
                 match swaps::judging::judge_swap(swap, tenors, zeros) {
                     Verdict::Refused(refusal) => SwapIn::Refused(refusal),
                     Verdict::Accepted => SwapIn::Refused(unknown),
@@ -76,13 +78,13 @@ pub extern "C" fn senyolanda_day_count_fraction(
     }
 }
 
-// So many numbers of a list, over those of another.
-fn copy_first(count: usize, from: &[f64; 120], to: &mut [f64; 120])
-    requires { ⌜ count ≤ 120 ⌝ }
-    ensures { λ _. ⌜ now (to .exit) ≡ take count (now (from .entry)) ++ drop count (now (to .entry)) ⌝ }
+// The numbers of a list, over the first of another.
+fn copy_over(from: &[f64], to: &mut [f64])
+    requires { ⌜ length (now from) ≤ length (now to) ⌝ }
+    ensures { λ _. ⌜ now (to .exit) ≡ now (from .entry) ++ drop (length (now (from .entry))) (now (to .entry)) ⌝ }
 {
     let mut i: usize = 0;
-    while i < count {
+    while i < from.len() {
         to[i] = from[i];
         i += 1;
     }
@@ -104,7 +106,7 @@ pub extern "C" fn senyolanda_bootstrap(
         Verdict::Refused(refusal) => refusal_result(refusal),
         Verdict::Accepted => {
             let zeros = curve.zeros;
-            copy_first(curve.knots, &zeros, zero_rates);
+            copy_over(&zeros[..curve.knots], zero_rates);
             ACCEPTED
         }
     }
@@ -245,12 +247,14 @@ fn put_valuation(answer: ValuationAnswer, valuation: &mut [f64; 6]) -> u64
     match answer {
         ValuationAnswer::Refused(refusal) => refusal_result(refusal),
         ValuationAnswer::Given(value) => {
-            valuation[0] = value.npv;
-            valuation[1] = value.fixed_pv;
-            valuation[2] = value.floating_pv;
-            valuation[3] = value.par_rate;
-            valuation[4] = value.dv01;
-            valuation[5] = value.duration;
+            *valuation = [
+                value.npv,
+                value.fixed_pv,
+                value.floating_pv,
+                value.par_rate,
+                value.dv01,
+                value.duration,
+            ];
             ACCEPTED
         }
     }

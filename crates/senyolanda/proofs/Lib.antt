@@ -1,0 +1,5 @@
+pub mod Bootstrap
+pub mod Codes
+pub mod Copied
+pub mod DatedAmounts
+pub mod Handed

@@ -1,0 +1,46 @@
+-- `senyolanda::bonds::senyolanda_bond_convexity_at_price` meets its contract. Assumes nothing.
+use mathlib.Core.Path.{sym, ap, _∙_}
+use borrow.Author.Needs.{needs}
+use Rattle.senyolanda.specs.Bonds.{bondInOutcome}
+use Rattle.senyolanda.proofs.Handed.{not-read, asked-of}
+use Rattle.senyolanda.proofs.bonds.senyolanda_bond_convexity_at_price.Statement.{statement}
+use Rattle.senyolanda.proofs.bonds.senyolanda_bond_convexity_at_price.Tie as tie
+
+bond-in-requires : tie.Need-bond-in-requires
+bond-in-requires c κs = search needs
+
+enum-known-refusal : tie.Need-enum-known-refusal
+enum-known-refusal c = search needs
+
+refusal-result-requires : tie.Need-refusal-result-requires
+refusal-result-requires c κs = search needs
+
+enum-known-bond : tie.Need-enum-known-bond
+enum-known-bond c = search needs
+
+convexity-at-price-requires : tie.Need-convexity-at-price-requires
+convexity-at-price-requires c κs = search needs
+
+put-number-requires : tie.Need-put-number-requires
+put-number-requires c κs = search needs
+
+returns : tie.Need-returns
+returns c = not-read _ _ _ _ _ _ _ (sym (ap bondInOutcome (c .before .before .refusal .given .1)) ∙ c .before .before .before .before .bond-in .ensures) (c .refusal-result .ensures)
+
+returns-2 : tie.Need-returns-2
+returns-2 c =
+    asked-of _ _ _ _ _ _ _ (sym (ap bondInOutcome (c .before .before .before .before .bond .given .1)) ∙ c .before .before .before .before .before .before .bond-in .ensures)
+    (c .put-number .ensures) (c .before .before .convexity-at-price .ensures)
+
+pub senyolanda-bond-convexity-at-price-spec : {M : Type 1} → statement M
+senyolanda-bond-convexity-at-price-spec =
+    tie.close
+    (tie.spec
+    bond-in-requires
+    enum-known-refusal
+    refusal-result-requires
+    enum-known-bond
+    convexity-at-price-requires
+    put-number-requires
+    returns
+    returns-2)

@@ -1,0 +1,26 @@
+-- `senyolanda::models::senyolanda_nelson_siegel_yield` meets its contract. Assumes nothing.
+use mathlib.Core.Path.{ap, _∙_}
+use Rattle.yield_curve.specs.declared.nelson_siegel.NelsonSiegel.{NelsonSiegel}
+use Rattle.yield_curve.specs.NelsonSiegel.{yieldAt}
+use Rattle.senyolanda.proofs.Handed.{told-as}
+use borrow.Author.Needs.{needs}
+use Rattle.senyolanda.proofs.models.senyolanda_nelson_siegel_yield.Statement.{statement}
+use Rattle.senyolanda.proofs.models.senyolanda_nelson_siegel_yield.Tie as tie
+
+model-of-requires : tie.Need-model-of-requires
+model-of-requires c κs = search needs
+
+yield-at-requires : tie.Need-yield-at-requires
+yield-at-requires c κs = search needs
+
+put-number-requires : tie.Need-put-number-requires
+put-number-requires c κs = search needs
+
+returns : tie.Need-returns
+returns c =
+    let a = c .before .before .before .before .args in
+    told-as _ _ _ _ _ (c .put-number .ensures) (c .before .before .yield-at .ensures ∙ ap (λ (m : NelsonSiegel). yieldAt m (a .t)) (c .before .before .before .model-of .ensures))
+
+pub senyolanda-nelson-siegel-yield-spec : {M : Type 1} → statement M
+senyolanda-nelson-siegel-yield-spec =
+    tie.close (tie.spec model-of-requires yield-at-requires put-number-requires returns)
