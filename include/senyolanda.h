@@ -48,7 +48,7 @@
 #include <stddef.h>
 #include <stdint.h>
 
-/* Written by the call, and overlapping nothing else that is handed over; in brackets, so many places of it. READ: so many places. */
+/* RESTRICT, and FILLED in brackets: written by the call, and overlapping nothing else that is handed over. READ: only read. */
 #ifdef __cplusplus
 #define SENYOLANDA_RESTRICT __restrict
 #define SENYOLANDA_FILLED
@@ -355,7 +355,7 @@ senyolanda_result senyolanda_pool_price(
     const uint8_t *records, size_t length, uint32_t speed, double number, const double *history, size_t history_count,
     double rate, double *SENYOLANDA_RESTRICT price);
 
-/* The part of its price that the pool loses for a rise of the rate, by prices one basis point to both sides. Refuses 1, 2, 7, 11. */
+/* The part of its price that the pool loses for a rise of the rate, by prices a basis point to both sides. Refuses 1, 2, 7, 11. */
 senyolanda_result senyolanda_pool_duration(
     const uint8_t *records, size_t length, uint32_t speed, double number, const double *history, size_t history_count,
     double rate, double *SENYOLANDA_RESTRICT duration);
@@ -380,11 +380,11 @@ senyolanda_result senyolanda_bond_dv01(
 
 /* A year's coupons over the market price; 0 for a price of almost nothing. Refuses 1, 7, 9, 11. */
 senyolanda_result senyolanda_bond_current_yield(
-    const uint8_t *record, size_t length, double market, double *SENYOLANDA_RESTRICT yield);
+    const uint8_t *record, size_t length, double market, double *SENYOLANDA_RESTRICT current);
 
 /* The yield at which the bond has the market price. Refuses 1, 7, 9, 11, 12. */
 senyolanda_result senyolanda_bond_yield_to_maturity(
-    const uint8_t *record, size_t length, double market, double *SENYOLANDA_RESTRICT yield);
+    const uint8_t *record, size_t length, double market, double *SENYOLANDA_RESTRICT ytm);
 
 /* The mean time of the bond's payments, weighed by their present values, in years. Refuses 1, 7, 9, 11. */
 senyolanda_result senyolanda_bond_macaulay_duration(
@@ -438,7 +438,7 @@ senyolanda_result senyolanda_yield_curve_forward_rate(
 /* The coupon at which a bond that pays each half year until t is worth its face. Refuses 4, 5, 6, 7. */
 senyolanda_result senyolanda_par_yield(
     const double *times, size_t times_count, const double *rates, size_t rates_count,
-    double t, double *SENYOLANDA_RESTRICT yield);
+    double t, double *SENYOLANDA_RESTRICT par);
 
 /* The Nelson-Siegel model nearest to the points, as four numbers: beta0, beta1, beta2, decay. Refuses 4, 5, 6. */
 senyolanda_result senyolanda_nelson_siegel_fit(
@@ -447,7 +447,7 @@ senyolanda_result senyolanda_nelson_siegel_fit(
 
 /* The model's yield at t. Refuses 7. */
 senyolanda_result senyolanda_nelson_siegel_yield(
-    const double model[SENYOLANDA_READ 4], double t, double *SENYOLANDA_RESTRICT yield);
+    const double model[SENYOLANDA_READ 4], double t, double *SENYOLANDA_RESTRICT rate);
 
 /* The model's forward rate at t. Refuses 7. */
 senyolanda_result senyolanda_nelson_siegel_forward_rate(
@@ -573,7 +573,8 @@ senyolanda_result senyolanda_duration_convexity(
     const double *tenors, size_t tenors_count, const double *rates, size_t rates_count,
     double points, double sensitivity[SENYOLANDA_FILLED 2]);
 
-/* The three of above over one list of dated amounts: time, amount, time, amount, .. An odd count is 4. Each refuses 4, 5, 6, 7, 9. */
+/* The three of above over one list of dated amounts: time, amount, time, amount, .. An odd count is 4: a time without an amount.
+   Each refuses 4, 5, 6, 7, 9. */
 senyolanda_result senyolanda_dated_pv(
     const double *flows, size_t flows_count,
     const double *tenors, size_t tenors_count, const double *rates, size_t rates_count,
