@@ -364,6 +364,7 @@ static enum status run(char **words) {
 }
 
 int main(int argc, char **argv) {
-    const enum status status = argc > 0 ? run(argv + 1) : fail("no arguments");
-    return written_out() ? status : fail("cannot write to standard output: %s", strerror(errno));
+    enum status status = run(argc > 0 ? argv + 1 : argv);
+    if (!written_out()) status = fail("cannot write to standard output: %s", strerror(errno));
+    return (int)status;
 }
