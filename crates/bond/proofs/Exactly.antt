@@ -7,14 +7,14 @@ use Prim.Native.Nat.{ℕ}
 use native.Mathlib.Omega.{arith}
 use lib.Ieee.{Float}
 use lib.Ieee.Scale.{finite}
-use Rattle.refusals.specs.Outcome.{Outcome, refused, accepted, Line, line, Lowest, ExactlyWhen, above}
+use Rattle.refusals.specs.Outcome.{Outcome, refused, accepted, andThen, Line, line, Lowest, ExactlyWhen, above}
 use Rattle.refusals.specs.Table.{badNumber}
 use Rattle.refusals.proofs.Judging.{exactly}
 use Rattle.bond.specs.declared.Bond.{Bond}
 use Rattle.bond.specs.Bonds.{bondLines}
 use Rattle.bond.specs.Price.{price, dv01, currentYield, zeroCouponPrice}
 use Rattle.bond.specs.Yield.{noBracket, yieldToMaturity}
-use Rattle.bond.specs.Durations.{macaulayDuration, modifiedDuration, convexity, priceChange, atYield, macaulayAtPrice, modifiedAtPrice, convexityAtPrice}
+use Rattle.bond.specs.Durations.{macaulayDuration, modifiedDuration, convexity, priceChange, macaulayAtPrice, modifiedAtPrice, convexityAtPrice}
 use Rattle.bond.specs.Codes.{badCode, frequencyOf}
 
 pub price-refused-exactly : (ytm : Float) (b : Bond) → ExactlyWhen (bondLines b ytm) (price ytm b)
@@ -62,7 +62,7 @@ price-change-refused-exactly ytm dy b = exactly _ (bondLines b ytm) tt
 -- ---- at a market price: the lines of the yield, or, where a yield is given, the lines of what is asked at it
 at-price-exactly : (asked : Float → Outcome Float) (lines : Float → List Line) → ((ytm : Float) → ExactlyWhen (lines ytm) (asked ytm))
     → (first : List Line) (o : Outcome Float) → ExactlyWhen first o → (k p : ℕ)
-    → (atYield o asked ≡ refused k p) ↔ (Lowest first k p ⊎ ((ytm : Float) × (o ≡ accepted ytm) × Lowest (lines ytm) k p))
+    → (andThen o asked ≡ refused k p) ↔ (Lowest first k p ⊎ ((ytm : Float) × (o ≡ accepted ytm) × Lowest (lines ytm) k p))
 at-price-exactly asked lines later first (refused j q) ex k p = (
   λ e. inl (ex k p .0 e),
   λ w. elim w [ inl l ↦ ex k p .1 l | inr n ↦ (let never = n .1 in let z : _≡_ {A = ℕ} 0 1 = cc in absurd (omega arith)) ],

@@ -7,7 +7,7 @@ use lib.Ieee.{Float, binary64, neg, add, mul, div, lt, ofInt}
 use Rattle.numbers.specs.Clamps.{plusZero}
 use Rattle.numbers.specs.Sizes.{absolute}
 use Rattle.numbers.specs.Sums.{addedUp}
-use Rattle.refusals.specs.Outcome.{Outcome, refused, accepted, judged}
+use Rattle.refusals.specs.Outcome.{Outcome, andThen, judged}
 use Rattle.elementary.specs.WholePower.{one, wholePower}
 use Rattle.bond.specs.declared.Bond.{Bond}
 use Rattle.bond.specs.Bonds.{couponsAYear, periodCoupon, periods, bondLines}
@@ -68,15 +68,11 @@ unfoldable pub priceChange : Float → Float → Bond → Outcome Float
 priceChange ytm dy b = judged (bondLines b ytm) (changeOf b ytm dy)
 
 -- ---- at a market price: "first needs the yield; where that is refused, the refusal is the answer"
-abbrev pub atYield : Outcome Float → (Float → Outcome Float) → Outcome Float
-atYield (refused k p) asked = refused k p
-atYield (accepted ytm) asked = asked ytm
-
 unfoldable pub macaulayAtPrice : Float → Bond → Outcome Float
-macaulayAtPrice market b = atYield (yieldToMaturity market b) (λ (ytm : Float). macaulayDuration ytm b)
+macaulayAtPrice market b = andThen (yieldToMaturity market b) (λ (ytm : Float). macaulayDuration ytm b)
 
 unfoldable pub modifiedAtPrice : Float → Bond → Outcome Float
-modifiedAtPrice market b = atYield (yieldToMaturity market b) (λ (ytm : Float). modifiedDuration ytm b)
+modifiedAtPrice market b = andThen (yieldToMaturity market b) (λ (ytm : Float). modifiedDuration ytm b)
 
 unfoldable pub convexityAtPrice : Float → Bond → Outcome Float
-convexityAtPrice market b = atYield (yieldToMaturity market b) (λ (ytm : Float). convexity ytm b)
+convexityAtPrice market b = andThen (yieldToMaturity market b) (λ (ytm : Float). convexity ytm b)

@@ -20,6 +20,8 @@ use Rattle.mortgage.proofs.opening.open_with_payment.Kinds as open-with
 use Rattle.mortgage.proofs.opening.open_with_payment.Reads as open-with-payment
 use Rattle.mortgage.proofs.opening.open.Kinds as open-kinds
 use Rattle.mortgage.proofs.opening.open.Reads as opens
+use Rattle.mortgage.proofs.rows.rows_due.Kinds as rows-due-kinds
+use Rattle.mortgage.proofs.rows.rows_due.Reads as rows-due
 use Rattle.mortgage.proofs.rows.next_row.Kinds as next-row-kinds
 use Rattle.mortgage.proofs.rows.next_row.Reads as next-row
 use Rattle.mortgage.proofs.draws.draw.Kinds as draw-kinds
@@ -68,3 +70,6 @@ draw-determined κs a x y e e′ p q = drawing-one-to-one x y (p .0 ∙ sym (q .
 -- and a draw's promise one room, the second parameter
 pub draw-room-settled : Settled 1 draw-kinds.ps draw-kinds.r draw.Post
 draw-room-settled κs a x y w w′ p q = ap (λ (l : List Float). (tt, (l, tt))) (p .1 ∙ sym (q .1))
+
+pub rows-due-determined : Determined 0 rows-due-kinds.ps rows-due-kinds.r rows-due.Post
+rows-due-determined κs a x y e e′ p q = p ∙ sym q

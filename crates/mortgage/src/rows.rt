@@ -4,7 +4,7 @@ ghost use Prim.Native.Nat.{_+_, _<_};
 ghost use mathlib.Core.Bool.{true};
 ghost use lib.Ieee.{binary64, sub, lt};
 ghost use Rattle.numbers.specs.Clamps.{plusZero};
-ghost use Rattle.mortgage.specs.RowRule.{endMonth, interestOf, rowOf, nextOf};
+ghost use Rattle.mortgage.specs.RowRule.{endMonth, due, interestOf, rowOf, nextOf};
 ghost use Rattle.mortgage.specs.Rows.{nextRow, nextOutcome};
 use crate::Loan;
 use records::Row;
@@ -27,6 +27,14 @@ pub(crate) fn end_month(loan: Loan) -> u32
     ensures { λ r. ⌜ r ≡ endMonth loan ⌝ }
 {
     loan.term
+}
+
+// The rows that are still due: none where more months are done than the loan has.
+pub fn rows_due(loan: Loan) -> u32
+    ensures { λ r. ⌜ r ≡ due loan ⌝ }
+{
+    let end = end_month(loan);
+    if end < loan.done { 0 } else { end - loan.done }
 }
 
 // The month that these amounts make; `left` is the new balance, and `shown` its column.

@@ -1,6 +1,6 @@
 // Pools of loans: prepayment speeds, months, price, duration and convexity.
 pub mod flows;
-mod loans;
+pub mod loans;
 pub mod months;
 pub mod price;
 pub mod speed;

@@ -178,7 +178,7 @@ fn judge_loans(bytes: &[u8], asked: bool, room: usize) -> Verdict
 }
 
 // Every line that a pool meets; 3 only where room is asked for.
-pub(crate) fn judge_pool(bytes: &[u8], asked: bool, room: usize) -> Verdict
+pub fn judge_pool(bytes: &[u8], asked: bool, room: usize) -> Verdict
     ensures { λ r. ⌜ verdictOutcome r ≡ placed (judged (poolLines (now (bytes .entry)) (asked && tooLittle (now (bytes .entry)) room)) tt) ⌝ }
 {
     match judge_records(bytes) {

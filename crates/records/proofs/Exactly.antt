@@ -5,7 +5,7 @@ use Prim.Native.Nat.{ℕ}
 use Rattle.refusals.specs.Outcome.{ExactlyWhen, above, line}
 use Rattle.refusals.specs.Table.{badRecord}
 use Rattle.refusals.proofs.Judging.{exactly}
-use Rattle.records.specs.Kinds.{termsKind, termsSize, termsIn, readTerms, rowKind, rowSize, rowIn, readRow, badCode, bondKind, bondSize, bondIn, readBond, swapKind, swapSize, swapIn, readSwap}
+use Rattle.records.specs.Kinds.{termsKind, termsSize, termsIn, readTerms, rowKind, rowSize, rowIn, readRow, badCode, bondKind, bondSize, bondIn, bondFields, readBond, swapKind, swapSize, swapIn, swapFields, readSwap}
 
 pub read-terms-exactly : (bytes : List ℕ) → ExactlyWhen (line 11 (badRecord termsKind termsSize bytes) ∷ []) (readTerms bytes)
 unfolding readTerms above
@@ -22,3 +22,11 @@ read-bond-exactly bytes = exactly (bondIn bytes) (line 11 (badRecord bondKind bo
 pub read-swap-exactly : (bytes : List ℕ) → ExactlyWhen (line 11 (badRecord swapKind swapSize bytes || badCode 2 (swapIn bytes .count)) ∷ []) (readSwap bytes)
 unfolding readSwap above
 read-swap-exactly bytes = exactly (swapIn bytes) (line 11 (badRecord swapKind swapSize bytes || badCode 2 (swapIn bytes .count)) ∷ []) tt
+
+pub bond-fields-exactly : (bytes : List ℕ) → ExactlyWhen (line 11 (badRecord bondKind bondSize bytes) ∷ []) (bondFields bytes)
+unfolding bondFields above
+bond-fields-exactly bytes = exactly (bondIn bytes) (line 11 (badRecord bondKind bondSize bytes) ∷ []) tt
+
+pub swap-fields-exactly : (bytes : List ℕ) → ExactlyWhen (line 11 (badRecord swapKind swapSize bytes) ∷ []) (swapFields bytes)
+unfolding swapFields above
+swap-fields-exactly bytes = exactly (swapIn bytes) (line 11 (badRecord swapKind swapSize bytes) ∷ []) tt

@@ -85,6 +85,10 @@ bondBytes b = bondKind ∷ floatBytes (b .face) ++ floatBytes (b .coupon) ++ flo
 unfoldable pub bondIn : List ℕ → BondRecord
 bondIn bytes = record { face = floatAt 1 bytes; coupon = floatAt 9 bytes; maturity = floatAt 17 bytes; frequency = getD bytes 25 0 }
 
+-- the bond of a record of this kind and length, whatever its code
+unfoldable pub bondFields : List ℕ → Outcome BondRecord
+bondFields bytes = judged (line 11 (badRecord bondKind bondSize bytes) ∷ []) (bondIn bytes)
+
 unfoldable pub readBond : List ℕ → Outcome BondRecord
 readBond bytes = judged (line 11 (badRecord bondKind bondSize bytes || badCode 3 (bondIn bytes .frequency)) ∷ []) (bondIn bytes)
 
@@ -110,6 +114,9 @@ swapIn bytes = record {
   frequency = wholeAt 25 bytes;
   count = getD bytes 29 0;
 }
+
+unfoldable pub swapFields : List ℕ → Outcome SwapRecord
+swapFields bytes = judged (line 11 (badRecord swapKind swapSize bytes) ∷ []) (swapIn bytes)
 
 unfoldable pub readSwap : List ℕ → Outcome SwapRecord
 readSwap bytes = judged (line 11 (badRecord swapKind swapSize bytes || badCode 2 (swapIn bytes .count)) ∷ []) (swapIn bytes)

@@ -1,7 +1,7 @@
 // Kind 2, a bond: 26 bytes.
 ghost use mathlib.Core.Path.{_≡_};
 ghost use lib.ListN.{length};
-ghost use Rattle.records.specs.Kinds.{bondIn, readBond, bondOutcome, bondBytes};
+ghost use Rattle.records.specs.Kinds.{bondIn, bondFields, readBond, bondOutcome, bondBytes};
 use crate::BondRead;
 use crate::BondRecord;
 use crate::bad_record;
@@ -23,6 +23,16 @@ pub fn read_bond(bytes: &[u8]) -> BondRead
         return BondRead::Refused(refusals::refuse(11));
     }
     BondRead::Given(bond)
+}
+
+// The bond that the bytes hold, whatever its frequency's code: refusal 11 is for another kind or length alone.
+pub fn bond_fields(bytes: &[u8]) -> BondRead
+    ensures { λ r. ⌜ bondOutcome r ≡ bondFields (now (bytes .entry)) ⌝ }
+{
+    if bad_record(BOND_KIND, BOND_SIZE, bytes) {
+        return BondRead::Refused(refusals::refuse(11));
+    }
+    BondRead::Given(bond_in(bytes))
 }
 
 fn bond_in(bytes: &[u8]) -> BondRecord

@@ -1,7 +1,7 @@
 // Kind 4, a swap: 30 bytes.
 ghost use mathlib.Core.Path.{_≡_};
 ghost use lib.ListN.{length};
-ghost use Rattle.records.specs.Kinds.{swapIn, readSwap, swapOutcome, swapBytes};
+ghost use Rattle.records.specs.Kinds.{swapIn, swapFields, readSwap, swapOutcome, swapBytes};
 use crate::SwapRead;
 use crate::SwapRecord;
 use crate::bad_record;
@@ -23,6 +23,16 @@ pub fn read_swap(bytes: &[u8]) -> SwapRead
         return SwapRead::Refused(refusals::refuse(11));
     }
     SwapRead::Given(swap)
+}
+
+// The swap that the bytes hold, whatever its day count's code: refusal 11 is for another kind or length alone.
+pub fn swap_fields(bytes: &[u8]) -> SwapRead
+    ensures { λ r. ⌜ swapOutcome r ≡ swapFields (now (bytes .entry)) ⌝ }
+{
+    if bad_record(SWAP_KIND, SWAP_SIZE, bytes) {
+        return SwapRead::Refused(refusals::refuse(11));
+    }
+    SwapRead::Given(swap_in(bytes))
 }
 
 fn swap_in(bytes: &[u8]) -> SwapRecord

@@ -13,6 +13,11 @@ pub data Outcome (Value : Type 0) : Type 0 where
   refused : ℕ → ℕ → Outcome Value
   accepted : Value → Outcome Value
 
+-- what is asked of a value, once it is there; where it is refused, the refusal is the answer
+abbrev pub andThen : {A B : Type 0} → Outcome A → (A → Outcome B) → Outcome B
+andThen (refused k p) asked = refused k p
+andThen (accepted v) asked = asked v
+
 -- a line of the table as one call meets it: its number, and for each place, from 0, whether its cause is there
 pub record Line : Type 0 where
   pub number : ℕ

@@ -25,9 +25,9 @@ pub struct CashFlow {
 }
 
 // Room of our own for the two lists.
-pub(crate) struct Lists {
-    times: [f64; 1200],
-    amounts: [f64; 1200],
+pub struct Lists {
+    pub times: [f64; 1200],
+    pub amounts: [f64; 1200],
 }
 
 fn zeros() -> [f64; 1200]
@@ -50,7 +50,7 @@ fn taken(count: usize) -> usize
 }
 
 // What more than 1,200 flows are refused with: the curve's own refusal, and else line 7.
-fn refused_for_count(tenors: &[f64], rates: &[f64]) -> Refusal
+pub fn refused_for_count(tenors: &[f64], rates: &[f64]) -> Refusal
     ensures { λ r. ⌜ ((times amounts : List Float) (bad : Bool) → length times ≡ length amounts → 1200 < length times
         → _≡_ {A = Outcome Unit} (refused (r .number) (r .place)) (judged (spreadLines times amounts (now (tenors .entry)) (now (rates .entry)) bad) tt)) ⌝ }
 {
@@ -61,7 +61,7 @@ fn refused_for_count(tenors: &[f64], rates: &[f64]) -> Refusal
 }
 
 // The core over so many of two lists, for whatever flows they were gathered from.
-fn pv_of_lists(
+pub fn pv_of_lists(
     lists: Lists,
     count: usize,
     tenors: &[f64],
@@ -80,7 +80,7 @@ fn pv_of_lists(
     crate::spread::pv_cash_flows(&times[..count], &amounts[..count], tenors, rates, spread)
 }
 
-fn z_spread_of_lists(
+pub fn z_spread_of_lists(
     lists: Lists,
     count: usize,
     tenors: &[f64],
@@ -99,7 +99,7 @@ fn z_spread_of_lists(
     crate::spread::z_spread(&times[..count], &amounts[..count], tenors, rates, market)
 }
 
-fn sensitivity_of_lists(
+pub fn sensitivity_of_lists(
     lists: Lists,
     count: usize,
     tenors: &[f64],

@@ -48,7 +48,7 @@ fn judge_terms(swap: Swap) -> Verdict
 }
 
 // Line 1 of the notional, lines 4, 5 and 6 of the curve, and then those of the swap's terms.
-pub(crate) fn judge_swap(swap: Swap, tenors: &[f64], zeros: &[f64]) -> Verdict
+pub fn judge_swap(swap: Swap, tenors: &[f64], zeros: &[f64]) -> Verdict
     ensures { λ r. ⌜ verdictOutcome r ≡ judged (swapLines swap (now (tenors .entry)) (now (zeros .entry))) tt ⌝ }
 {
     if refusals::bad_amount(swap.notional) {

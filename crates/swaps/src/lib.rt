@@ -2,7 +2,7 @@
 pub mod bootstrap;
 pub mod day_counts;
 pub mod discount;
-mod judging;
+pub mod judging;
 mod knots;
 pub mod legs;
 mod periods;

@@ -1,0 +1,39 @@
+-- A bond as its record holds it. Definitions only. Assumes nothing.
+use Prim.Native.Nat.{ℕ}
+use mathlib.Core.Bool.{cond, _||_}
+use mathlib.Core.List.{List, [], _∷_}
+use lib.Ieee.{Float}
+use Rattle.refusals.specs.Outcome.{Outcome, refused, accepted, Line, line, andThen, judged}
+use Rattle.refusals.specs.Table.{badAmount, badTime, badNumber}
+use Rattle.records.specs.declared.BondRecord.{BondRecord}
+use Rattle.records.specs.Kinds.{bondFields}
+use Rattle.bond.specs.declared.Bond.{Bond}
+use Rattle.bond.specs.Codes.{frequencyAt, badCode}
+use Rattle.senyolanda.specs.declared.bonds.BondIn.{BondIn}
+use Rattle.senyolanda.specs.declared.bonds.BondIn.the-variants as bond-is
+use Rattle.senyolanda.specs.Told.{codeRefused}
+
+abbrev pub bondOf : BondRecord → Bond
+bondOf b = record { face = b .face; coupon = b .coupon; maturity = b .maturity; frequency = frequencyAt (b .frequency) }
+
+-- of a bond whose frequency nobody knows no periods are known: 7 is for a maturity that is not finite alone
+abbrev pub uncodedLines : BondRecord → Float → List Line
+uncodedLines b beside =
+    line 1 (badAmount (b .face)) ∷ line 7 (badTime (b .maturity)) ∷ line 9 (badNumber beside || badNumber (b .coupon)) ∷ []
+
+-- the bond of a record that has one number beside it, a yield or a market price
+unfoldable pub bondRead : List ℕ → Float → Outcome Bond
+bondRead bytes beside =
+    andThen (bondFields bytes)
+    (λ (b : BondRecord). cond (badCode (b .frequency)) (codeRefused (judged (uncodedLines b beside) tt)) (accepted (bondOf b)))
+
+-- what is asked of it
+abbrev pub ofBond : List ℕ → Float → (Bond → Outcome Float) → Outcome Float
+ofBond bytes beside asked = andThen (bondRead bytes beside) asked
+
+abbrev pub bondNumbers : BondRecord → Float × Float × Float × ℕ
+bondNumbers b = (b .face, b .coupon, b .maturity, b .frequency)
+
+abbrev pub bondInOutcome : BondIn → Outcome Bond
+bondInOutcome (bond-is.Refused r) = refused (r .number) (r .place)
+bondInOutcome (bond-is.Given b) = accepted b

@@ -1,0 +1,200 @@
+// Readers and writers of records, kinds 1 to 4.
+ghost use mathlib.Core.Path.{_≡_};
+ghost use mathlib.Core.Bool.{cond};
+ghost use lib.Dec.{ltb};
+ghost use Rattle.refusals.specs.Outcome.{refused, accepted};
+ghost use Rattle.records.specs.Kinds.{readTerms, termsBytes, readBond, bondBytes, badCode, readRow, rowBytes, readSwap, swapBytes};
+ghost use Rattle.senyolanda.specs.Told.{always, told};
+ghost use Rattle.senyolanda.specs.Loans.{termsNumbers, rowNumbers};
+ghost use Rattle.senyolanda.specs.Bonds.{bondNumbers};
+ghost use Rattle.senyolanda.specs.Swaps.{swapNumbers};
+use crate::results::ACCEPTED;
+use crate::results::refusal_result;
+use records::BondRead;
+use records::BondRecord;
+use records::Row;
+use records::RowRead;
+use records::SwapRead;
+use records::SwapRecord;
+use records::Terms;
+use records::TermsRead;
+
+#[no_mangle]
+pub extern "C" fn senyolanda_read_loan(
+    record: &[u8],
+    principal: &mut f64,
+    rate: &mut f64,
+    term: &mut u32,
+) -> u64
+    ensures { λ r. ⌜ (r, (now (principal .exit), now (rate .exit), now (term .exit))) ≡ told termsNumbers (readTerms (now («record» .entry))) (now (principal .entry), now (rate .entry), now (term .entry)) ⌝ }
+{
+    match records::terms_record::read_terms(record) {
+        TermsRead::Refused(refusal) => refusal_result(refusal),
+        TermsRead::Given(terms) => {
+            *principal = terms.principal;
+            *rate = terms.rate;
+            *term = terms.term;
+            ACCEPTED
+        }
+    }
+}
+
+#[no_mangle]
+pub extern "C" fn senyolanda_write_loan(
+    principal: f64,
+    rate: f64,
+    term: u32,
+    record: &mut [u8; 21],
+) -> u64
+    ensures { λ r. ⌜ (r, now («record» .exit)) ≡ always (termsBytes (record { principal = principal; rate = rate; term = term })) ⌝ }
+{
+    let terms = Terms {
+        principal,
+        rate,
+        term,
+    };
+    records::terms_record::write_terms(terms, record);
+    ACCEPTED
+}
+
+#[no_mangle]
+pub extern "C" fn senyolanda_read_bond(
+    record: &[u8],
+    face: &mut f64,
+    coupon: &mut f64,
+    maturity: &mut f64,
+    frequency: &mut u32,
+) -> u64
+    ensures { λ r. ⌜ (r, (now (face .exit), now (coupon .exit), now (maturity .exit), now (frequency .exit))) ≡ told bondNumbers (readBond (now («record» .entry))) (now (face .entry), now (coupon .entry), now (maturity .entry), now (frequency .entry)) ⌝ }
+{
+    match records::bond_record::read_bond(record) {
+        BondRead::Refused(refusal) => refusal_result(refusal),
+        BondRead::Given(bond) => {
+            *face = bond.face;
+            *coupon = bond.coupon;
+            *maturity = bond.maturity;
+            *frequency = bond.frequency as u32;
+            ACCEPTED
+        }
+    }
+}
+
+// A frequency code outside 0 to 3 is line 11.
+#[no_mangle]
+pub extern "C" fn senyolanda_write_bond(
+    face: f64,
+    coupon: f64,
+    maturity: f64,
+    frequency: u32,
+    record: &mut [u8; 26],
+) -> u64
+    ensures { λ r. ⌜ (r, now («record» .exit)) ≡ told bondBytes (cond (badCode 3 frequency) (refused 11 0) (accepted (record { face = face; coupon = coupon; maturity = maturity; frequency = frequency }))) (now («record» .entry)) ⌝ }
+{
+    if frequency > 3 {
+        return refusal_result(refusals::refuse(11));
+    }
+    let bond = BondRecord {
+        face,
+        coupon,
+        maturity,
+        frequency: frequency as u8,
+    };
+    records::bond_record::write_bond(bond, record);
+    ACCEPTED
+}
+
+#[no_mangle]
+pub extern "C" fn senyolanda_read_row(
+    record: &[u8],
+    month: &mut u32,
+    payment: &mut f64,
+    principal: &mut f64,
+    interest: &mut f64,
+    balance: &mut f64,
+) -> u64
+    ensures { λ r. ⌜ (r, (now (month .exit), now (payment .exit), now (principal .exit), now (interest .exit), now (balance .exit))) ≡ told rowNumbers (readRow (now («record» .entry))) (now (month .entry), now (payment .entry), now (principal .entry), now (interest .entry), now (balance .entry)) ⌝ }
+{
+    match records::row_record::read_row(record) {
+        RowRead::Refused(refusal) => refusal_result(refusal),
+        RowRead::Given(row) => {
+            *month = row.month;
+            *payment = row.payment;
+            *principal = row.principal;
+            *interest = row.interest;
+            *balance = row.balance;
+            ACCEPTED
+        }
+    }
+}
+
+#[no_mangle]
+pub extern "C" fn senyolanda_write_row(
+    month: u32,
+    payment: f64,
+    principal: f64,
+    interest: f64,
+    balance: f64,
+    record: &mut [u8; 37],
+) -> u64
+    ensures { λ r. ⌜ (r, now («record» .exit)) ≡ always (rowBytes (record { month = month; payment = payment; principal = principal; interest = interest; balance = balance })) ⌝ }
+{
+    let row = Row {
+        month,
+        payment,
+        principal,
+        interest,
+        balance,
+    };
+    records::row_record::write_row(row, record);
+    ACCEPTED
+}
+
+#[no_mangle]
+pub extern "C" fn senyolanda_read_swap(
+    record: &[u8],
+    notional: &mut f64,
+    rate: &mut f64,
+    tenor: &mut f64,
+    frequency: &mut u32,
+    day_count: &mut u32,
+) -> u64
+    ensures { λ r. ⌜ (r, (now (notional .exit), now (rate .exit), now (tenor .exit), now (frequency .exit), now («day_count» .exit))) ≡ told swapNumbers (readSwap (now («record» .entry))) (now (notional .entry), now (rate .entry), now (tenor .entry), now (frequency .entry), now («day_count» .entry)) ⌝ }
+{
+    match records::swap_record::read_swap(record) {
+        SwapRead::Refused(refusal) => refusal_result(refusal),
+        SwapRead::Given(swap) => {
+            *notional = swap.notional;
+            *rate = swap.rate;
+            *tenor = swap.tenor;
+            *frequency = swap.frequency;
+            *day_count = swap.count as u32;
+            ACCEPTED
+        }
+    }
+}
+
+// A day count code outside 0 to 2 is line 11.
+#[no_mangle]
+pub extern "C" fn senyolanda_write_swap(
+    notional: f64,
+    rate: f64,
+    tenor: f64,
+    frequency: u32,
+    day_count: u32,
+    record: &mut [u8; 30],
+) -> u64
+    ensures { λ r. ⌜ (r, now («record» .exit)) ≡ told swapBytes (cond (badCode 2 «day_count») (refused 11 0) (accepted (record { notional = notional; rate = rate; tenor = tenor; frequency = frequency; count = «day_count» }))) (now («record» .entry)) ⌝ }
+{
+    if day_count > 2 {
+        return refusal_result(refusals::refuse(11));
+    }
+    let swap = SwapRecord {
+        notional,
+        rate,
+        tenor,
+        frequency,
+        count: day_count as u8,
+    };
+    records::swap_record::write_swap(swap, record);
+    ACCEPTED
+}

@@ -1,0 +1,277 @@
+// Swaps: a swap comes as a kind 4 record, its curve as tenors and zero rates.
+ghost use mathlib.Core.Path.{_≡_};
+ghost use Prim.Native.Nat.{_≤_};
+ghost use mathlib.Core.List.{_++_};
+ghost use lib.ListN.{length, take, drop};
+ghost use Rattle.swaps.specs.Discount.{rateAt, discountFactor};
+ghost use Rattle.swaps.specs.Bootstrap.{fromParRates};
+ghost use Rattle.swaps.specs.Valuation.{fixedLegPv, floatingLegPv, swapNpv, parSwapRate, swapDv01, swapDuration, valueSwap, valuationOutcome};
+ghost use Rattle.swaps.specs.declared.Swap.{Swap};
+ghost use Rattle.senyolanda.specs.Told.{told, toldNumber};
+ghost use Rattle.senyolanda.specs.Swaps.{swapRead, swapInOutcome, ofSwap, isTrue, fractionOf, valuationNumbers, zerosOver};
+use crate::results::ACCEPTED;
+use crate::results::put_number;
+use crate::results::refusal_result;
+use records::SwapRead;
+use records::SwapRecord;
+use refusals::Refusal;
+use refusals::Verdict;
+use swaps::Swap;
+use swaps::day_counts::DayCount;
+use swaps::day_counts::DayCountRead;
+use swaps::valuation::ValuationAnswer;
+
+pub(crate) enum SwapIn {
+    Refused(Refusal),
+    Given(Swap),
+}
+
+fn with_day_count(record: SwapRecord, day_count: DayCount) -> Swap {
+    Swap {
+        notional: record.notional,
+        fixed_rate: record.rate,
+        tenor: record.tenor,
+        frequency: record.frequency,
+        day_count,
+    }
+}
+
+// The swap of a record, over a curve. A code outside its set waits for what else the swap and the curve are refused with, which no day count changes.
+fn swap_in(bytes: &[u8], tenors: &[f64], zeros: &[f64]) -> SwapIn
+    ensures { λ r. ⌜ swapInOutcome r ≡ swapRead (now (bytes .entry)) (now (tenors .entry)) (now (zeros .entry)) ⌝ }
+{
+    match records::swap_record::swap_fields(bytes) {
+        SwapRead::Refused(refusal) => SwapIn::Refused(refusal),
+        SwapRead::Given(record) => match swaps::day_counts::day_count_of(record.count) {
+            DayCountRead::Given(day_count) => SwapIn::Given(with_day_count(record, day_count)),
+            DayCountRead::Refused(unknown) => {
+                let swap = with_day_count(record, DayCount::Thirty360);
+                match swaps::judging::judge_swap(swap, tenors, zeros) {
+                    Verdict::Refused(refusal) => SwapIn::Refused(refusal),
+                    Verdict::Accepted => SwapIn::Refused(unknown),
+                }
+            }
+        },
+    }
+}
+
+// So many days as a fraction of a year.
+#[no_mangle]
+pub extern "C" fn senyolanda_day_count_fraction(
+    day_count: u32,
+    days: u32,
+    fraction: &mut f64,
+) -> u64
+    ensures { λ r. ⌜ (r, now (fraction .exit)) ≡ toldNumber (fractionOf «day_count» days) (now (fraction .entry)) ⌝ }
+{
+    if day_count > 2 {
+        return refusal_result(refusals::refuse(11));
+    }
+    match swaps::day_counts::day_count_of(day_count as u8) {
+        DayCountRead::Refused(refusal) => refusal_result(refusal),
+        DayCountRead::Given(given) => {
+            *fraction = swaps::day_counts::day_count_fraction(given, days);
+            ACCEPTED
+        }
+    }
+}
+
+// So many numbers of a list, over those of another.
+fn copy_first(count: usize, from: &[f64; 120], to: &mut [f64; 120])
+    requires { ⌜ count ≤ 120 ⌝ }
+    ensures { λ _. ⌜ now (to .exit) ≡ take count (now (from .entry)) ++ drop count (now (to .entry)) ⌝ }
+{
+    let mut i: usize = 0;
+    while i < count {
+        to[i] = from[i];
+        i += 1;
+    }
+}
+
+// Zero rates from par rates, one for each tenor; places past the last knot stay.
+#[no_mangle]
+pub extern "C" fn senyolanda_bootstrap(
+    tenors: &[f64],
+    par_rates: &[f64],
+    zero_rates: &mut [f64; 120],
+) -> u64
+    ensures { λ r. ⌜ (r, now («zero_rates» .exit)) ≡ told (zerosOver (now («zero_rates» .entry))) (fromParRates (now (tenors .entry)) (now («par_rates» .entry))) (now («zero_rates» .entry)) ⌝ }
+{
+    let found = swaps::bootstrap::from_par_rates(tenors, par_rates);
+    let verdict = found.verdict;
+    let curve = found.curve;
+    match verdict {
+        Verdict::Refused(refusal) => refusal_result(refusal),
+        Verdict::Accepted => {
+            let zeros = curve.zeros;
+            copy_first(curve.knots, &zeros, zero_rates);
+            ACCEPTED
+        }
+    }
+}
+
+#[no_mangle]
+pub extern "C" fn senyolanda_discount_curve_rate(
+    tenors: &[f64],
+    zeros: &[f64],
+    t: f64,
+    rate: &mut f64,
+) -> u64
+    ensures { λ r. ⌜ (r, now (rate .exit)) ≡ toldNumber (rateAt (now (tenors .entry)) (now (zeros .entry)) t) (now (rate .entry)) ⌝ }
+{
+    put_number(swaps::discount::rate_at(tenors, zeros, t), rate)
+}
+
+#[no_mangle]
+pub extern "C" fn senyolanda_discount_curve_factor(
+    tenors: &[f64],
+    zeros: &[f64],
+    t: f64,
+    factor: &mut f64,
+) -> u64
+    ensures { λ r. ⌜ (r, now (factor .exit)) ≡ toldNumber (discountFactor (now (tenors .entry)) (now (zeros .entry)) t) (now (factor .entry)) ⌝ }
+{
+    put_number(swaps::discount::discount_factor(tenors, zeros, t), factor)
+}
+
+#[no_mangle]
+pub extern "C" fn senyolanda_fixed_leg_pv(
+    record: &[u8],
+    tenors: &[f64],
+    zeros: &[f64],
+    pv: &mut f64,
+) -> u64
+    ensures { λ r. ⌜ (r, now (pv .exit)) ≡ toldNumber (ofSwap (now («record» .entry)) (now (tenors .entry)) (now (zeros .entry)) (λ (s : Swap). fixedLegPv s (now (tenors .entry)) (now (zeros .entry)))) (now (pv .entry)) ⌝ }
+{
+    match swap_in(record, tenors, zeros) {
+        SwapIn::Refused(refusal) => refusal_result(refusal),
+        SwapIn::Given(swap) => put_number(swaps::legs::fixed_leg_pv(swap, tenors, zeros), pv),
+    }
+}
+
+#[no_mangle]
+pub extern "C" fn senyolanda_floating_leg_pv(
+    record: &[u8],
+    tenors: &[f64],
+    zeros: &[f64],
+    pv: &mut f64,
+) -> u64
+    ensures { λ r. ⌜ (r, now (pv .exit)) ≡ toldNumber (ofSwap (now («record» .entry)) (now (tenors .entry)) (now (zeros .entry)) (λ (s : Swap). floatingLegPv s (now (tenors .entry)) (now (zeros .entry)))) (now (pv .entry)) ⌝ }
+{
+    match swap_in(record, tenors, zeros) {
+        SwapIn::Refused(refusal) => refusal_result(refusal),
+        SwapIn::Given(swap) => put_number(swaps::legs::floating_leg_pv(swap, tenors, zeros), pv),
+    }
+}
+
+#[no_mangle]
+pub extern "C" fn senyolanda_swap_npv(
+    record: &[u8],
+    tenors: &[f64],
+    zeros: &[f64],
+    receive_fixed: u32,
+    npv: &mut f64,
+) -> u64
+    ensures { λ r. ⌜ (r, now (npv .exit)) ≡ toldNumber (ofSwap (now («record» .entry)) (now (tenors .entry)) (now (zeros .entry)) (λ (s : Swap). swapNpv s (now (tenors .entry)) (now (zeros .entry)) (isTrue «receive_fixed»))) (now (npv .entry)) ⌝ }
+{
+    match swap_in(record, tenors, zeros) {
+        SwapIn::Refused(refusal) => refusal_result(refusal),
+        SwapIn::Given(swap) => {
+            let value = swaps::valuation::swap_npv(swap, tenors, zeros, receive_fixed != 0);
+            put_number(value, npv)
+        }
+    }
+}
+
+#[no_mangle]
+pub extern "C" fn senyolanda_par_swap_rate(
+    record: &[u8],
+    tenors: &[f64],
+    zeros: &[f64],
+    rate: &mut f64,
+) -> u64
+    ensures { λ r. ⌜ (r, now (rate .exit)) ≡ toldNumber (ofSwap (now («record» .entry)) (now (tenors .entry)) (now (zeros .entry)) (λ (s : Swap). parSwapRate s (now (tenors .entry)) (now (zeros .entry)))) (now (rate .entry)) ⌝ }
+{
+    match swap_in(record, tenors, zeros) {
+        SwapIn::Refused(refusal) => refusal_result(refusal),
+        SwapIn::Given(swap) => {
+            put_number(swaps::valuation::par_swap_rate(swap, tenors, zeros), rate)
+        }
+    }
+}
+
+#[no_mangle]
+pub extern "C" fn senyolanda_swap_dv01(
+    record: &[u8],
+    tenors: &[f64],
+    zeros: &[f64],
+    receive_fixed: u32,
+    dv01: &mut f64,
+) -> u64
+    ensures { λ r. ⌜ (r, now (dv01 .exit)) ≡ toldNumber (ofSwap (now («record» .entry)) (now (tenors .entry)) (now (zeros .entry)) (λ (s : Swap). swapDv01 s (now (tenors .entry)) (now (zeros .entry)) (isTrue «receive_fixed»))) (now (dv01 .entry)) ⌝ }
+{
+    match swap_in(record, tenors, zeros) {
+        SwapIn::Refused(refusal) => refusal_result(refusal),
+        SwapIn::Given(swap) => {
+            let value = swaps::valuation::swap_dv01(swap, tenors, zeros, receive_fixed != 0);
+            put_number(value, dv01)
+        }
+    }
+}
+
+#[no_mangle]
+pub extern "C" fn senyolanda_swap_duration(
+    record: &[u8],
+    tenors: &[f64],
+    zeros: &[f64],
+    duration: &mut f64,
+) -> u64
+    ensures { λ r. ⌜ (r, now (duration .exit)) ≡ toldNumber (ofSwap (now («record» .entry)) (now (tenors .entry)) (now (zeros .entry)) (λ (s : Swap). swapDuration s (now (tenors .entry)) (now (zeros .entry)))) (now (duration .entry)) ⌝ }
+{
+    match swap_in(record, tenors, zeros) {
+        SwapIn::Refused(refusal) => refusal_result(refusal),
+        SwapIn::Given(swap) => {
+            put_number(
+                swaps::valuation::swap_duration(swap, tenors, zeros),
+                duration,
+            )
+        }
+    }
+}
+
+fn put_valuation(answer: ValuationAnswer, valuation: &mut [f64; 6]) -> u64
+    ensures { λ r. ⌜ (r, now (valuation .exit)) ≡ told valuationNumbers (valuationOutcome answer) (now (valuation .entry)) ⌝ }
+{
+    match answer {
+        ValuationAnswer::Refused(refusal) => refusal_result(refusal),
+        ValuationAnswer::Given(value) => {
+            valuation[0] = value.npv;
+            valuation[1] = value.fixed_pv;
+            valuation[2] = value.floating_pv;
+            valuation[3] = value.par_rate;
+            valuation[4] = value.dv01;
+            valuation[5] = value.duration;
+            ACCEPTED
+        }
+    }
+}
+
+// All of it at once: value, fixed leg, floating leg, par rate, value of a basis point, duration.
+#[no_mangle]
+pub extern "C" fn senyolanda_value_swap(
+    record: &[u8],
+    tenors: &[f64],
+    zeros: &[f64],
+    receive_fixed: u32,
+    valuation: &mut [f64; 6],
+) -> u64
+    ensures { λ r. ⌜ (r, now (valuation .exit)) ≡ told valuationNumbers (ofSwap (now («record» .entry)) (now (tenors .entry)) (now (zeros .entry)) (λ (s : Swap). valueSwap s (now (tenors .entry)) (now (zeros .entry)) (isTrue «receive_fixed»))) (now (valuation .entry)) ⌝ }
+{
+    match swap_in(record, tenors, zeros) {
+        SwapIn::Refused(refusal) => refusal_result(refusal),
+        SwapIn::Given(swap) => {
+            let answer = swaps::valuation::value_swap(swap, tenors, zeros, receive_fixed != 0);
+            put_valuation(answer, valuation)
+        }
+    }
+}
