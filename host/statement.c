@@ -51,11 +51,10 @@ struct settings {
     double payment;        /* where one is given */
 };
 
-/* One line on standard error, after all that was written before it. */
+/* One line on standard error. */
 static enum status fail(const char *format, ...) {
     va_list words;
     va_start(words, format);
-    fflush(stdout);
     fputs("statement: ", stderr);
     vfprintf(stderr, format, words);
     fputc('\n', stderr);
@@ -239,7 +238,7 @@ static enum status state_loan(
     if (result == 0) result = (settings->csv ? print_csv : print_table)(&entry, settings->bits);
     if (result == 0) return DONE;
     const uint32_t number = senyolanda_number(result);
-    fail("refused %" PRIu32 " at %zu: %s", number, place, senyolanda_refusal_text(number));
+    fprintf(stderr, "statement: refused %" PRIu32 " at %zu: %s\n", number, place, senyolanda_refusal_text(number));
     return REFUSED;
 }
 
@@ -250,7 +249,8 @@ static bool written_out(void) {
     return fflush(stdout) == 0 && !ferror(stdout);
 }
 
-/* Every record of the file, the one that the file's end cuts short too; a file that holds nothing is one record of no bytes. */
+/* Every record of the file, the one that the file's end cuts short too; a file that holds nothing is one record of no bytes. What
+   was written is flushed before each, so that a refusal on standard error stands in its place. */
 static enum status state_records(FILE *file, const struct settings *settings) {
     uint8_t record[SENYOLANDA_LOAN_BYTES];
     enum status status = DONE;

@@ -15,9 +15,8 @@
  * OVERLAP. Memory that a function writes is marked SENYOLANDA_RESTRICT, or SENYOLANDA_FILLED in brackets: it may overlap nothing
  * else that is handed over in that call. Lists that are only read may be the same list.
  *
- * RECORDS. Loans, bonds, rows and swaps cross as bytes: one byte of kind, then a fixed body, little-endian, so that a file that
- * one machine wrote is read by every other. A record of another kind or length is refused with 11, at place 0, before anything else
- * is looked at.
+ * RECORDS. Loans, bonds, rows and swaps cross as bytes: one byte of kind, then a fixed body, little-endian, so that what one machine
+ * wrote every other reads. A record of another kind or length is refused with 11 before anything else is looked at.
  *
  * UNITS. Rates, yields and coupons are decimals a year (0.06 is six per cent), spreads are basis points, times are years and a
  * loan's term is months.
@@ -38,9 +37,10 @@
  *     }
  *     if (result != 0) puts(senyolanda_refusal_text(senyolanda_number(result)));
  *
- * THREADS. Nothing is kept between calls and nothing is shared: call from as many threads as you like, as long as no two write
- * to the same memory. There is no heap, no file, no lock, no errno and no setting; a call needs some kilobytes of stack. The
- * processor must be in its usual rounding, to nearest, as every C program starts.
+ * THREADS. Nothing is kept between calls and nothing is shared: call from as many threads as you like, as long as no two of them
+ * write to the same memory. There is no heap, no file, no lock, no errno and no setting; a call needs less than 64 kilobytes of
+ * stack. The processor has to round to nearest and keep subnormal numbers, as it does when a C program starts; a program that
+ * was linked with -ffast-math may have changed that.
  */
 #ifndef SENYOLANDA_H
 #define SENYOLANDA_H

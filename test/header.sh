@@ -18,7 +18,7 @@ header=$(dirname "$0")/../include/senyolanda.h
 runs() {
     "$1" -x "$2" -std="$3" -pedantic -Wall -Wextra -Werror -O2 -I"$(dirname "$header")" "$room/example" -x none "$own" -o "$room/run"
     "$room/run" >"$room/balances"
-    [ "$(wc -l <"$room/balances")" = 360 ] && [ "$(tail -n 1 "$room/balances")" = 0.00 ] ||
+    [ "$(wc -l <"$room/balances") $(tail -n 1 "$room/balances")" = "360 0.00" ] ||
         { echo "header: the example does not repay its loan as $3" >&2; exit 1; }
 }
 runs cc c c99

@@ -96,27 +96,32 @@ loan,month,payment,principal,interest,balance
 0,3,0.00,0.00,0.00,0.00
 END
 
-# a rate nobody filled in, of either sign
-for rate in nan -nan; do
-    stated --csv 1000 $rate 2
-    writes <<END
+# a rate or a payment nobody filled in: every NaN is written alike
+stated --csv 1000 nan 2
+writes <<END
 loan,month,payment,principal,interest,balance
 0,1,nan,0.00,nan,1000.00
 0,2,nan,1000.00,nan,0.00
 END
-    stated --csv --bits 1000 $rate 1
+for nan in nan -nan 'nan(5)'; do
+    stated --csv --payment "$nan" 1000 0 2
     writes <<END
 loan,month,payment,principal,interest,balance
-0,1,7ff8000000000000,408f400000000000,7ff8000000000000,0000000000000000
+0,1,nan,0.00,0.00,1000.00
+0,2,1000.00,1000.00,0.00,0.00
+END
+    stated --csv --bits --payment "$nan" 1000 0 2
+    writes <<END
+loan,month,payment,principal,interest,balance
+0,1,7ff8000000000000,0000000000000000,0000000000000000,408f400000000000
+0,2,408f400000000000,408f400000000000,0000000000000000,0000000000000000
 END
 done
 
-# a title's rate reads back as it was typed, and is not longer
+# a title's rate is the shortest decimal that reads back as what was typed
 for rate in 0.06 0.1 1e-300 -0.05 3.0000000000000004 nan inf; do
     stated 1000 $rate 1
-    head -n 1 "$room/wrote" | cmp -s - <<END || fails "the title does not say the rate $rate"
-Loan 0: principal 1000.00, rate $rate, months 1
-END
+    [ "$(head -n 1 "$room/wrote")" = "Loan 0: principal 1000.00, rate $rate, months 1" ] || fails "another rate in the title"
 done
 
 # ---- cents: each binary64 to the nearest, and a half that it holds exactly to the even cent
@@ -243,6 +248,20 @@ END
 says <<END
 statement: refused 1 at 0: the amount is below zero or not finite
 statement: refused 11 at 2: the record is of another kind or length, or has an unknown code
+END
+
+# where both go to one place, a refusal stands between the loans before and after it
+last="--csv --records - 2>&1"
+"$program" --csv --records - <"$room/records" >"$room/wrote" 2>&1 || :
+writes <<END
+statement: refused 1 at 0: the amount is below zero or not finite
+loan,month,payment,principal,interest,balance
+1,1,400.00,400.00,0.00,800.00
+1,2,400.00,400.00,0.00,400.00
+1,3,400.00,400.00,0.00,0.00
+statement: refused 11 at 2: the record is of another kind or length, or has an unknown code
+3,1,900.00,400.00,500.00,600.00
+3,2,900.00,600.00,300.00,0.00
 END
 
 # a file that ends within a record
