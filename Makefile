@@ -78,6 +78,7 @@ test: all x86-64 build/test/statement
 	test/statement.sh build/test/statement
 	test/c/run build/libsenyolanda.a
 	test/hosts.sh build/libsenyolanda.a build/libsenyolanda.so
+	test/refusals.py build/libsenyolanda.so
 	test/install.sh
 	rt fmt --check
 	rt ci
