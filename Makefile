@@ -54,7 +54,7 @@ build/statement: host/statement.c include/senyolanda.h build/libsenyolanda.a
 # The same, watching its memory where the compiler can.
 build/test/statement: host/statement.c include/senyolanda.h build/libsenyolanda.a test/sanitizer
 	@mkdir -p build/test
-	$(CC) -std=c99 $(WARNINGS) -Werror -g $$(test/sanitizer) -Iinclude host/statement.c build/libsenyolanda.a -o $@
+	$(CC) -std=c99 $(WARNINGS) -Werror -g $$(test/sanitizer "$(CC)") -Iinclude host/statement.c build/libsenyolanda.a -o $@
 
 x86-64: build/x86-64/libsenyolanda.a
 
@@ -73,7 +73,7 @@ test: all x86-64 build/test/statement
 	@tools/need rustc rustc libstd-rust-dev
 	@tools/need pkg-config pkg-config
 	test/schedule.sh
-	test/header.sh build/libsenyolanda.a build/x86-64/libsenyolanda.a
+	test/header.sh build/libsenyolanda.a build/libsenyolanda.so build/x86-64/libsenyolanda.a
 	test/statement.sh build/statement
 	test/statement.sh build/test/statement
 	test/c/run build/libsenyolanda.a

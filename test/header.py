@@ -1,5 +1,5 @@
 #!/usr/bin/env python3
-"""header.py ARCHIVE: include/senyolanda.h, the crate's exported functions and the archive's symbols are one list.
+"""header.py LIBRARY: include/senyolanda.h, the crate's exported functions and the library's symbols are one list.
 
 A function has the same name, the same answer and the same parameters in the header as in the crate: their order, their names,
 their types and their lengths.
@@ -98,20 +98,22 @@ def functions_of_header(text):
             for answer, name, parameters in re.findall(r"(senyolanda_\w+) (senyolanda_\w+)\(([^()]*)\);", text)}
 
 
-def symbols_of(archive):
-    return {line.split()[-1] for line in output_of("nm", "-g", "--defined-only", archive).splitlines() if " " in line}
+def symbols_of(library):
+    """The symbols that an archive or a shared library defines for others."""
+    which = "--dynamic" if ".so" in library else "--extern-only"
+    return {line.split()[-1] for line in output_of("nm", which, "--defined-only", library).splitlines() if " " in line}
 
 
 def faults(header, crate, symbols):
-    """What differs between the header's text, the crate's functions and the archive's symbols."""
+    """What differs between the header's text, the crate's functions and the library's symbols."""
     try:
         prototypes = functions_of_header(header)
     except Unreadable as fault:
         return [str(fault)]
     found = [f"{name} is in the header and not in the crate" for name in sorted(prototypes.keys() - crate.keys())]
     found += [f"{name} is in the crate and not in the header" for name in sorted(crate.keys() - prototypes.keys())]
-    found += [f"{name} is in the crate and not in the archive" for name in sorted(crate.keys() - symbols)]
-    found += [f"{name} is in the archive and not in the crate" for name in sorted(symbols - crate.keys())]
+    found += [f"{name} is in the crate and not in the library" for name in sorted(crate.keys() - symbols)]
+    found += [f"{name} is in the library and not in the crate" for name in sorted(symbols - crate.keys())]
     for name in sorted(prototypes.keys() & crate.keys()):
         if prototypes[name] != crate[name]:
             found.append(f"{name} differs\n  header {prototypes[name]}\n  crate  {crate[name]}")
@@ -127,17 +129,20 @@ def unfound(header, crate, symbols):
             yield f"`{new}` for `{old}`"
     for missing_or_more in ({"senyolanda_draw"}, {"a_symbol_of_another_name"}):
         if not faults(header, crate, symbols ^ missing_or_more):
-            yield f"{missing_or_more} in or out of the archive"
+            yield f"{missing_or_more} in or out of the library"
 
 
-def main(archive):
+def main(library):
     header = (ROOT / "include" / "senyolanda.h").read_text()
-    crate, symbols = functions_of_crate(), symbols_of(archive)
+    crate, symbols = functions_of_crate(), symbols_of(library)
     wrong = faults(header, crate, symbols) or [f"{what} is not found out" for what in unfound(header, crate, symbols)]
     if wrong:
         sys.exit("\n".join(f"header: {one}" for one in wrong))
-    print(f"header: {len(crate)} functions are alike in the header, the crate and {archive}; altered copies are found out")
+    print(f"header: {len(crate)} functions are alike in the header, the crate and {library}; altered copies are found out")
 
 
 if __name__ == "__main__":
-    main(sys.argv[1])
+    try:
+        main(sys.argv[1])
+    except Unreadable as fault:
+        sys.exit(f"header: {fault}")

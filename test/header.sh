@@ -1,8 +1,8 @@
 #!/bin/sh
-# header.sh ARCHIVE..: the header compiles without a warning as C and as C++, the example in it runs, and its functions are the
-# crate's and each archive's. The first archive is this machine's own.
+# header.sh LIBRARY..: the header compiles without a warning as C and as C++, the example in it runs, and its functions are the
+# crate's and each library's. The first library is an archive for this machine's own processor.
 set -eu
-own=${1:?usage: test/header.sh ARCHIVE..}
+own=${1:?usage: test/header.sh LIBRARY..}
 room=$(mktemp -d)
 trap 'rm -rf "$room"' EXIT
 header=$(dirname "$0")/../include/senyolanda.h
@@ -27,6 +27,6 @@ runs c++ c++ c++11
 runs c++ c++ c++17
 echo "header: compiles as C and C++, and its example runs"
 
-for archive; do
-    "$(dirname "$0")/header.py" "$archive"
+for library; do
+    "$(dirname "$0")/header.py" "$library"
 done
