@@ -365,7 +365,7 @@ senyolanda_result senyolanda_pool_convexity(
     const uint8_t *records, size_t length, uint32_t speed, double number, const double *history, size_t history_count,
     double rate, double *SENYOLANDA_RESTRICT convexity);
 
-/* Three numbers: balance, weighted coupon, weighted maturity. Refuses 1, 2, 7, 11. */
+/* Three numbers: the balance, and coupon and months to maturity weighed by it. Refuses 1, 2, 7, 11. */
 senyolanda_result senyolanda_pool_totals(const uint8_t *records, size_t length, double totals[SENYOLANDA_FILLED 3]);
 
 /* ---- bonds: the bond comes as its record ---- */
@@ -374,7 +374,7 @@ senyolanda_result senyolanda_pool_totals(const uint8_t *records, size_t length, 
 senyolanda_result senyolanda_bond_price(
     const uint8_t *record, size_t length, double ytm, double *SENYOLANDA_RESTRICT price);
 
-/* What the price gains when the yield falls by one basis point. Refuses 1, 7, 9, 11. */
+/* What the price gains when the yield falls by a basis point. Refuses 1, 7, 9, 11. */
 senyolanda_result senyolanda_bond_dv01(
     const uint8_t *record, size_t length, double ytm, double *SENYOLANDA_RESTRICT dv01);
 
@@ -483,13 +483,13 @@ senyolanda_result senyolanda_discount_curve_factor(
     const double *tenors, size_t tenors_count, const double *zeros, size_t zeros_count,
     double t, double *SENYOLANDA_RESTRICT factor);
 
-/* The present value of the fixed payments. Refuses 1, 4, 5, 6, 7, 8, 9, 11. */
+/* The present value of the fixed payments, and of the notional at the end. Refuses 1, 4, 5, 6, 7, 8, 9, 11. */
 senyolanda_result senyolanda_fixed_leg_pv(
     const uint8_t *record, size_t length,
     const double *tenors, size_t tenors_count, const double *zeros, size_t zeros_count,
     double *SENYOLANDA_RESTRICT pv);
 
-/* The present value of the floating payments. Refuses 1, 4, 5, 6, 7, 8, 9, 11. */
+/* The present value of the floating payments, and of the notional at the end. Refuses 1, 4, 5, 6, 7, 8, 9, 11. */
 senyolanda_result senyolanda_floating_leg_pv(
     const uint8_t *record, size_t length,
     const double *tenors, size_t tenors_count, const double *zeros, size_t zeros_count,
@@ -507,13 +507,13 @@ senyolanda_result senyolanda_par_swap_rate(
     const double *tenors, size_t tenors_count, const double *zeros, size_t zeros_count,
     double *SENYOLANDA_RESTRICT rate);
 
-/* What the swap gains when the whole curve moves by one basis point. Refuses 1, 4, 5, 6, 7, 8, 9, 11. */
+/* What the swap gains when every zero rate rises by a basis point. Refuses 1, 4, 5, 6, 7, 8, 9, 11. */
 senyolanda_result senyolanda_swap_dv01(
     const uint8_t *record, size_t length,
     const double *tenors, size_t tenors_count, const double *zeros, size_t zeros_count,
     uint32_t receive_fixed, double *SENYOLANDA_RESTRICT dv01);
 
-/* The duration of the swap's fixed payments. Refuses 1, 4, 5, 6, 7, 8, 9, 11. */
+/* The modified duration of the fixed leg, in years. Refuses 1, 4, 5, 6, 7, 8, 9, 11. */
 senyolanda_result senyolanda_swap_duration(
     const uint8_t *record, size_t length,
     const double *tenors, size_t tenors_count, const double *zeros, size_t zeros_count,
