@@ -1,13 +1,29 @@
-# make        builds what a user runs: build/schedule, for this machine's own processor
-# make run    builds it and draws a sample loan's schedule
-# make test   runs every test; its last lines are `rt ci`'s
-# make bench  times jobs beside the Rust, both for this machine's own processor
+# make            builds in build/, for this machine's own processor: libsenyolanda.a, libsenyolanda.so and senyolanda.pc for programs
+#                 that link the library, and the programs schedule and statement
+# make x86-64     builds build/x86-64/libsenyolanda.a, on any machine
+# make run        builds, draws a sample loan's schedule, and prints a sample loan's statement
+# make test       runs every test; its last lines are `rt ci`'s
+# make bench      times jobs beside the Rust, both for this machine's own processor
+# make install    puts library, header and programs under PREFIX, within DESTDIR; make uninstall takes them away
 SHELL := /bin/sh
+CFLAGS ?= -O2
+PREFIX ?= /usr/local
+BINDIR ?= $(PREFIX)/bin
+LIBDIR ?= $(PREFIX)/lib
+INCLUDEDIR ?= $(PREFIX)/include
 FIN_PRIMITIVES ?= ../shared/docs/src
 SOURCES := crates.txt $(shell find crates -name '*.rt' -o -name '*.antt')
+WARNINGS := -pedantic -Wall -Wextra
 
-.PHONY: all run test bench clean kit
-all: build/schedule
+VERSION := 0.1.0
+# The number goes up when a program that was linked before would no longer run as it did.
+SONAME := libsenyolanda.so.0
+
+.PHONY: all x86-64 run test bench install uninstall clean kit always
+# Two proofs at a time would write the same files under target/.
+.NOTPARALLEL:
+
+all: build/libsenyolanda.a build/libsenyolanda.so build/senyolanda.pc build/schedule build/statement
 
 kit:
 	@command -v rt >/dev/null || { echo "make: please install the Rattle kit (its command is rt)" >&2; exit 1; }
@@ -16,12 +32,54 @@ kit:
 build/schedule: $(SOURCES) tools/native | kit
 	tools/native schedule $@
 
-run: build/schedule
-	test/record 1200 0 3 | build/schedule
+build/libsenyolanda.a: $(SOURCES) tools/native | kit
+	tools/native senyolanda $@
 
-test: build/schedule
+build/$(SONAME): build/libsenyolanda.a
+	echo '{ global: senyolanda_*; local: *; };' >build/exported
+	$(CC) -shared -o $@ -Wl,-soname,$(SONAME),--version-script=build/exported,-Bsymbolic,-z,defs,-z,text \
+	    -Wl,--whole-archive $< -Wl,--no-whole-archive
+
+build/libsenyolanda.so: build/$(SONAME)
+	ln -sf $(SONAME) $@
+
+# Written each time, since PREFIX may be another.
+build/senyolanda.pc: senyolanda.pc.in always
+	@mkdir -p build
+	@sed 's|@PREFIX@|$(PREFIX)|; s|@LIBDIR@|$(LIBDIR)|; s|@INCLUDEDIR@|$(INCLUDEDIR)|; s|@VERSION@|$(VERSION)|' $< >$@
+
+build/statement: host/statement.c include/senyolanda.h build/libsenyolanda.a
+	$(CC) -std=c99 $(WARNINGS) $(CFLAGS) -Iinclude host/statement.c build/libsenyolanda.a -o $@
+
+# The same, watching its memory where the compiler can.
+build/test/statement: host/statement.c include/senyolanda.h build/libsenyolanda.a test/sanitizer
+	@mkdir -p build/test
+	$(CC) -std=c99 $(WARNINGS) -Werror -g $$(test/sanitizer "$(CC)") -Iinclude host/statement.c build/libsenyolanda.a -o $@
+
+x86-64: build/x86-64/libsenyolanda.a
+
+build/x86-64/libsenyolanda.a: $(SOURCES) | kit
+	rt staticlib senyolanda
+	install -D -m 644 target/staticlib/libsenyolanda.a $@
+
+run: build/schedule build/statement
+	test/record 1200 0 3 | build/schedule
+	build/statement 12000 0.06 12
+
+test: all x86-64 build/test/statement
 	@tools/need objdump binutils
+	@tools/need c++ g++
+	@tools/need python3 python3
+	@tools/need rustc rustc libstd-rust-dev
+	@tools/need pkg-config pkg-config
 	test/schedule.sh
+	test/header.sh build/libsenyolanda.a build/libsenyolanda.so build/x86-64/libsenyolanda.a
+	test/statement.sh build/statement
+	test/statement.sh build/test/statement
+	test/c/run build/libsenyolanda.a
+	test/hosts.sh build/libsenyolanda.a build/libsenyolanda.so
+	test/refusals.py build/libsenyolanda.so
+	test/install.sh
 	rt fmt --check
 	rt ci
 
@@ -31,6 +89,20 @@ build/libbench_jobs.a: $(SOURCES) tools/native | kit
 bench: build/libbench_jobs.a
 	@tools/need rustc rustc libstd-rust-dev
 	bench/run "$(FIN_PRIMITIVES)"
+
+install: all
+	install -d $(DESTDIR)$(BINDIR) $(DESTDIR)$(LIBDIR)/pkgconfig $(DESTDIR)$(INCLUDEDIR)
+	install -m 644 include/senyolanda.h $(DESTDIR)$(INCLUDEDIR)
+	install -m 644 build/libsenyolanda.a $(DESTDIR)$(LIBDIR)
+	install -m 755 build/$(SONAME) $(DESTDIR)$(LIBDIR)
+	ln -sf $(SONAME) $(DESTDIR)$(LIBDIR)/libsenyolanda.so
+	install -m 644 build/senyolanda.pc $(DESTDIR)$(LIBDIR)/pkgconfig
+	install -m 755 build/schedule build/statement $(DESTDIR)$(BINDIR)
+
+uninstall:
+	rm -f $(DESTDIR)$(INCLUDEDIR)/senyolanda.h $(DESTDIR)$(LIBDIR)/libsenyolanda.a
+	rm -f $(DESTDIR)$(LIBDIR)/$(SONAME) $(DESTDIR)$(LIBDIR)/libsenyolanda.so $(DESTDIR)$(LIBDIR)/pkgconfig/senyolanda.pc
+	rm -f $(DESTDIR)$(BINDIR)/schedule $(DESTDIR)$(BINDIR)/statement
 
 clean:
 	rm -rf build target

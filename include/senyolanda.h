@@ -1,0 +1,628 @@
+/*
+ * Senyolanda: loans, bonds, curves, swaps and spreads in binary64, every answer proved to the bit. For C99 and C++11, and for
+ * every language that can call C.
+ *
+ * RESULTS. Every function returns a senyolanda_result. 0 means accepted: the answer stands in the memory that you lent. Anything
+ * else is a refusal, and all lent memory is as it was before the call. A refusal has a number (enum senyolanda_refusal says which
+ * there are) and a place: in a list the index, from 0, of the first bad item, else 0. Read them by senyolanda_number(result) and
+ * senyolanda_place(result); senyolanda_refusal_text(number) has the words. Where several causes are there the lowest number is
+ * given. The sentence at each function ends with the refusals that it knows; a number that no refusal names, such as a loan's
+ * rate, is taken as it stands, NaN and infinity too.
+ *
+ * LISTS. A list is a pointer and a count, the count in numbers, or in bytes for records. An empty list may be null with count 0.
+ * Every other pointer points to one number or to an array of the length that is written in its brackets, and may not be null.
+ *
+ * OVERLAP. Memory that a function writes is marked SENYOLANDA_RESTRICT, or SENYOLANDA_FILLED in brackets: it may overlap nothing
+ * else that is handed over in that call. Lists that are only read may be the same list.
+ *
+ * RECORDS. Loans, bonds, rows and swaps cross as bytes: one byte of kind, then a fixed body, little-endian, so that what one machine
+ * wrote every other reads. A record of another kind or length is refused with 11 before anything else is looked at.
+ *
+ * UNITS. Rates, yields and coupons are decimals a year (0.06 is six per cent), spreads are basis points, times are years and a
+ * loan's term is months.
+ *
+ * SCHEDULES. A loan is opened once and drawn in portions, through as little room as one row. Written plus owed is always what
+ * was owed before; draw until nothing is. The loan is yours to keep between draws, in a struct or in an archive:
+ *
+ *     double room[12 * SENYOLANDA_ROW_PLACES];
+ *     uint8_t record[SENYOLANDA_LOAN_BYTES];
+ *     struct senyolanda_loan loan;
+ *     uint32_t written, owed = 1, row;
+ *     senyolanda_result result = senyolanda_write_loan(250000.0, 0.06, 360, record);
+ *     if (result == 0) result = senyolanda_loan_open(record, sizeof record, &loan);
+ *     while (result == 0 && owed > 0) {
+ *         result = senyolanda_loan_draw(&loan, room, 12 * SENYOLANDA_ROW_PLACES, &written, &owed);
+ *         for (row = 0; result == 0 && row < written; row++)
+ *             printf("%.2f\n", senyolanda_row_at(room, row).balance);
+ *     }
+ *     if (result != 0) puts(senyolanda_refusal_text(senyolanda_number(result)));
+ *
+ * THREADS. Nothing is kept between calls and nothing is shared: call from as many threads as you like, as long as no two of them
+ * write to the same memory. There is no heap, no file, no lock, no errno and no setting; a call needs less than 64 kilobytes of
+ * stack. The processor has to round to nearest and keep subnormal numbers, as it does when a C program starts; a program that
+ * was linked with -ffast-math may have changed that.
+ */
+#ifndef SENYOLANDA_H
+#define SENYOLANDA_H
+
+#include <stddef.h>
+#include <stdint.h>
+
+/* RESTRICT, and FILLED in brackets: written by the call, and overlapping nothing else that is handed over. READ: only read. */
+#ifdef __cplusplus
+#define SENYOLANDA_RESTRICT __restrict
+#define SENYOLANDA_FILLED
+#define SENYOLANDA_READ
+extern "C" {
+#else
+#define SENYOLANDA_RESTRICT restrict
+#define SENYOLANDA_FILLED restrict static
+#define SENYOLANDA_READ static
+#endif
+
+/* Bytes of a record: kind 1, a loan; 2, a bond; 3, a row of a schedule; 4, a swap. */
+#define SENYOLANDA_LOAN_BYTES 21
+#define SENYOLANDA_BOND_BYTES 26
+#define SENYOLANDA_ROW_BYTES 37
+#define SENYOLANDA_SWAP_BYTES 30
+
+/* Places of a row in a draw's room, and of a month in a pool's. */
+#define SENYOLANDA_ROW_PLACES 5
+#define SENYOLANDA_POOL_MONTH_PLACES 3
+
+/* The most months of a loan, loans of a pool, knots of a curve, and flows or periods. */
+#define SENYOLANDA_MOST_MONTHS 1200
+#define SENYOLANDA_MOST_LOANS 64
+#define SENYOLANDA_MOST_KNOTS 120
+#define SENYOLANDA_MOST_FLOWS 1200
+
+enum senyolanda_refusal {
+    SENYOLANDA_ACCEPTED = 0,
+    SENYOLANDA_BAD_AMOUNT = 1,       /* a principal, face or notional that is negative, infinite or NaN */
+    SENYOLANDA_BAD_TERM = 2,         /* a loan of no months, or of more than 1,200 */
+    SENYOLANDA_NO_ROOM = 3,          /* rows are due and not one fits; a pool's months, or a bond's flows, do not all fit */
+    SENYOLANDA_UNEQUAL_LISTS = 4,    /* two lists that belong together are not equally long */
+    SENYOLANDA_BAD_KNOT_COUNT = 5,   /* a curve without a knot, or with more than 120 */
+    SENYOLANDA_BAD_KNOT = 6,         /* a knot infinite or NaN, before time 0, or not after the knot before it; to bootstrap: a
+                                        tenor of 0, or above 100 years */
+    SENYOLANDA_BAD_TIME = 7,         /* a maturity, tenor or time infinite or NaN, or of more than 1,200 periods; more than 1,200
+                                        flows; more than 64 loans */
+    SENYOLANDA_BAD_FREQUENCY = 8,    /* a swap that pays 0, or more than 365, times a year */
+    SENYOLANDA_BAD_NUMBER = 9,       /* a price, yield, coupon, closing cost, flow amount or swap rate infinite or NaN */
+    SENYOLANDA_PAST_THE_TERM = 10,   /* a loan in hand with more months done than its term has */
+    SENYOLANDA_BAD_RECORD = 11,      /* bytes of another kind or length, or a code that stands for nothing */
+    SENYOLANDA_NO_YIELD = 12,        /* no yield in the searched ranges, up to 50, is known to give the market price */
+    SENYOLANDA_NO_BREAK_EVEN = 13    /* the new loan saves nothing a month, or pays its cost back only after its term */
+};
+
+/* How often a bond pays. (A swap's frequency is no code: it is the number of payments a year.) */
+enum senyolanda_frequency {
+    SENYOLANDA_ANNUAL = 0,
+    SENYOLANDA_SEMI_ANNUAL = 1,
+    SENYOLANDA_QUARTERLY = 2,
+    SENYOLANDA_MONTHLY = 3
+};
+
+/* What part of a year a number of days is: over 360, over 365, over 360. */
+enum senyolanda_day_count {
+    SENYOLANDA_ACTUAL_360 = 0,
+    SENYOLANDA_ACTUAL_365 = 1,
+    SENYOLANDA_THIRTY_360 = 2
+};
+
+/* How fast a pool prepays, and what the number and the list beside it are. */
+enum senyolanda_speed {
+    SENYOLANDA_CPR = 0,              /* the number: the part of a balance prepaid in a year; no list is read */
+    SENYOLANDA_PSA = 1,              /* the number: so many times the PSA ramp, 1 is 100% PSA; no list is read */
+    SENYOLANDA_HISTORY = 2           /* the list: the part prepaid in month 1, 2, ..; the number is not read */
+};
+
+/* ---- results ---- */
+
+typedef uint64_t senyolanda_result;
+
+/* The refusal's number; 0 where the call was accepted. */
+static inline uint32_t senyolanda_number(senyolanda_result result) {
+    return (uint32_t)(result & UINT32_MAX);
+}
+
+/* The refusal's place: an index in a list, or which of two loans; else 0. */
+static inline uint32_t senyolanda_place(senyolanda_result result) {
+    return (uint32_t)(result >> 32);
+}
+
+/* A refusal's number in words, for a person to read. */
+static inline const char *senyolanda_refusal_text(uint32_t number) {
+    switch (number) {
+    case SENYOLANDA_ACCEPTED: return "accepted";
+    case SENYOLANDA_BAD_AMOUNT: return "the amount is below zero or not finite";
+    case SENYOLANDA_BAD_TERM: return "the term is not from 1 to 1,200 months";
+    case SENYOLANDA_NO_ROOM: return "there is too little room for the answer";
+    case SENYOLANDA_UNEQUAL_LISTS: return "two lists that belong together differ in length";
+    case SENYOLANDA_BAD_KNOT_COUNT: return "the curve does not have from 1 to 120 knots";
+    case SENYOLANDA_BAD_KNOT: return "a knot of the curve is not finite or out of order";
+    case SENYOLANDA_BAD_TIME: return "a time is not finite or there are too many periods, flows or loans";
+    case SENYOLANDA_BAD_FREQUENCY: return "the swap does not pay from 1 to 365 times a year";
+    case SENYOLANDA_BAD_NUMBER: return "a price, yield, coupon, cost, flow or rate is not finite";
+    case SENYOLANDA_PAST_THE_TERM: return "the loan has more months done than its term";
+    case SENYOLANDA_BAD_RECORD: return "the record is of another kind or length, or has an unknown code";
+    case SENYOLANDA_NO_YIELD: return "no yield was found to search between";
+    case SENYOLANDA_NO_BREAK_EVEN: return "the new loan does not pay its cost back within its term";
+    default: return "no such refusal";
+    }
+}
+
+/* ---- exp, ln, powers: the same bits on every machine, never refused ---- */
+
+/* e to the x. */
+senyolanda_result senyolanda_exp(double x, double *SENYOLANDA_RESTRICT answer);
+
+/* Each number of the list becomes its exp, faster than one by one. */
+senyolanda_result senyolanda_exp_each(double *SENYOLANDA_RESTRICT numbers, size_t count);
+
+/* The natural logarithm of x: NaN below zero, -infinity at zero. */
+senyolanda_result senyolanda_ln(double x, double *SENYOLANDA_RESTRICT answer);
+
+/* x to the y: by multiplying where y is whole and at most 1,200 in size, else as exp(y ln x). */
+senyolanda_result senyolanda_power(double x, double y, double *SENYOLANDA_RESTRICT answer);
+
+/* The same three, the number itself returned. */
+static inline double senyolanda_exp_of(double x) {
+    double answer = 0.0;
+    (void)senyolanda_exp(x, &answer);
+    return answer;
+}
+
+static inline double senyolanda_ln_of(double x) {
+    double answer = 0.0;
+    (void)senyolanda_ln(x, &answer);
+    return answer;
+}
+
+static inline double senyolanda_power_of(double x, double y) {
+    double answer = 0.0;
+    (void)senyolanda_power(x, y, &answer);
+    return answer;
+}
+
+/* ---- records: bytes to numbers and back; nothing but kind, length and codes is looked at ---- */
+
+/* The terms that a loan's record holds. Refuses 11. */
+senyolanda_result senyolanda_read_loan(
+    const uint8_t *record, size_t length,
+    double *SENYOLANDA_RESTRICT principal, double *SENYOLANDA_RESTRICT rate, uint32_t *SENYOLANDA_RESTRICT term);
+
+/* The record of a loan's terms. Never refused: whoever works with the loan tests it. */
+senyolanda_result senyolanda_write_loan(
+    double principal, double rate, uint32_t term,
+    uint8_t record[SENYOLANDA_FILLED SENYOLANDA_LOAN_BYTES]);
+
+/* The bond that a record holds, its frequency as a code. Refuses 11. */
+senyolanda_result senyolanda_read_bond(
+    const uint8_t *record, size_t length,
+    double *SENYOLANDA_RESTRICT face, double *SENYOLANDA_RESTRICT coupon, double *SENYOLANDA_RESTRICT maturity,
+    uint32_t *SENYOLANDA_RESTRICT frequency);
+
+/* The record of a bond; frequency is an enum senyolanda_frequency. Refuses 11. */
+senyolanda_result senyolanda_write_bond(
+    double face, double coupon, double maturity, uint32_t frequency,
+    uint8_t record[SENYOLANDA_FILLED SENYOLANDA_BOND_BYTES]);
+
+/* The row of a schedule that a record holds. Refuses 11. */
+senyolanda_result senyolanda_read_row(
+    const uint8_t *record, size_t length,
+    uint32_t *SENYOLANDA_RESTRICT month, double *SENYOLANDA_RESTRICT payment, double *SENYOLANDA_RESTRICT principal,
+    double *SENYOLANDA_RESTRICT interest, double *SENYOLANDA_RESTRICT balance);
+
+/* The record of a row. Never refused. */
+senyolanda_result senyolanda_write_row(
+    uint32_t month, double payment, double principal, double interest, double balance,
+    uint8_t record[SENYOLANDA_FILLED SENYOLANDA_ROW_BYTES]);
+
+/* The swap that a record holds, its frequency a number of payments a year, its day count a code. Refuses 11. */
+senyolanda_result senyolanda_read_swap(
+    const uint8_t *record, size_t length,
+    double *SENYOLANDA_RESTRICT notional, double *SENYOLANDA_RESTRICT rate, double *SENYOLANDA_RESTRICT tenor,
+    uint32_t *SENYOLANDA_RESTRICT frequency, uint32_t *SENYOLANDA_RESTRICT day_count);
+
+/* The record of a swap; day_count is an enum senyolanda_day_count. Refuses 11. */
+senyolanda_result senyolanda_write_swap(
+    double notional, double rate, double tenor, uint32_t frequency, uint32_t day_count,
+    uint8_t record[SENYOLANDA_FILLED SENYOLANDA_SWAP_BYTES]);
+
+/* ---- loans: the terms come as a loan's record ---- */
+
+/* The level monthly payment that repays the loan over its term. Refuses 1, 2, 11. */
+senyolanda_result senyolanda_monthly_payment(const uint8_t *record, size_t length, double *SENYOLANDA_RESTRICT payment);
+
+/* Opens a loan with the worked-out payment, as numbers: in C, senyolanda_loan_open keeps them together. Refuses 1, 2, 11. */
+senyolanda_result senyolanda_open(
+    const uint8_t *record, size_t length,
+    uint32_t *SENYOLANDA_RESTRICT term, double *SENYOLANDA_RESTRICT rate, double *SENYOLANDA_RESTRICT payment,
+    uint32_t *SENYOLANDA_RESTRICT done, double *SENYOLANDA_RESTRICT balance);
+
+/* Opens a loan with a given payment, whatever it is: the last month repays the rest. Refuses 1, 2, 11. */
+senyolanda_result senyolanda_open_with_payment(
+    const uint8_t *record, size_t length, double given,
+    uint32_t *SENYOLANDA_RESTRICT term, double *SENYOLANDA_RESTRICT rate, double *SENYOLANDA_RESTRICT payment,
+    uint32_t *SENYOLANDA_RESTRICT done, double *SENYOLANDA_RESTRICT balance);
+
+/* Writes as many rows as the room holds and the loan owes, and moves done and balance on. A row is five numbers: month, payment,
+   principal, interest, balance after. A finished loan writes 0 and owes 0, whatever the room. Refuses 2, 3, 10. */
+senyolanda_result senyolanda_draw(
+    uint32_t term, double rate, double payment, uint32_t *SENYOLANDA_RESTRICT done, double *SENYOLANDA_RESTRICT balance,
+    double *SENYOLANDA_RESTRICT room, size_t places, uint32_t *SENYOLANDA_RESTRICT written, uint32_t *SENYOLANDA_RESTRICT owed);
+
+/* The next row alone, as a row's record; a finished loan writes 0, owes 0 and leaves the record. Refuses 2, 10. */
+senyolanda_result senyolanda_next_row(
+    uint32_t term, double rate, double payment, uint32_t *SENYOLANDA_RESTRICT done, double *SENYOLANDA_RESTRICT balance,
+    uint8_t record[SENYOLANDA_FILLED SENYOLANDA_ROW_BYTES],
+    uint32_t *SENYOLANDA_RESTRICT written, uint32_t *SENYOLANDA_RESTRICT owed);
+
+/* The sum of the interest column at the worked-out payment. Refuses 1, 2, 11. */
+senyolanda_result senyolanda_total_interest(const uint8_t *record, size_t length, double *SENYOLANDA_RESTRICT interest);
+
+/* The balance after so many months at the worked-out payment; past the term, the last one. Refuses 1, 2, 11. */
+senyolanda_result senyolanda_remaining_balance(
+    const uint8_t *record, size_t length, uint32_t months, double *SENYOLANDA_RESTRICT balance);
+
+/* The loan over the property's value; infinity for a value of zero. Refuses 1, 2, 11. */
+senyolanda_result senyolanda_ltv(const uint8_t *record, size_t length, double value, double *SENYOLANDA_RESTRICT ratio);
+
+/* The months and the interest that an extra payment each month saves. Refuses 1, 2, 11. */
+senyolanda_result senyolanda_prepayment_savings(
+    const uint8_t *record, size_t length, double extra,
+    uint32_t *SENYOLANDA_RESTRICT months, double *SENYOLANDA_RESTRICT interest);
+
+/* The month by which the new loan's lower payment has paid its closing cost; nothing is read of the months elapsed. A bad old
+   loan stands at place 0, a bad new one at 1. Refuses 1, 2, 9, 11, 13. */
+senyolanda_result senyolanda_refinance_breakeven(
+    const uint8_t *old_record, size_t old_length, const uint8_t *new_record, size_t new_length,
+    double cost, uint32_t elapsed, uint32_t *SENYOLANDA_RESTRICT month);
+
+/* A loan in hand. Open it, draw from it, keep it as long as you like; only an opening fills it. */
+struct senyolanda_loan {
+    uint32_t term;     /* months */
+    uint32_t done;     /* months drawn so far */
+    double rate;       /* a year */
+    double payment;    /* a month */
+    double balance;    /* after the months done */
+};
+
+/* Opens a loan with the worked-out payment. A refusal leaves the loan as it was, here and below. Refuses 1, 2, 11. */
+static inline senyolanda_result senyolanda_loan_open(
+    const uint8_t *record, size_t length, struct senyolanda_loan *SENYOLANDA_RESTRICT loan) {
+    return senyolanda_open(record, length, &loan->term, &loan->rate, &loan->payment, &loan->done, &loan->balance);
+}
+
+/* Opens a loan with a given payment. Refuses 1, 2, 11. */
+static inline senyolanda_result senyolanda_loan_open_with_payment(
+    const uint8_t *record, size_t length, double given, struct senyolanda_loan *SENYOLANDA_RESTRICT loan) {
+    return senyolanda_open_with_payment(
+        record, length, given, &loan->term, &loan->rate, &loan->payment, &loan->done, &loan->balance);
+}
+
+/* The next rows, as many as the room holds and the loan owes; the loan moves on past them. Refuses 2, 3, 10. */
+static inline senyolanda_result senyolanda_loan_draw(
+    struct senyolanda_loan *SENYOLANDA_RESTRICT loan, double *SENYOLANDA_RESTRICT room, size_t places,
+    uint32_t *SENYOLANDA_RESTRICT written, uint32_t *SENYOLANDA_RESTRICT owed) {
+    return senyolanda_draw(
+        loan->term, loan->rate, loan->payment, &loan->done, &loan->balance, room, places, written, owed);
+}
+
+/* The next row alone, as a row's record. Refuses 2, 10. */
+static inline senyolanda_result senyolanda_loan_next_row(
+    struct senyolanda_loan *SENYOLANDA_RESTRICT loan, uint8_t record[SENYOLANDA_FILLED SENYOLANDA_ROW_BYTES],
+    uint32_t *SENYOLANDA_RESTRICT written, uint32_t *SENYOLANDA_RESTRICT owed) {
+    return senyolanda_next_row(
+        loan->term, loan->rate, loan->payment, &loan->done, &loan->balance, record, written, owed);
+}
+
+/* A row of a schedule. */
+struct senyolanda_row {
+    uint32_t month;    /* from 1 */
+    double payment, principal, interest;
+    double balance;    /* after the payment */
+};
+
+/* The row at an index, from 0, of a room that a draw filled. */
+static inline struct senyolanda_row senyolanda_row_at(const double *room, size_t index) {
+    const double *place = room + index * SENYOLANDA_ROW_PLACES;
+    struct senyolanda_row row;
+    row.month = (uint32_t)place[0];
+    row.payment = place[1];
+    row.principal = place[2];
+    row.interest = place[3];
+    row.balance = place[4];
+    return row;
+}
+
+/* ---- pools: the loans come as their records end to end; the speed is an enum senyolanda_speed, its number and list beside it.
+   A bad loan's place is its index; a length that does not divide into records is 11 at 0. ---- */
+
+/* The part of a balance that is prepaid in a month, from 1. Refuses 11. */
+senyolanda_result senyolanda_monthly_smm(
+    uint32_t speed, double number, const double *history, size_t history_count,
+    uint32_t month, double *SENYOLANDA_RESTRICT smm);
+
+/* The pool's months up to its longest term, three numbers each: principal, interest, prepayment. Refuses 1, 2, 3, 7, 11. */
+senyolanda_result senyolanda_pool_cash_flows(
+    const uint8_t *records, size_t length, uint32_t speed, double number, const double *history, size_t history_count,
+    double *SENYOLANDA_RESTRICT room, size_t places, uint32_t *SENYOLANDA_RESTRICT months);
+
+/* The present value of the pool's months at a yearly rate. Refuses 1, 2, 7, 11. */
+senyolanda_result senyolanda_pool_price(
+    const uint8_t *records, size_t length, uint32_t speed, double number, const double *history, size_t history_count,
+    double rate, double *SENYOLANDA_RESTRICT price);
+
+/* The part of its price that the pool loses for a rise of the rate, by prices a basis point to both sides. Refuses 1, 2, 7, 11. */
+senyolanda_result senyolanda_pool_duration(
+    const uint8_t *records, size_t length, uint32_t speed, double number, const double *history, size_t history_count,
+    double rate, double *SENYOLANDA_RESTRICT duration);
+
+/* How that loss itself changes with the rate, by the same three prices. Refuses 1, 2, 7, 11. */
+senyolanda_result senyolanda_pool_convexity(
+    const uint8_t *records, size_t length, uint32_t speed, double number, const double *history, size_t history_count,
+    double rate, double *SENYOLANDA_RESTRICT convexity);
+
+/* Three numbers: the balance, and coupon and months to maturity weighed by it. Refuses 1, 2, 7, 11. */
+senyolanda_result senyolanda_pool_totals(const uint8_t *records, size_t length, double totals[SENYOLANDA_FILLED 3]);
+
+/* ---- bonds: the bond comes as its record ---- */
+
+/* The price at a yield. Refuses 1, 7, 9, 11. */
+senyolanda_result senyolanda_bond_price(
+    const uint8_t *record, size_t length, double ytm, double *SENYOLANDA_RESTRICT price);
+
+/* What the price gains when the yield falls by a basis point. Refuses 1, 7, 9, 11. */
+senyolanda_result senyolanda_bond_dv01(
+    const uint8_t *record, size_t length, double ytm, double *SENYOLANDA_RESTRICT dv01);
+
+/* A year's coupons over the market price; 0 for a price of almost nothing. Refuses 1, 7, 9, 11. */
+senyolanda_result senyolanda_bond_current_yield(
+    const uint8_t *record, size_t length, double market, double *SENYOLANDA_RESTRICT current);
+
+/* The yield at which the bond has the market price. Refuses 1, 7, 9, 11, 12. */
+senyolanda_result senyolanda_bond_yield_to_maturity(
+    const uint8_t *record, size_t length, double market, double *SENYOLANDA_RESTRICT ytm);
+
+/* The mean time of the bond's payments, weighed by their present values, in years. Refuses 1, 7, 9, 11. */
+senyolanda_result senyolanda_bond_macaulay_duration(
+    const uint8_t *record, size_t length, double ytm, double *SENYOLANDA_RESTRICT duration);
+
+/* The part of its price that the bond loses for a rise of the yield. Refuses 1, 7, 9, 11. */
+senyolanda_result senyolanda_bond_modified_duration(
+    const uint8_t *record, size_t length, double ytm, double *SENYOLANDA_RESTRICT duration);
+
+/* How that loss itself changes with the yield. Refuses 1, 7, 9, 11. */
+senyolanda_result senyolanda_bond_convexity(
+    const uint8_t *record, size_t length, double ytm, double *SENYOLANDA_RESTRICT convexity);
+
+/* The price's change, by duration and convexity, when the yield changes by delta. Refuses 1, 7, 9, 11. */
+senyolanda_result senyolanda_bond_price_change(
+    const uint8_t *record, size_t length, double ytm, double delta, double *SENYOLANDA_RESTRICT change);
+
+/* The three of above at the yield that a market price implies. Each refuses 1, 7, 9, 11, 12. */
+senyolanda_result senyolanda_bond_macaulay_duration_at_price(
+    const uint8_t *record, size_t length, double market, double *SENYOLANDA_RESTRICT duration);
+senyolanda_result senyolanda_bond_modified_duration_at_price(
+    const uint8_t *record, size_t length, double market, double *SENYOLANDA_RESTRICT duration);
+senyolanda_result senyolanda_bond_convexity_at_price(
+    const uint8_t *record, size_t length, double market, double *SENYOLANDA_RESTRICT convexity);
+
+/* The price of 1 that is paid at maturity. Refuses 7, 9. */
+senyolanda_result senyolanda_zero_coupon_bond_price(double ytm, double maturity, double *SENYOLANDA_RESTRICT price);
+
+/* ---- yield curves: knots as two lists, their times and their rates, flat outside ---- */
+
+/* The rate at t, on straight lines between the knots. Refuses 4, 5, 6, 7. */
+senyolanda_result senyolanda_linear_interpolate(
+    const double *times, size_t times_count, const double *rates, size_t rates_count,
+    double t, double *SENYOLANDA_RESTRICT rate);
+
+/* The rate at t, on the natural cubic spline through the knots. Refuses 4, 5, 6, 7. */
+senyolanda_result senyolanda_cubic_spline_interpolate(
+    const double *times, size_t times_count, const double *rates, size_t rates_count,
+    double t, double *SENYOLANDA_RESTRICT rate);
+
+/* What 1 at t is worth today, on the straight lines. Refuses 4, 5, 6, 7. */
+senyolanda_result senyolanda_yield_curve_discount_factor(
+    const double *times, size_t times_count, const double *rates, size_t rates_count,
+    double t, double *SENYOLANDA_RESTRICT factor);
+
+/* The rate from t1 to t2 that today's curve implies. Refuses 4, 5, 6, 7. */
+senyolanda_result senyolanda_yield_curve_forward_rate(
+    const double *times, size_t times_count, const double *rates, size_t rates_count,
+    double t1, double t2, double *SENYOLANDA_RESTRICT rate);
+
+/* The coupon at which a bond that pays each half year until t is worth its face. Refuses 4, 5, 6, 7. */
+senyolanda_result senyolanda_par_yield(
+    const double *times, size_t times_count, const double *rates, size_t rates_count,
+    double t, double *SENYOLANDA_RESTRICT par);
+
+/* The Nelson-Siegel model nearest to the points, as four numbers: beta0, beta1, beta2, decay. Refuses 4, 5, 6. */
+senyolanda_result senyolanda_nelson_siegel_fit(
+    const double *times, size_t times_count, const double *rates, size_t rates_count,
+    double model[SENYOLANDA_FILLED 4]);
+
+/* The model's yield at t. Refuses 7. */
+senyolanda_result senyolanda_nelson_siegel_yield(
+    const double model[SENYOLANDA_READ 4], double t, double *SENYOLANDA_RESTRICT rate);
+
+/* The model's forward rate at t. Refuses 7. */
+senyolanda_result senyolanda_nelson_siegel_forward_rate(
+    const double model[SENYOLANDA_READ 4], double t, double *SENYOLANDA_RESTRICT rate);
+
+/* The model's forward rate at time 0. Never refused. */
+senyolanda_result senyolanda_nelson_siegel_instantaneous_forward(
+    const double model[SENYOLANDA_READ 4], double *SENYOLANDA_RESTRICT rate);
+
+/* Three numbers: level, slope, curvature. Never refused. */
+senyolanda_result senyolanda_nelson_siegel_metrics(
+    const double model[SENYOLANDA_READ 4], double metrics[SENYOLANDA_FILLED 3]);
+
+/* ---- swaps: the swap comes as its record, its discount curve as tenors and zero rates; receive_fixed is 0 for the side that
+   pays the fixed rate ---- */
+
+/* What part of a year so many days are; day_count is an enum senyolanda_day_count. Refuses 11. */
+senyolanda_result senyolanda_day_count_fraction(uint32_t day_count, uint32_t days, double *SENYOLANDA_RESTRICT fraction);
+
+/* The zero rates at which par swaps of these rates are worth nothing, one for each tenor; places past the last tenor stay.
+   Refuses 4, 5, 6. */
+senyolanda_result senyolanda_bootstrap(
+    const double *tenors, size_t tenors_count, const double *par_rates, size_t par_rates_count,
+    double zero_rates[SENYOLANDA_FILLED SENYOLANDA_MOST_KNOTS]);
+
+/* The zero rate at t. Refuses 4, 5, 6, 7. */
+senyolanda_result senyolanda_discount_curve_rate(
+    const double *tenors, size_t tenors_count, const double *zeros, size_t zeros_count,
+    double t, double *SENYOLANDA_RESTRICT rate);
+
+/* What 1 at t is worth today. Refuses 4, 5, 6, 7. */
+senyolanda_result senyolanda_discount_curve_factor(
+    const double *tenors, size_t tenors_count, const double *zeros, size_t zeros_count,
+    double t, double *SENYOLANDA_RESTRICT factor);
+
+/* The present value of the fixed payments, and of the notional at the end. Refuses 1, 4, 5, 6, 7, 8, 9, 11. */
+senyolanda_result senyolanda_fixed_leg_pv(
+    const uint8_t *record, size_t length,
+    const double *tenors, size_t tenors_count, const double *zeros, size_t zeros_count,
+    double *SENYOLANDA_RESTRICT pv);
+
+/* The present value of the floating payments, and of the notional at the end. Refuses 1, 4, 5, 6, 7, 8, 9, 11. */
+senyolanda_result senyolanda_floating_leg_pv(
+    const uint8_t *record, size_t length,
+    const double *tenors, size_t tenors_count, const double *zeros, size_t zeros_count,
+    double *SENYOLANDA_RESTRICT pv);
+
+/* What the swap is worth to the named side. Refuses 1, 4, 5, 6, 7, 8, 9, 11. */
+senyolanda_result senyolanda_swap_npv(
+    const uint8_t *record, size_t length,
+    const double *tenors, size_t tenors_count, const double *zeros, size_t zeros_count,
+    uint32_t receive_fixed, double *SENYOLANDA_RESTRICT npv);
+
+/* The fixed rate at which the swap is worth nothing. Refuses 1, 4, 5, 6, 7, 8, 9, 11. */
+senyolanda_result senyolanda_par_swap_rate(
+    const uint8_t *record, size_t length,
+    const double *tenors, size_t tenors_count, const double *zeros, size_t zeros_count,
+    double *SENYOLANDA_RESTRICT rate);
+
+/* What the swap gains when every zero rate rises by a basis point. Refuses 1, 4, 5, 6, 7, 8, 9, 11. */
+senyolanda_result senyolanda_swap_dv01(
+    const uint8_t *record, size_t length,
+    const double *tenors, size_t tenors_count, const double *zeros, size_t zeros_count,
+    uint32_t receive_fixed, double *SENYOLANDA_RESTRICT dv01);
+
+/* The modified duration of the fixed leg, in years. Refuses 1, 4, 5, 6, 7, 8, 9, 11. */
+senyolanda_result senyolanda_swap_duration(
+    const uint8_t *record, size_t length,
+    const double *tenors, size_t tenors_count, const double *zeros, size_t zeros_count,
+    double *SENYOLANDA_RESTRICT duration);
+
+/* Six numbers: npv, fixed leg, floating leg, par rate, dv01, duration. Refuses 1, 4, 5, 6, 7, 8, 9, 11. */
+senyolanda_result senyolanda_value_swap(
+    const uint8_t *record, size_t length,
+    const double *tenors, size_t tenors_count, const double *zeros, size_t zeros_count,
+    uint32_t receive_fixed, double valuation[SENYOLANDA_FILLED 6]);
+
+/* ---- spreads: curves as tenors and rates, flat outside; a spread is in basis points, a rate is a decimal ---- */
+
+/* The zero rate at t. Refuses 4, 5, 6, 7. */
+senyolanda_result senyolanda_zero_curve_rate(
+    const double *tenors, size_t tenors_count, const double *rates, size_t rates_count,
+    double t, double *SENYOLANDA_RESTRICT rate);
+
+/* The par swap rate at a tenor. Refuses 4, 5, 6, 7. */
+senyolanda_result senyolanda_swap_curve_rate(
+    const double *tenors, size_t tenors_count, const double *rates, size_t rates_count,
+    double tenor, double *SENYOLANDA_RESTRICT rate);
+
+/* What 1 at t is worth today. Refuses 4, 5, 6, 7. */
+senyolanda_result senyolanda_zero_curve_discount_factor(
+    const double *tenors, size_t tenors_count, const double *rates, size_t rates_count,
+    double t, double *SENYOLANDA_RESTRICT factor);
+
+/* The rate from t1 to t2 that today's curve implies. Refuses 4, 5, 6, 7. */
+senyolanda_result senyolanda_zero_curve_forward_rate(
+    const double *tenors, size_t tenors_count, const double *rates, size_t rates_count,
+    double t1, double t2, double *SENYOLANDA_RESTRICT rate);
+
+/* A bond's cash flows into two lists, a place in both for each flow; frequency is the number of payments a year, 0 is read as 1.
+   Refuses 1, 3, 7, 9. */
+senyolanda_result senyolanda_bond_cash_flows(
+    double face, double coupon, double tenor, uint32_t frequency,
+    double *SENYOLANDA_RESTRICT times, size_t times_count, double *SENYOLANDA_RESTRICT amounts, size_t amounts_count,
+    uint32_t *SENYOLANDA_RESTRICT flows);
+
+/* The present value of cash flows over the curve raised by so many points. Refuses 4, 5, 6, 7, 9. */
+senyolanda_result senyolanda_pv_cash_flows(
+    const double *times, size_t times_count, const double *amounts, size_t amounts_count,
+    const double *tenors, size_t tenors_count, const double *rates, size_t rates_count,
+    double points, double *SENYOLANDA_RESTRICT pv);
+
+/* The points at which cash flows have the market price: found is 1; where no sign change lies between -500 and 2,000, found is 0
+   and points is the end that comes nearer. Refuses 4, 5, 6, 7, 9. */
+senyolanda_result senyolanda_z_spread(
+    const double *times, size_t times_count, const double *amounts, size_t amounts_count,
+    const double *tenors, size_t tenors_count, const double *rates, size_t rates_count,
+    double market, double *SENYOLANDA_RESTRICT points, uint32_t *SENYOLANDA_RESTRICT found);
+
+/* Two numbers, duration and convexity, of cash flows over the curve raised by so many points. Refuses 4, 5, 6, 7, 9. */
+senyolanda_result senyolanda_duration_convexity(
+    const double *times, size_t times_count, const double *amounts, size_t amounts_count,
+    const double *tenors, size_t tenors_count, const double *rates, size_t rates_count,
+    double points, double sensitivity[SENYOLANDA_FILLED 2]);
+
+/* The three of above over one list of dated amounts: time, amount, time, amount, .. An odd count is 4: a time without an amount.
+   Each refuses 4, 5, 6, 7, 9. */
+senyolanda_result senyolanda_dated_pv(
+    const double *flows, size_t flows_count,
+    const double *tenors, size_t tenors_count, const double *rates, size_t rates_count,
+    double points, double *SENYOLANDA_RESTRICT pv);
+senyolanda_result senyolanda_dated_z_spread(
+    const double *flows, size_t flows_count,
+    const double *tenors, size_t tenors_count, const double *rates, size_t rates_count,
+    double market, double *SENYOLANDA_RESTRICT points, uint32_t *SENYOLANDA_RESTRICT found);
+senyolanda_result senyolanda_dated_duration_convexity(
+    const double *flows, size_t flows_count,
+    const double *tenors, size_t tenors_count, const double *rates, size_t rates_count,
+    double points, double sensitivity[SENYOLANDA_FILLED 2]);
+
+/* So many basis points as a decimal rate: the one step from points to rates. Never refused. */
+senyolanda_result senyolanda_points_to_decimal(double points, double *SENYOLANDA_RESTRICT rate);
+
+/* A dated amount: a list of them is lent as it is, its count in flows. */
+struct senyolanda_cash_flow {
+    double time, amount;
+};
+
+/* The three functions over dated amounts, for lists of cash flows. Each refuses 5, 6, 7, 9, and 4 for the curve's lists. */
+static inline senyolanda_result senyolanda_flows_pv(
+    const struct senyolanda_cash_flow *flows, size_t flows_count,
+    const double *tenors, size_t tenors_count, const double *rates, size_t rates_count,
+    double points, double *SENYOLANDA_RESTRICT pv) {
+    return senyolanda_dated_pv(
+        (const double *)flows, 2 * flows_count, tenors, tenors_count, rates, rates_count, points, pv);
+}
+
+static inline senyolanda_result senyolanda_flows_z_spread(
+    const struct senyolanda_cash_flow *flows, size_t flows_count,
+    const double *tenors, size_t tenors_count, const double *rates, size_t rates_count,
+    double market, double *SENYOLANDA_RESTRICT points, uint32_t *SENYOLANDA_RESTRICT found) {
+    return senyolanda_dated_z_spread(
+        (const double *)flows, 2 * flows_count, tenors, tenors_count, rates, rates_count, market, points, found);
+}
+
+static inline senyolanda_result senyolanda_flows_duration_convexity(
+    const struct senyolanda_cash_flow *flows, size_t flows_count,
+    const double *tenors, size_t tenors_count, const double *rates, size_t rates_count,
+    double points, double sensitivity[SENYOLANDA_FILLED 2]) {
+    return senyolanda_dated_duration_convexity(
+        (const double *)flows, 2 * flows_count, tenors, tenors_count, rates, rates_count, points, sensitivity);
+}
+
+#ifdef __cplusplus
+}
+#endif
+
+#endif

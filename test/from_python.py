@@ -1,0 +1,126 @@
+#!/usr/bin/env python3
+"""from_python.py LIBRARY: the shared library as a Python program calls it, by ctypes. Loans are opened, drawn in portions and held to
+document 01's figures; refusals give number and place and leave lent memory alone."""
+import ctypes
+import struct
+import sys
+from ctypes import POINTER, byref, c_double, c_size_t, c_uint8, c_uint32, c_uint64
+
+ROW = 5
+BYTES = POINTER(c_uint8), c_size_t
+NUMBERS = POINTER(c_double), c_size_t
+NUMBER, COUNT = POINTER(c_double), POINTER(c_uint32)
+
+library = ctypes.CDLL(sys.argv[1])
+
+
+class Refused(Exception):
+    """A refusal: its number and its place."""
+
+
+def function(name, *parameters):
+    """The library's function of that name; what it refuses is raised."""
+    call = getattr(library, name)
+    call.argtypes, call.restype = parameters, c_uint64
+
+    def accepted(*arguments):
+        result = call(*arguments)
+        if result != 0:
+            raise Refused(result & 0xFFFF_FFFF, result >> 32)
+
+    return accepted
+
+
+write_loan = function("senyolanda_write_loan", c_double, c_double, c_uint32, POINTER(c_uint8))
+open_ = function("senyolanda_open", *BYTES, COUNT, NUMBER, NUMBER, COUNT, NUMBER)
+open_with_payment = function("senyolanda_open_with_payment", *BYTES, c_double, COUNT, NUMBER, NUMBER, COUNT, NUMBER)
+draw = function("senyolanda_draw", c_uint32, c_double, c_double, COUNT, NUMBER, *NUMBERS, COUNT, COUNT)
+pool_totals = function("senyolanda_pool_totals", *BYTES, NUMBER)
+
+
+class Loan:
+    """A loan in hand, from its terms and, where one is given, its payment."""
+
+    def __init__(self, principal, rate, term, given=None):
+        record = record_of(principal, rate, term)
+        self.state = c_uint32(), c_double(), c_double(), c_uint32(), c_double()
+        state = map(byref, self.state)
+        if given is None:
+            open_(record, len(record), *state)
+        else:
+            open_with_payment(record, len(record), given, *state)
+
+    def draw(self, room):
+        """The rows written into the room, and how many are owed after them."""
+        term, rate, payment, done, balance = self.state
+        written, owed = c_uint32(), c_uint32()
+        draw(term, rate, payment, byref(done), byref(balance), room, len(room), byref(written), byref(owed))
+        return written.value, owed.value
+
+    def rows(self, places):
+        """All rows that are left, through room for so many numbers."""
+        room, rows, owed = (c_double * places)(), [], 1
+        while owed > 0:
+            written, owed = self.draw(room)
+            rows += [room[ROW * i:ROW * (i + 1)] for i in range(written)]
+        return rows
+
+
+def record_of(principal, rate, term):
+    record = (c_uint8 * 21)()
+    write_loan(principal, rate, term, record)
+    return record
+
+
+def bits(rows):
+    """Rows as a listing shows them: every NaN alike."""
+    def digits(x):
+        return struct.pack(">d", x).hex() if x == x else "7ff8000000000000"
+    return [" ".join([f"{row[0]:.0f}", *map(digits, row[1:])]) for row in rows]
+
+
+def same(got, want):
+    if got != want:
+        sys.exit(f"from Python: got {got} and not {want}")
+
+
+def refusal(call, *arguments):
+    try:
+        call(*arguments)
+    except Refused as refused:
+        return refused.args
+    return None
+
+
+for places in range(5, 16):
+    same(bits(Loan(1200.0, 0.0, 3).rows(places)), [
+        "1 4079000000000000 4079000000000000 0000000000000000 4089000000000000",
+        "2 4079000000000000 4079000000000000 0000000000000000 4079000000000000",
+        "3 4079000000000000 4079000000000000 0000000000000000 0000000000000000"])
+    same(bits(Loan(1000.0, float("nan"), 2).rows(places)), [
+        "1 7ff8000000000000 0000000000000000 7ff8000000000000 408f400000000000",
+        "2 7ff8000000000000 408f400000000000 7ff8000000000000 0000000000000000"])
+    same(bits(Loan(1000.0, 6.0, 2, given=100.0).rows(places)), [
+        "1 4059000000000000 0000000000000000 407f400000000000 408f400000000000",
+        "2 4097700000000000 408f400000000000 407f400000000000 0000000000000000"])
+
+# Room for four numbers is refused with 3; neither the room nor the loan is touched, and the next draw goes on from there.
+loan, short = Loan(1200.0, 0.0, 3), (c_double * 4)(*[1.5] * 4)
+before = [number.value for number in loan.state]
+same(refusal(loan.draw, short), (3, 0))
+same(short[:], [1.5] * 4)
+same([number.value for number in loan.state], before)
+same(loan.draw((c_double * 5)()), (1, 2))
+
+# A term of 0, a record that is no loan's, and none at all.
+same(refusal(Loan, 1200.0, 0.0, 0), (2, 0))
+same(refusal(Loan, -1.0, 0.0, 3), (1, 0))
+same(refusal(open_, None, 0, *map(byref, loan.state)), (11, 0))
+
+# A pool whose third loan owes less than nothing: the place is its index.
+pool = b"".join(map(bytes, [record_of(1200.0, 0.0, 3), record_of(1000.0, 6.0, 2), record_of(-1.0, 0.0, 3)]))
+totals = (c_double * 3)(1.5, 1.5, 1.5)
+same(refusal(pool_totals, (c_uint8 * len(pool))(*pool), len(pool), totals), (1, 2))
+same(totals[:], [1.5] * 3)
+
+print("from Python: loans drawn in portions, and refusals that touch nothing")
