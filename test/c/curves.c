@@ -1,0 +1,121 @@
+#include "curves.h"
+
+#include "damaged.h"
+
+#include <float.h>
+#include <math.h>
+#include <string.h>
+
+/* Bad knots stand at the first index, in the middle and at the last; the desk's knots are half a year apart. */
+const struct cause curve_causes[] = {
+    CAUSE(4, WHOLE(rates_count, 4)),
+    CAUSE(4, WHOLE(rates_count, 6)),
+    CAUSE(4, WHOLE(times_count, 0), WHOLE(rates_count, 1)),
+    CAUSE(4, WHOLE(times_count, 1), WHOLE(rates_count, 0)),
+    CAUSE(4, WHOLE(times_count, 121), WHOLE(rates_count, 120)),
+    CAUSE(4, WHOLE(times_count, 121), WHOLE(rates_count, 122)),
+    CAUSE(5, WHOLE(times_count, 0), WHOLE(rates_count, 0)),
+    CAUSE(5, WHOLE(times_count, 121), WHOLE(rates_count, 121)),
+    TAKEN(WHOLE(times_count, 1), WHOLE(rates_count, 1)),
+    TAKEN(WHOLE(times_count, 2), WHOLE(rates_count, 2)),
+    TAKEN(WHOLE(times_count, 120), WHOLE(rates_count, 120)),
+    CAUSE_AT(0, 6, NUMBER(times[0], -SMALLEST)),
+    NOT_FINITE_AT(0, 6, times[0]),
+    NOT_FINITE_AT(0, 6, rates[0]),
+    NOT_FINITE_AT(2, 6, times[2]),
+    NOT_FINITE_AT(2, 6, rates[2]),
+    CAUSE_AT(2, 6, NUMBER(times[2], 1.0)),
+    CAUSE_AT(2, 6, NUMBER(times[2], 0x1.fffffffffffffp-1)),
+    CAUSE_AT(2, 6, NUMBER(times[2], -1.0)),
+    CAUSE_AT(1, 6, NUMBER(times[0], 1.0)),
+    CAUSE_AT(3, 6, NUMBER(times[2], 2.5)),
+    NOT_FINITE_AT(4, 6, times[4]),
+    NOT_FINITE_AT(4, 6, rates[4]),
+    CAUSE_AT(4, 6, NUMBER(times[4], 2.0)),
+    TAKEN(NUMBER(times[0], SMALLEST)),
+    TAKEN(NUMBER(times[0], 0x1.fffffffffffffp-1)),
+    TAKEN(NUMBER(times[2], 0x1.0000000000001p+0)),
+    TAKEN(NUMBER(times[2], 0x1.fffffffffffffp+0)),
+    TAKEN(NUMBER(times[4], 0x1.0000000000001p+1)),
+    FINITE_TAKEN(rates[0]),
+    FINITE_TAKEN(rates[4]),
+    END_OF_CAUSES,
+};
+
+/* A curve that is read, not bootstrapped, may begin at 0 and end after 100 years. */
+const struct cause open_curve_causes[] = {
+    TAKEN(NUMBER(times[0], 0.0)),
+    TAKEN(NUMBER(times[0], -0.0)),
+    CAUSE_AT(1, 6, NUMBER(times[0], -0.0), NUMBER(times[1], 0.0)),
+    TAKEN(NUMBER(times[4], 0x1.9000000000001p+6)),
+    TAKEN(NUMBER(times[4], DBL_MAX)),
+    END_OF_CAUSES,
+};
+
+const struct cause time_causes[] = {
+    NOT_FINITE(7, t),
+    TAKEN(NUMBER(t, -1.0)),
+    TAKEN(NUMBER(t, -0.0)),
+    TAKEN(NUMBER(t, 0.5)),
+    TAKEN(NUMBER(t, 2.5)),
+    FINITE_TAKEN(t),
+    END_OF_CAUSES,
+};
+
+const struct cause second_time_causes[] = {
+    NOT_FINITE(7, t2),
+    FINITE_TAKEN(t2),
+    END_OF_CAUSES,
+};
+
+void set_curve(size_t count, const double *times, const double *rates) {
+    memcpy(desk.times, times, count * sizeof *times);
+    memcpy(desk.rates, rates, count * sizeof *rates);
+    desk.times_count = desk.rates_count = count;
+}
+
+struct lent_curve lend_curve(void) {
+    struct lent_numbers times = lend_numbers(desk.times, desk.times_count), rates = lend_numbers(desk.rates, desk.rates_count);
+    struct lent_curve curve = { times.numbers, times.count, rates.numbers, rates.count };
+    return curve;
+}
+
+senyolanda_result number_of_curve(curve_number *function) {
+    struct lent_curve curve = lend_curve();
+    double *answer = lend_number();
+    return CALL(function(curve.times, curve.times_count, curve.rates, curve.rates_count, desk.t, answer));
+}
+
+senyolanda_result number_between(curve_number_between *function) {
+    struct lent_curve curve = lend_curve();
+    double *answer = lend_number();
+    return CALL(function(curve.times, curve.times_count, curve.rates, curve.rates_count, desk.t, desk.t2, answer));
+}
+
+double at(call *called, double t) {
+    desk.t = t;
+    return NUMBER_OF(called);
+}
+
+double between(call *called, double t1, double t2) {
+    desk.t2 = t2;
+    return at(called, t1);
+}
+
+static double random_part(void) {
+    return (1 + (double)random_below(1000)) / 1002;
+}
+
+struct segments set_random_segments(void) {
+    struct segments s;
+    s.t0 = 9 * random_part();
+    s.t1 = s.t0 + 9 * random_part();
+    s.t2 = s.t1 + 9 * random_part();
+    s.rate0 = random_part();
+    s.rate1 = random_part();
+    s.rate2 = random_part();
+    s.inside = s.t0 + (s.t1 - s.t0) * random_part();
+    double times[] = { s.t0, s.t1, s.t2 }, rates[] = { s.rate0, s.rate1, s.rate2 };
+    set_curve(3, times, rates);
+    return s;
+}

@@ -1,0 +1,36 @@
+/* What the tests over curves share: the desk's curve set and lent, the causes that it can meet, and a number asked of it. */
+#ifndef CURVES_H
+#define CURVES_H
+
+#include "functions.h"
+
+/* 4, 5 and 6 of a curve; what only a bootstrap refuses of it; a time asked, and a second one. */
+extern const struct cause curve_causes[], open_curve_causes[], time_causes[], second_time_causes[];
+
+void set_curve(size_t count, const double *times, const double *rates);
+
+struct lent_curve {
+    const double *times;
+    size_t times_count;
+    const double *rates;
+    size_t rates_count;
+};
+struct lent_curve lend_curve(void);
+
+/* A function that is asked for a number of a curve, called at the desk's time; two times, for one that asks for both. */
+typedef senyolanda_result curve_number(const double *, size_t, const double *, size_t, double, double *);
+typedef senyolanda_result curve_number_between(const double *, size_t, const double *, size_t, double, double, double *);
+senyolanda_result number_of_curve(curve_number *function);
+senyolanda_result number_between(curve_number_between *function);
+
+/* What the call gives at a time, or between two. */
+double at(call *called, double t);
+double between(call *called, double t1, double t2);
+
+/* Three knots at random, set as the curve, and a time inside the first segment. */
+struct segments {
+    double t0, t1, t2, rate0, rate1, rate2, inside;
+};
+struct segments set_random_segments(void);
+
+#endif
