@@ -1,10 +1,11 @@
 -- `senyolanda::bonds::bond_in` meets its contract. Assumes nothing.
 use mathlib.Core.Path.{sym, ap, _∙_}
+use Rattle.refusals.specs.Outcome.{judged}
 use Rattle.refusals.specs.Answers.{verdictOutcome}
 use Rattle.records.specs.Kinds.{bondOutcome}
 use Rattle.bond.specs.declared.Frequency.{Frequency}
 use Rattle.bond.specs.Codes.{frequencyOf, frequencyOutcome}
-use Rattle.senyolanda.specs.Bonds.{paidEach, bondRead}
+use Rattle.senyolanda.specs.Bonds.{paidEach, uncodedLines, bondRead}
 use Rattle.senyolanda.proofs.Codes.{out-of-set, in-set, known, others-first, unknown, unread, read-so}
 use borrow.Author.Needs.{needs}
 use Rattle.senyolanda.proofs.bonds.bond_in.Statement.{statement}
@@ -47,7 +48,9 @@ returns-2 c =
     let f = c .before .before .before in
     let r = f .before .before in
     let set = in-set _ _ _ (sym (ap frequencyOutcome (c .before .frequency .given .1)) ∙ f .frequency-of .ensures) in
-    read-so _ _ _ _ (sym (ap bondOutcome (r .fields .given .1)) ∙ r .before .before .bond-fields .ensures) (known _ _ _ _ (set .0) (ap (λ (f : Frequency). paidEach f (r .fields .given .0 .0)) (set .1)))
+    let b = r .fields .given .0 .0 in
+    read-so _ _ _ _ (sym (ap bondOutcome (r .fields .given .1)) ∙ r .before .before .bond-fields .ensures)
+    (known _ (judged (uncodedLines b (r .before .before .before .before .args .beside)) tt) _ _ (set .0) (ap (λ (f : Frequency). paidEach f b) (set .1)))
 
 returns-3 : tie.Need-returns-3
 unfolding bondRead frequencyOf

@@ -1,6 +1,11 @@
 -- `senyolanda::pools::speed_for` meets its contract. Assumes nothing.
 use mathlib.Core.Path.{sym, ap, _∙_}
+use mathlib.Core.Bool.{_&&_}
+use Rattle.refusals.specs.Outcome.{judged}
 use Rattle.refusals.specs.Answers.{verdictOutcome}
+use Rattle.pool.specs.Loans.{poolLines}
+use Rattle.pool.specs.Places.{placed}
+use Rattle.pool.specs.Flows.{tooLittle}
 use Rattle.senyolanda.specs.Pools.{speedOf, speedFor, speedInOutcome}
 use Rattle.senyolanda.proofs.Codes.{out-of-set, in-set, known, others-first, unknown}
 use borrow.Author.Needs.{needs}
@@ -29,7 +34,8 @@ returns : tie.Need-returns
 unfolding speedFor speedOf
 returns c =
     let set = in-set _ _ _ (sym (ap speedInOutcome (c .before .speed .given .1)) ∙ c .before .before .before .speed-of .ensures) in
-    known _ _ _ _ (set .0) (set .1)
+    let a = c .before .before .before .before .before .args in
+    known _ (placed (judged (poolLines (a .records .now) (a .asked && tooLittle (a .records .now) (a .room))) tt)) _ _ (set .0) (set .1)
 
 returns-2 : tie.Need-returns-2
 unfolding speedFor speedOf

@@ -8,9 +8,9 @@ use Rattle.records.specs.declared.SwapRecord.{SwapRecord}
 use Rattle.records.specs.Kinds.{swapOutcome}
 use Rattle.swaps.specs.declared.Swap.{Swap}
 use Rattle.swaps.specs.declared.day_counts.DayCount.{DayCount}
-use Rattle.swaps.specs.Codes.{dayCountOf, dayCountOutcome}
+use Rattle.swaps.specs.Codes.{dayCountAt, dayCountOf, dayCountOutcome}
 use Rattle.swaps.specs.Swap.{payments, swapLines}
-use Rattle.senyolanda.specs.Swaps.{countedBy, swapRead}
+use Rattle.senyolanda.specs.Swaps.{countedBy, swapOf, swapRead}
 use Rattle.senyolanda.proofs.Codes.{out-of-set, in-set, known, others-first, unknown, unread, read-so}
 use borrow.Author.Needs.{needs}
 use Rattle.senyolanda.proofs.swap_values.swap_in.Statement.{statement}
@@ -64,9 +64,11 @@ unfolding swapRead dayCountOf
 returns-2 c =
     let f = c .before .before .before .before in
     let r = f .before .before in
+    let b = r .fields .given .0 .0 in
+    let a = r .before .before .before .before .before .before .args in
     let set = in-set _ _ _ (sym (ap dayCountOutcome (c .before .before .day-count .given .1)) ∙ f .day-count-of .ensures) in
     read-so _ _ _ _ (sym (ap swapOutcome (r .fields .given .1)) ∙ r .before .before .swap-fields .ensures)
-    (known _ _ _ _ (set .0) (c .counted-by .ensures ∙ ap (λ (d : DayCount). countedBy d (r .fields .given .0 .0)) (set .1)))
+    (known _ (judged (swapLines (swapOf b) (a .tenors .now) (a .zeros .now)) tt) _ _ (set .0) (c .counted-by .ensures ∙ ap (λ (d : DayCount). countedBy d b) (set .1)))
 
 returns-3 : tie.Need-returns-3
 unfolding swapRead dayCountOf payments
@@ -75,9 +77,11 @@ returns-3 c =
     let u = c .before .before .before .before .before .before in
     let f = u .before .before in
     let r = f .before .before in
+    let b = r .fields .given .0 .0 in
+    let a = r .before .before .before .before .before .before .args in
     let set = out-of-set _ _ _ _ (sym (ap dayCountOutcome (u .unknown .given .1)) ∙ f .day-count-of .ensures) in
     read-so _ _ _ _ (sym (ap swapOutcome (r .fields .given .1)) ∙ r .before .before .swap-fields .ensures)
-    (others-first _ _ _ _ _ (set .0) (sym (ap verdictOutcome (c .before .refusal2 .given .1)) ∙ alike _ _ _ _ _ _ (j .before .counted-by2 .ensures) (j .judge-swap .ensures)))
+    (others-first _ _ _ _ _ (set .0) (sym (ap verdictOutcome (c .before .refusal2 .given .1)) ∙ alike _ _ (dayCountAt (b .count)) b (a .tenors .now) (a .zeros .now) (j .before .counted-by2 .ensures) (j .judge-swap .ensures)))
 
 returns-4 : tie.Need-returns-4
 unfolding swapRead dayCountOf payments
@@ -86,9 +90,11 @@ returns-4 c =
     let u = c .before .before .before .before .before in
     let f = u .before .before in
     let r = f .before .before in
+    let b = r .fields .given .0 .0 in
+    let a = r .before .before .before .before .before .before .args in
     let set = out-of-set _ _ _ _ (sym (ap dayCountOutcome (u .unknown .given .1)) ∙ f .day-count-of .ensures) in
     read-so _ _ _ _ (sym (ap swapOutcome (r .fields .given .1)) ∙ r .before .before .swap-fields .ensures)
-    (unknown _ _ _ _ _ (set .0) (sym (ap verdictOutcome (c .enum-told .given .1)) ∙ alike _ _ _ _ _ _ (j .before .counted-by2 .ensures) (j .judge-swap .ensures)) (set .1) (set .2))
+    (unknown _ _ _ _ _ (set .0) (sym (ap verdictOutcome (c .enum-told .given .1)) ∙ alike _ _ (dayCountAt (b .count)) b (a .tenors .now) (a .zeros .now) (j .before .counted-by2 .ensures) (j .judge-swap .ensures)) (set .1) (set .2))
 
 pub swap-in-spec : {M : Type 1} → statement M
 swap-in-spec =
