@@ -3,3 +3,4 @@ pub mod Codes
 pub mod Copied
 pub mod DatedAmounts
 pub mod Handed
+pub mod Tight
