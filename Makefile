@@ -83,12 +83,13 @@ test: all x86-64 build/test/statement
 	rt fmt --check
 	rt ci
 
-build/libbench_jobs.a: $(SOURCES) tools/native | kit
-	tools/native bench_jobs $@
+# What is missing is said before minutes go into the library.
+.PHONY: bench-needs
+bench-needs:
+	@bench/needs "$(FIN_PRIMITIVES)"
 
-bench: build/libbench_jobs.a
-	@tools/need rustc rustc libstd-rust-dev
-	bench/run "$(FIN_PRIMITIVES)"
+bench: bench-needs build/libsenyolanda.a
+	bench/run build/libsenyolanda.a "$(FIN_PRIMITIVES)"
 
 install: all
 	install -d $(DESTDIR)$(BINDIR) $(DESTDIR)$(LIBDIR)/pkgconfig $(DESTDIR)$(INCLUDEDIR)
