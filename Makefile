@@ -2,7 +2,7 @@
 #                 that link the library, and the programs schedule and statement
 # make x86-64     builds build/x86-64/libsenyolanda.a, on any machine
 # make run        builds, draws a sample loan's schedule, and prints a sample loan's statement
-# make test       runs every test; its last lines are `rt ci`'s
+# make test       proves everything from nothing by `rt ci`, then runs every test; its last line is `rt ci`'s
 # make bench      times jobs beside the Rust, both for this machine's own processor
 # make install    puts library, header and programs under PREFIX, within DESTDIR; make uninstall takes them away
 SHELL := /bin/sh
@@ -19,7 +19,7 @@ VERSION := 0.1.0
 # The number goes up when a program that was linked before would no longer run as it did.
 SONAME := libsenyolanda.so.0
 
-.PHONY: all x86-64 run test bench install uninstall clean kit always
+.PHONY: all x86-64 run test tests bench install uninstall clean kit always
 # Two proofs at a time would write the same files under target/.
 .NOTPARALLEL:
 
@@ -66,12 +66,20 @@ run: build/schedule build/statement
 	test/record 1200 0 3 | build/schedule
 	build/statement 12000 0.06 12
 
-test: all x86-64 build/test/statement
+# The gate comes first: it proves from nothing, and what it proved the builds after it take as it stands. Its last line is the last here too.
+test: kit
 	@tools/need objdump binutils
 	@tools/need c++ g++
 	@tools/need python3 python3
 	@tools/need rustc rustc libstd-rust-dev
 	@tools/need pkg-config pkg-config
+	rt fmt --check
+	test/gate build/gate.log
+	$(MAKE) tests
+	@tail -n 1 build/gate.log
+
+# Every test but the gate.
+tests: all x86-64 build/test/statement
 	test/schedule.sh
 	test/header.sh build/libsenyolanda.a build/libsenyolanda.so build/x86-64/libsenyolanda.a
 	test/statement.sh build/statement
@@ -80,8 +88,6 @@ test: all x86-64 build/test/statement
 	test/hosts.sh build/libsenyolanda.a build/libsenyolanda.so
 	test/refusals.py build/libsenyolanda.so
 	test/install.sh
-	rt fmt --check
-	rt ci
 
 build/libbench_jobs.a: $(SOURCES) tools/native | kit
 	tools/native bench_jobs $@
