@@ -1,6 +1,6 @@
 -- A code outside its set waits its turn: what is then refused is what document 01's rule gives for the other lines with line 11 after them. Assumes nothing.
-use mathlib.Core.Path.{_≡_, refl, ap}
-use mathlib.Core.Bool.{Bool, true, false, cond}
+use mathlib.Core.Path.{_≡_, refl}
+use mathlib.Core.Bool.{Bool, true, false}
 use mathlib.Core.List.{List, [], _∷_, _++_}
 use Prim.Native.Nat.{ℕ, suc}
 use Rattle.refusals.specs.Outcome.{Outcome, refused, accepted, Line, line, firstOr, judged, andThen}

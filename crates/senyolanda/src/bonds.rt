@@ -1,6 +1,5 @@
 // Bonds: a bond comes as a kind 2 record.
 ghost use mathlib.Core.Path.{_≡_};
-ghost use mathlib.Core.List.{List};
 ghost use Rattle.refusals.specs.Outcome.{judged};
 ghost use Rattle.refusals.specs.Answers.{verdictOutcome};
 ghost use Rattle.bond.specs.Price.{price as priceAt, dv01 as dv01At, currentYield, zeroCouponPrice};
