@@ -1,6 +1,6 @@
 # make            builds in build/, for this machine's own processor: libsenyolanda.a, libsenyolanda.so and senyolanda.pc for programs
-#                 that link the library, and the programs schedule and statement
-# make x86-64     builds build/x86-64/libsenyolanda.a, on any machine
+#                 that link the library, and the programs schedule and statement; and build/x86-64/libsenyolanda.a
+# make x86-64     builds build/x86-64/libsenyolanda.a alone, on any machine
 # make run        builds, draws a sample loan's schedule, and prints a sample loan's statement
 # make test       proves everything from nothing by `rt ci`, then runs every test; its last line is `rt ci`'s
 # make bench      times jobs beside the Rust, both for this machine's own processor
@@ -23,7 +23,7 @@ SONAME := libsenyolanda.so.0
 # Two proofs at a time would write the same files under target/.
 .NOTPARALLEL:
 
-all: build/libsenyolanda.a build/libsenyolanda.so build/senyolanda.pc build/schedule build/statement
+all: build/libsenyolanda.a build/libsenyolanda.so build/senyolanda.pc build/x86-64/libsenyolanda.a build/schedule build/statement
 
 kit:
 	@command -v rt >/dev/null || { echo "make: please install the Rattle kit (its command is rt)" >&2; exit 1; }
@@ -79,7 +79,7 @@ test: kit
 	@tail -n 1 build/gate.log
 
 # Every test but the gate.
-tests: all x86-64 build/test/statement
+tests: all build/test/statement
 	test/schedule.sh
 	test/header.sh build/libsenyolanda.a build/libsenyolanda.so build/x86-64/libsenyolanda.a
 	test/statement.sh build/statement
