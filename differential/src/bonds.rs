@@ -15,7 +15,7 @@ const BRACKETS: [[f64; 2]; 2] = [[0.001, 0.999], [1e-6, 50.0]];
 input!(Bond { face: f64, coupon: f64, maturity: f64, code: u32 });
 input!(
     /// A bond with a yield or a market price.
-    At { bond: Bond, number: f64 }
+    At { bond: Bond, at: f64 }
 );
 input!(Change { bond: Bond, ytm: f64, delta: f64 });
 input!(Zero { ytm: f64, maturity: f64 });
@@ -40,8 +40,8 @@ impl Bond {
     }
 }
 
-fn at(bond: Bond, number: f64) -> At {
-    At { bond, number }
+fn at(bond: Bond, at: f64) -> At {
+    At { bond, at }
 }
 
 /// A bond of document 01's prices, the ends often.
@@ -132,7 +132,7 @@ fn corners() -> Vec<Case<At>> {
 /// The same bonds at the price of that yield.
 fn priced(case: Case<At>) -> Case<At> {
     match case.meant {
-        None => case.map(|at| At { number: bond::price(at.number, &at.bond.bond()), ..at }),
+        None => case.map(|at| At { at: bond::price(at.at, &at.bond.bond()), ..at }),
         _ => case,
     }
 }
@@ -174,7 +174,7 @@ fn price_anywhere(random: &mut Random) -> Case<At> {
 /// Whether neither pair of ends has errors of two signs, by the Rust's own prices.
 fn no_bracket(input: &At) -> bool {
     let bond = input.bond.bond();
-    BRACKETS.iter().all(|ends| ends.iter().map(|ytm| bond::price(*ytm, &bond) - input.number).product::<f64>() > 0.0)
+    BRACKETS.iter().all(|ends| ends.iter().map(|ytm| bond::price(*ytm, &bond) - input.at).product::<f64>() > 0.0)
 }
 
 /// 12 where the Rust has no bracket.
@@ -189,19 +189,19 @@ fn or_no_yield(input: At) -> Case<At> {
 /// What the Rust answers at the yield of a market price.
 fn at_its_yield(input: &At, answer: fn(f64, &bond::Bond) -> f64) -> Vec<f64> {
     let bond = input.bond.bond();
-    vec![answer(bond::yield_to_maturity(input.number, &bond), &bond)]
+    vec![answer(bond::yield_to_maturity(input.at, &bond), &bond)]
 }
 
 type OfBond = unsafe extern "C" fn(*const u8, usize, f64, &mut f64) -> u64;
 
 fn over(input: &At, call: OfBond) -> Answer {
     let record = input.bond.record();
-    asked(|answer| called!(call, [record], input.number, answer))
+    asked(|answer| called!(call, [record], input.at, answer))
 }
 
 fn change(random: &mut Random) -> Case<Change> {
     let delta = if random.once_in(8) { random.pick(&TURNS) } else { random.signed_log_between(1e-8, 1.0) };
-    at_yield(random).map(|at| Change { bond: at.bond, ytm: at.number, delta })
+    at_yield(random).map(|at| Change { bond: at.bond, ytm: at.at, delta })
 }
 
 fn price_change(input: &Change) -> Answer {
@@ -265,41 +265,36 @@ pub fn families() -> Vec<Compared> {
         Family {
             edges: || corners().into_iter().chain(edges()).collect(),
             allowed: relative(1e-9),
-            ..by_yield("bond-price", 401, price, |input| vec![bond::price(input.number, &input.bond.bond())])
+            ..by_yield("bond-price", 401, price, |input| vec![bond::price(input.at, &input.bond.bond())])
         }
         .compared(),
         Family {
             draw: anywhere,
             allowed: bits(),
-            ..by_yield("bond-price-anywhere", 402, price, |input| vec![bond::price(input.number, &input.bond.bond())])
+            ..by_yield("bond-price-anywhere", 402, price, |input| vec![bond::price(input.at, &input.bond.bond())])
         }
         .compared(),
         Family {
             allowed: relative(1e-9),
-            ..by_yield("bond-dv01", 403, |input| over(input, senyolanda_bond_dv01), |input| vec![bond::dv01(input.number, &input.bond.bond())])
+            ..by_yield("bond-dv01", 403, |input| over(input, senyolanda_bond_dv01), |input| vec![bond::dv01(input.at, &input.bond.bond())])
         }
         .compared(),
         by_yield(
             "bond-macaulay-duration",
             404,
             |input| over(input, senyolanda_bond_macaulay_duration),
-            |input| vec![bond::macaulay_duration(input.number, &input.bond.bond())],
+            |input| vec![bond::macaulay_duration(input.at, &input.bond.bond())],
         )
         .compared(),
         by_yield(
             "bond-modified-duration",
             405,
             |input| over(input, senyolanda_bond_modified_duration),
-            |input| vec![bond::modified_duration(input.number, &input.bond.bond())],
+            |input| vec![bond::modified_duration(input.at, &input.bond.bond())],
         )
         .compared(),
-        by_yield(
-            "bond-convexity",
-            406,
-            |input| over(input, senyolanda_bond_convexity),
-            |input| vec![bond::convexity(input.number, &input.bond.bond())],
-        )
-        .compared(),
+        by_yield("bond-convexity", 406, |input| over(input, senyolanda_bond_convexity), |input| vec![bond::convexity(input.at, &input.bond.bond())])
+            .compared(),
         Family {
             name: "bond-price-change",
             seed: 407,
@@ -336,7 +331,7 @@ pub fn families() -> Vec<Compared> {
                 "bond-current-yield",
                 413,
                 |input| over(input, senyolanda_bond_current_yield),
-                |input| vec![bond::current_yield(input.number, &input.bond.bond())],
+                |input| vec![bond::current_yield(input.at, &input.bond.bond())],
             )
         }
         .compared(),

@@ -48,15 +48,17 @@ fn knots(random: &mut Random) -> usize {
     }
 }
 
-/// Rising times by steps of a day to three years, and rates a desk may see, in any order.
+/// Rising times by steps of a day to three years with rates a desk may see, in any order; now and then rates up to 5 within thirty years, where discount
+/// factors all but vanish.
 pub fn plain_curve(random: &mut Random) -> Curve {
     let mut time = if random.once_in(8) { 0.0 } else { random.log_between(1.0 / 365.0, 1.0) };
-    let step = if random.once_in(2) { 0.25 } else { 0.0 };
+    let steep = random.once_in(8);
+    let even = steep || random.once_in(2);
     let mut curve = Curve { times: vec![], rates: vec![] };
     for _ in 0..knots(random) {
         curve.times.push(time);
-        curve.rates.push(random.between(-0.02, 0.15));
-        time += if step > 0.0 { step } else { random.log_between(1.0 / 365.0, 3.0) };
+        curve.rates.push(if steep { random.between(0.0, 5.0) } else { random.between(-0.02, 0.15) });
+        time += if even { 0.25 } else { random.log_between(1.0 / 365.0, 3.0) };
     }
     curve
 }

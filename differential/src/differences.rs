@@ -165,12 +165,11 @@ fn of_pools() -> Vec<Difference> {
 
 fn of_bonds() -> Vec<Difference> {
     let good = bonds::Bond { face: 1.0, coupon: 0.0, maturity: 1.0, code: 0 };
-    let price = |what, bond: bonds::Bond, number| {
-        differ(what, TABLE, bonds::At { bond, number }, bonds::price, |input| bond::price(input.number, &input.bond.bond()))
-    };
-    let at_price = |what, number, ours: fn(&bonds::At) -> Answer, rust: fn(f64, &bond::Bond) -> f64| {
-        differ(what, TABLE, bonds::At { bond: good.clone(), number }, ours, move |input| {
-            rust(bond::yield_to_maturity(input.number, &input.bond.bond()), &input.bond.bond())
+    let price =
+        |what, bond: bonds::Bond, at| differ(what, TABLE, bonds::At { bond, at }, bonds::price, |input| bond::price(input.at, &input.bond.bond()));
+    let at_price = |what, at, ours: fn(&bonds::At) -> Answer, rust: fn(f64, &bond::Bond) -> f64| {
+        differ(what, TABLE, bonds::At { bond: good.clone(), at }, ours, move |input| {
+            rust(bond::yield_to_maturity(input.at, &input.bond.bond()), &input.bond.bond())
         })
     };
     let zero = |what, ytm, maturity| {
@@ -262,10 +261,10 @@ fn of_swaps() -> Vec<Difference> {
 
 fn of_spreads() -> Vec<Difference> {
     let flat = curve(&[1.0], &[0.0]);
-    let flows = |times: &[f64], amounts: &[f64], number| Flows { times: times.to_vec(), amounts: amounts.to_vec(), curve: flat.clone(), number };
-    let pv = |what, input| differ(what, TABLE, input, spreads::pv, |input: &Flows| input.pv(input.number));
+    let flows = |times: &[f64], amounts: &[f64], at| Flows { times: times.to_vec(), amounts: amounts.to_vec(), curve: flat.clone(), at };
+    let pv = |what, input| differ(what, TABLE, input, spreads::pv, |input: &Flows| input.pv(input.at));
     let spread = |what, why, input| {
-        differ(what, why, input, spreads::spread, |input: &Flows| z_spread(&input.flows(), &spreads::zero_curve(&input.curve), input.number))
+        differ(what, why, input, spreads::spread, |input: &Flows| z_spread(&input.flows(), &spreads::zero_curve(&input.curve), input.at))
     };
     let bond = |what, bond| {
         differ(what, TABLE, bond, spreads::bond_flows, |bond: &spreads::Bond| {

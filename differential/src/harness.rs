@@ -136,7 +136,7 @@ pub fn part_of<I>(at_most: f64, of: &'static str, scale: fn(&I, &[f64]) -> Vec<f
 pub struct Family<I> {
     pub name: &'static str,
     pub seed: u64,
-    /// One case for so many that are asked for: more than 1 where a case takes long.
+    /// One drawn case for so many that are asked for: more than 1 where a case takes long.
     pub one_in: u64,
     pub edges: fn() -> Vec<Case<I>>,
     pub draw: fn(&mut Random) -> Case<I>,
@@ -164,8 +164,8 @@ pub struct Compared {
     pub one_in: u64,
     pub at_most: f64,
     pub of: &'static str,
-    /// The cases on purpose, then drawn ones without an end.
-    pub answers: Box<dyn Fn() -> Box<dyn Iterator<Item = Answered>>>,
+    /// The cases on purpose, then as many drawn ones as are asked for.
+    pub answers: Box<dyn Fn(usize) -> Box<dyn Iterator<Item = Answered>>>,
 }
 
 impl<I: Input + 'static> Family<I> {
@@ -176,9 +176,9 @@ impl<I: Input + 'static> Family<I> {
             let scales = expected.as_ref().map_or(vec![], |numbers| scale(&case.input, numbers));
             Answered { ours: ours(&case.input), expected, scales, input: Box::new(case.input) }
         };
-        let answers = move || {
+        let answers = move |count| {
             let mut random = Random::new(seed);
-            let drawn = std::iter::repeat_with(move || draw(&mut random));
+            let drawn = std::iter::repeat_with(move || draw(&mut random)).take(count);
             Box::new(edges().into_iter().chain(drawn).map(answered)) as Box<dyn Iterator<Item = Answered>>
         };
         Compared { name, one_in, at_most, of, answers: Box::new(answers) }

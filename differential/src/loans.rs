@@ -128,8 +128,17 @@ fn factors_of_one() -> Vec<Loan> {
     all
 }
 
+/// Rates beyond document 01's at which every step has one answer: what is no number, a month that doubles or takes all, a factor of 1.
+pub const ODD_RATES: [f64; 9] = [f64::NAN, f64::INFINITY, f64::NEG_INFINITY, 1e-17, 6.0, 12.0, -12.0, -24.0, -1e-17];
+
+/// The corners for what an own payment makes, and short loans at odd rates.
+fn own_edges() -> Vec<Loan> {
+    let odd = ODD_RATES.into_iter().flat_map(|rate| [1, 2, 3].map(|term| Loan { principal: 1000.0, rate, term }));
+    corners(LONGEST_OWN).into_iter().chain(odd).collect()
+}
+
 fn payment_edges() -> Vec<Case<Loan>> {
-    let mut all: Vec<Case<Loan>> = corners(LONGEST_TERM).into_iter().chain(factors_of_one()).map(plain).collect();
+    let mut all: Vec<Case<Loan>> = corners(LONGEST_TERM).into_iter().chain(own_edges()).chain(factors_of_one()).map(plain).collect();
     let good = Loan { principal: 1000.0, rate: 0.06, term: 12 };
     all.extend([-0.01, -5e-324, f64::NAN, f64::INFINITY, f64::NEG_INFINITY].map(|principal| refused(Loan { principal, ..good }, 1, 0)));
     all.extend([0, 1201, u32::MAX].map(|term| refused(Loan { term, ..good }, 2, 0)));
@@ -325,9 +334,7 @@ fn after(random: &mut Random) -> Case<After> {
 }
 
 fn after_edges() -> Vec<Case<After>> {
-    let all = corners(LONGEST_OWN)
-        .into_iter()
-        .flat_map(|loan| [0, 1, loan.term - 1, loan.term, loan.term + 1, u32::MAX].map(|months| (loan.clone(), months)));
+    let all = own_edges().into_iter().flat_map(|loan| [0, 1, loan.term - 1, loan.term, loan.term + 1, u32::MAX].map(|months| (loan.clone(), months)));
     all.map(|(loan, months)| plain(After { loan, months })).collect()
 }
 
@@ -456,7 +463,7 @@ pub fn families() -> Vec<Compared> {
             name: "own-payment-rows",
             seed: 204,
             one_in: 1,
-            edges: || corners(LONGEST_OWN).into_iter().map(plain).collect(),
+            edges: || own_edges().into_iter().map(plain).collect(),
             draw: |random| drawn(random, LONGEST_OWN),
             ours: own_rows,
             rust: |loan| portioned(&MortgageCalculator::amortization_schedule(&loan.terms()), &[WIDTH as u32 * loan.term]),
@@ -467,7 +474,7 @@ pub fn families() -> Vec<Compared> {
             name: "total-interest",
             seed: 205,
             one_in: 1,
-            edges: || corners(LONGEST_OWN).into_iter().map(plain).collect(),
+            edges: || own_edges().into_iter().map(plain).collect(),
             draw: |random| drawn(random, LONGEST_OWN),
             ours: |loan| over(loan, senyolanda_total_interest),
             rust: |loan| vec![MortgageCalculator::total_interest(&loan.terms())],
@@ -492,14 +499,14 @@ pub fn families() -> Vec<Compared> {
             name: "savings",
             seed: 207,
             one_in: 1,
-            edges: || corners(LONGEST_OWN).into_iter().map(|loan| plain(with(loan, 0.0))).collect(),
+            edges: || own_edges().into_iter().flat_map(|loan| [0.0, 1.0, f64::NAN].map(|extra| plain(with(loan.clone(), extra)))).collect(),
             draw: extra,
             ours: savings,
             rust: |input| {
                 let (months, interest) = MortgageCalculator::prepayment_savings(&input.loan.terms(), input.number);
                 vec![f64::from(months), interest]
             },
-            allowed: relative(1e-9),
+            allowed: part_of(1e-9, "of the interest without extra", |input, _| vec![0.0, MortgageCalculator::total_interest(&input.loan.terms())]),
         }
         .compared(),
         Family {

@@ -5,11 +5,11 @@ use std::time::{Duration, Instant};
 
 /// No tolerance is wider than this, each number beside itself, without a case that needs it.
 const RELATIVE: f64 = 1e-9;
-/// Every family has at least so many cases.
+/// Every family draws at least so many cases, beside those on purpose.
 const LEAST_CASES: u64 = 100;
 /// A kept case has at most so many words, so that a list stays small.
 const KEPT_WORDS: usize = 64;
-/// The self-test looks for cases to spoil among so many.
+/// The self-test looks for cases to spoil among so many drawn ones, beside those on purpose.
 const SELF_TEST_CASES: usize = 4000;
 const PROGRESS: Duration = Duration::from_secs(10);
 
@@ -180,10 +180,10 @@ impl Compared {
         let count = (asked.count / self.one_in).max(LEAST_CASES);
         let mut tally = Tally::default();
         let mut told = Instant::now();
-        for answered in (self.answers)().take(count as usize) {
+        for answered in (self.answers)(count as usize) {
             self.see(&mut tally, &answered, asked.keep);
             if told.elapsed() > PROGRESS {
-                eprintln!("{} {} of {count}, worst {:.1e}", self.name, tally.cases, tally.worst);
+                eprintln!("{} {} cases, {count} to draw, worst {:.1e}", self.name, tally.cases, tally.worst);
                 told = Instant::now();
             }
         }
@@ -232,7 +232,7 @@ impl Compared {
 
     /// Flips one bit of one answer, and of one refusal where the family has any; says what was not seen.
     pub fn self_test(&self) -> Result<(), String> {
-        let answers = || (self.answers)().take(SELF_TEST_CASES);
+        let answers = || (self.answers)(SELF_TEST_CASES);
         let (bit, flipped) = answers().find_map(|answered| answered.flipped(self.at_most)).ok_or("there was no number to spoil")?;
         if !self.is_fault(&flipped) || (self.at_most == 0.0 && bit > 0) {
             return Err(format!("a flipped bit {bit} is not seen: {}", flipped.account()));

@@ -15,11 +15,11 @@ const POINTS: f64 = 10_000.0;
 input!(Bond { face: f64, coupon: f64, tenor: f64, frequency: u32, times: u32, amounts: u32 });
 input!(
     /// Cash flows on a curve, with a spread in points or a market price.
-    Flows { times: Vec<f64>, amounts: Vec<f64>, curve: Curve, number: f64 }
+    Flows { times: Vec<f64>, amounts: Vec<f64>, curve: Curve, at: f64 }
 );
 input!(
     /// The same, with the flows as time, amount, time, amount and so on.
-    Dated { flows: Vec<f64>, curve: Curve, number: f64 }
+    Dated { flows: Vec<f64>, curve: Curve, at: f64 }
 );
 input!(Points { points: f64 });
 
@@ -38,21 +38,21 @@ impl Flows {
     }
 
     fn sensitivity(&self) -> [f64; 2] {
-        let (duration, convexity) = opened_duration_convexity(&self.times, &self.amounts, &self.curve.times, &self.curve.rates, self.number);
+        let (duration, convexity) = opened_duration_convexity(&self.times, &self.amounts, &self.curve.times, &self.curve.rates, self.at);
         [duration, convexity]
     }
 
     fn dated(&self) -> Dated {
         let mut flows: Vec<f64> = self.times.iter().zip(&self.amounts).flat_map(|(time, amount)| [*time, *amount]).collect();
         flows.extend(self.times.get(self.amounts.len()));
-        Dated { flows, curve: self.curve.clone(), number: self.number }
+        Dated { flows, curve: self.curve.clone(), at: self.at }
     }
 }
 
 impl Dated {
     fn apart(&self) -> Flows {
         let every = |first: usize| self.flows.iter().skip(first).step_by(2).copied().collect();
-        Flows { times: every(0), amounts: every(1), curve: self.curve.clone(), number: self.number }
+        Flows { times: every(0), amounts: every(1), curve: self.curve.clone(), at: self.at }
     }
 }
 
@@ -138,7 +138,7 @@ fn rust_bond_flows(input: &Bond) -> Vec<f64> {
 fn plain_flows(random: &mut Random) -> Flows {
     let count = if random.once_in(64) { random.pick(&[1199, 1200]) } else { random.log_whole(1, 200) };
     let step = random.pick(&[0.0, 1.0 / 12.0, 0.25, 0.5, 1.0]);
-    let mut flows = Flows { times: vec![], amounts: vec![], curve: plain_curve(random), number: random.between(-600.0, 2500.0) };
+    let mut flows = Flows { times: vec![], amounts: vec![], curve: plain_curve(random), at: random.between(-600.0, 2500.0) };
     for i in 1..=count {
         flows.times.push(if step > 0.0 { (step * f64::from(i)).min(60.0) } else { random.log_between(1.0 / 12.0, 60.0) });
         flows.amounts.push(if i == count { 103.0 } else { random.log_between(0.01, 10.0) });
@@ -174,8 +174,8 @@ fn or_spoiled(random: &mut Random, flows: Flows) -> Case<Flows> {
     if random.once_in(24) {
         return spoiled(random, flows);
     }
-    let Flows { times, amounts, curve, number } = flows;
-    or_refused(random, curve).map(|curve| Flows { times, amounts, curve, number })
+    let Flows { times, amounts, curve, at } = flows;
+    or_refused(random, curve).map(|curve| Flows { times, amounts, curve, at })
 }
 
 /// Flows at a spread, a quarter of them with amounts of both signs.
@@ -190,13 +190,13 @@ fn at_spread(random: &mut Random) -> Case<Flows> {
 /// Flows at the price of a spread well inside the search, or at one that no spread of the search gives.
 fn at_price(random: &mut Random) -> Case<Flows> {
     let mut flows = plain_flows(random);
-    flows.number = match random.below(8) {
+    flows.at = match random.below(8) {
         0 => flows.pv(SEARCHED[0]) * random.between(1.001, 2.0),
         1 => flows.pv(SEARCHED[1]) * random.between(-1.0, 0.999),
         _ => flows.pv(random.between(SEARCHED[0] + 1.0, SEARCHED[1] - 1.0)),
     };
     if random.once_in(48) {
-        return refused(Flows { number: random.pick(&NOT_FINITE), ..flows }, 9, 0);
+        return refused(Flows { at: random.pick(&NOT_FINITE), ..flows }, 9, 0);
     }
     or_spoiled(random, flows)
 }
@@ -204,16 +204,11 @@ fn at_price(random: &mut Random) -> Case<Flows> {
 /// No flow, one, and flows at time 0 and before, where a spread has no weight or raises the value; two flows that all but cancel.
 fn edges() -> Vec<Case<Flows>> {
     let curve = Curve { times: vec![1.0, 2.0, 5.0], rates: vec![0.02, 0.03, 0.04] };
-    let flows = |times: &[f64], amounts: &[f64], number| Flows { times: times.to_vec(), amounts: amounts.to_vec(), curve: curve.clone(), number };
+    let flows = |times: &[f64], amounts: &[f64], at| Flows { times: times.to_vec(), amounts: amounts.to_vec(), curve: curve.clone(), at };
     let mut all = Vec::new();
-    for number in [0.0, -500.0, 2000.0, 1e-9] {
-        all.extend([
-            flows(&[], &[], number),
-            flows(&[1.0], &[100.0], number),
-            flows(&[0.0], &[1.0], number),
-            flows(&[1.0, 2.0], &[0.0, 0.0], number),
-        ]);
-        all.push(flows(&[-1.0, 1.0, 2.0, 6.0], &[1.0, 2.0, 3.0, 4.0], number));
+    for at in [0.0, -500.0, 2000.0, 1e-9] {
+        all.extend([flows(&[], &[], at), flows(&[1.0], &[100.0], at), flows(&[0.0], &[1.0], at), flows(&[1.0, 2.0], &[0.0, 0.0], at)]);
+        all.push(flows(&[-1.0, 1.0, 2.0, 6.0], &[1.0, 2.0, 3.0, 4.0], at));
     }
     for year in 1..=60 {
         let (near, far) = (flows(&[1.0], &[1.0], 0.0).pv(0.0), flows(&[f64::from(year)], &[1.0], 0.0).pv(0.0));
@@ -227,8 +222,8 @@ fn middles() -> Vec<Case<Flows>> {
     let curve = Curve { times: vec![1.0], rates: vec![0.05] };
     let mut all = Vec::new();
     for (middle, year) in [750.0, 125.0, 7.8125].into_iter().flat_map(|middle| (1..=60).map(move |year| (middle, f64::from(year)))) {
-        let mut flows = Flows { times: vec![year], amounts: vec![1.0], curve: curve.clone(), number: 0.0 };
-        flows.number = flows.pv(middle);
+        let mut flows = Flows { times: vec![year], amounts: vec![1.0], curve: curve.clone(), at: 0.0 };
+        flows.at = flows.pv(middle);
         all.push(plain(flows));
     }
     all
@@ -252,44 +247,44 @@ fn near_times() -> Vec<Case<Between>> {
 }
 
 pub fn pv(input: &Flows) -> Answer {
-    let Flows { times, amounts, curve, number } = input;
-    asked(|pv| called!(senyolanda_pv_cash_flows, [times], [amounts], [curve.times], [curve.rates], *number, pv))
+    let Flows { times, amounts, curve, at } = input;
+    asked(|pv| called!(senyolanda_pv_cash_flows, [times], [amounts], [curve.times], [curve.rates], *at, pv))
 }
 
 fn dated_pv(input: &Dated) -> Answer {
-    let Dated { flows, curve, number } = input;
-    asked(|pv| called!(senyolanda_dated_pv, [flows], [curve.times], [curve.rates], *number, pv))
+    let Dated { flows, curve, at } = input;
+    asked(|pv| called!(senyolanda_dated_pv, [flows], [curve.times], [curve.rates], *at, pv))
 }
 
 /// The spread, after 1 where it was found and 0 where it stands at an end.
 pub fn spread(input: &Flows) -> Answer {
-    let Flows { times, amounts, curve, number } = input;
-    asked_with_count(|found, points| called!(senyolanda_z_spread, [times], [amounts], [curve.times], [curve.rates], *number, points, found))
+    let Flows { times, amounts, curve, at } = input;
+    asked_with_count(|found, points| called!(senyolanda_z_spread, [times], [amounts], [curve.times], [curve.rates], *at, points, found))
 }
 
 fn dated_spread(input: &Dated) -> Answer {
-    let Dated { flows, curve, number } = input;
-    asked_with_count(|found, points| called!(senyolanda_dated_z_spread, [flows], [curve.times], [curve.rates], *number, points, found))
+    let Dated { flows, curve, at } = input;
+    asked_with_count(|found, points| called!(senyolanda_dated_z_spread, [flows], [curve.times], [curve.rates], *at, points, found))
 }
 
 fn rust_spread(input: &Flows) -> Vec<f64> {
-    let no_sign_change = SEARCHED.iter().map(|points| input.pv(*points) - input.number).product::<f64>() > 0.0;
-    let points = z_spread(&input.flows(), &zero_curve(&input.curve), input.number);
+    let no_sign_change = SEARCHED.iter().map(|points| input.pv(*points) - input.at).product::<f64>() > 0.0;
+    let points = z_spread(&input.flows(), &zero_curve(&input.curve), input.at);
     vec![if no_sign_change { 0.0 } else { 1.0 }, points]
 }
 
 fn sensitivity(input: &Flows) -> Answer {
-    let Flows { times, amounts, curve, number } = input;
-    asked_for(|answer| called!(senyolanda_duration_convexity, [times], [amounts], [curve.times], [curve.rates], *number, answer))
+    let Flows { times, amounts, curve, at } = input;
+    asked_for(|answer| called!(senyolanda_duration_convexity, [times], [amounts], [curve.times], [curve.rates], *at, answer))
 }
 
 fn dated_sensitivity(input: &Dated) -> Answer {
-    let Dated { flows, curve, number } = input;
-    asked_for(|answer| called!(senyolanda_dated_duration_convexity, [flows], [curve.times], [curve.rates], *number, answer))
+    let Dated { flows, curve, at } = input;
+    asked_for(|answer| called!(senyolanda_dated_duration_convexity, [flows], [curve.times], [curve.rates], *at, answer))
 }
 
 fn pv_scale(input: &Flows) -> Vec<f64> {
-    vec![input.without_signs().pv(input.number)]
+    vec![input.without_signs().pv(input.at)]
 }
 
 /// The width at which the search stops, for the spread; found or not is told exactly.
@@ -300,7 +295,7 @@ fn spread_scale() -> Vec<f64> {
 /// Sums of both signs may cancel, above and below the line.
 fn sensitivity_scale(input: &Flows, rust: &[f64]) -> Vec<f64> {
     let absolute = input.without_signs();
-    let cancelled = absolute.pv(input.number) / input.pv(input.number).abs();
+    let cancelled = absolute.pv(input.at) / input.pv(input.at).abs();
     absolute.sensitivity().iter().zip(rust).map(|(size, answer)| cancelled * (size.abs() + answer.abs())).collect()
 }
 
@@ -364,7 +359,7 @@ pub fn families() -> Vec<Compared> {
             edges,
             draw: at_spread,
             ours: pv,
-            rust: |input| vec![input.pv(input.number)],
+            rust: |input| vec![input.pv(input.at)],
             allowed: part_of(1e-12, "of the amounts without signs", |input, _| pv_scale(input)),
         }
         .compared(),
@@ -375,7 +370,7 @@ pub fn families() -> Vec<Compared> {
             edges: || dated(edges()),
             draw: |random| at_spread(random).map(|flows| flows.dated()),
             ours: dated_pv,
-            rust: |input| vec![input.apart().pv(input.number)],
+            rust: |input| vec![input.apart().pv(input.at)],
             allowed: part_of(1e-12, "of the amounts without signs", |input, _| pv_scale(&input.apart())),
         }
         .compared(),

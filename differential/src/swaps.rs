@@ -199,6 +199,22 @@ fn end_errors(curve: &Curve, zeros: &[f64], knot: usize) -> [f64; 2] {
     })
 }
 
+/// Whether both end errors of every knot are large enough to compare.
+fn told_apart(curve: &Curve) -> bool {
+    let zeros = DiscountCurve::from_par_rates(&curve.times, &curve.rates).zero_rates;
+    (0..zeros.len()).all(|knot| end_errors(curve, &zeros, knot).iter().all(|error| error.abs() > LEAST_END_ERROR))
+}
+
+/// One knot with any par rate, often with no sign change.
+fn one_knot(random: &mut Random) -> Curve {
+    loop {
+        let curve = Curve { times: vec![random.log_between(SHORTEST_TENOR, LONGEST_TENOR)], rates: vec![random.signed_log_between(1e-3, 1e3)] };
+        if told_apart(&curve) {
+            return curve;
+        }
+    }
+}
+
 /// Rising tenors with par rates that wander little from one knot to the next, as a market's do, and end errors large enough to compare.
 fn par_curve(random: &mut Random) -> Curve {
     loop {
@@ -214,15 +230,14 @@ fn par_curve(random: &mut Random) -> Curve {
             rate += random.between(-0.001, 0.001);
         }
         let curve = Curve { times: tenors, rates };
-        let zeros = DiscountCurve::from_par_rates(&curve.times, &curve.rates).zero_rates;
-        if (0..zeros.len()).all(|knot| end_errors(&curve, &zeros, knot).iter().all(|error| error.abs() > LEAST_END_ERROR)) {
+        if told_apart(&curve) {
             return curve;
         }
     }
 }
 
 fn bootstrapped(random: &mut Random) -> Case<Curve> {
-    let curve = par_curve(random);
+    let curve = if random.once_in(8) { one_knot(random) } else { par_curve(random) };
     if random.once_in(16) {
         let place = random.below(curve.times.len() as u64) as usize;
         if place == 0 {
