@@ -2,8 +2,8 @@
 // What reads and writes records has none: records are handed in as bytes made here, and a drawn row's record is taken apart here.
 use crate::harness::{Answer, Unanswered};
 
-/// What stands in lent memory before a call.
-pub const UNTOUCHED: f64 = 1.234567890123456e-200;
+/// What stands in lent memory before a call: far from every answer, so that no scale hides a stray write.
+pub const UNTOUCHED: f64 = 1.234567890123456e300;
 pub const UNTOUCHED_COUNT: u32 = 0xa5a5_a5a5;
 
 type Number<'a> = &'a mut f64;

@@ -88,7 +88,7 @@ fn wild_loan(random: &mut Random) -> Loan {
 }
 
 /// Now and then a loan that is refused, 1 for its principal or 2 for its term.
-pub fn or_refused(random: &mut Random, loan: Loan) -> Case<Loan> {
+fn or_refused(random: &mut Random, loan: Loan) -> Case<Loan> {
     match random.below(32) {
         0 => refused(Loan { principal: random.no_amount(), ..loan }, 1, 0),
         1 => refused(Loan { term: random.pick(&[0, 1201, u32::MAX]), ..loan }, 2, 0),

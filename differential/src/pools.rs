@@ -102,10 +102,10 @@ fn plain_pool(random: &mut Random) -> Pool {
     Pool { loans, speed: speed(random), rate: random.between(-0.02, 0.24) }
 }
 
-/// A pool with one cause of a refusal.
-fn spoiled(random: &mut Random, mut pool: Pool) -> Case<Pool> {
+/// A pool with one of so many causes of a refusal; the fourth is its speed.
+fn spoiled(random: &mut Random, mut pool: Pool, causes: u64) -> Case<Pool> {
     let place = random.below(pool.loans.len() as u64) as usize;
-    match random.below(4) {
+    match random.below(causes) {
         0 => {
             pool.loans[place].principal = random.no_amount();
             refused(pool, 1, place)
@@ -128,7 +128,7 @@ fn spoiled(random: &mut Random, mut pool: Pool) -> Case<Pool> {
 fn drawn(random: &mut Random) -> Case<Pool> {
     let pool = plain_pool(random);
     if random.once_in(16) {
-        spoiled(random, pool)
+        spoiled(random, pool, 4)
     } else {
         plain(pool)
     }
@@ -220,14 +220,10 @@ fn totals_drawn(random: &mut Random) -> Case<Pool> {
         })
         .collect();
     let pool = Pool { loans, speed: of(CPR, 0.0), rate: 0.0 };
-    match random.below(16) {
-        0 => loop {
-            let case = spoiled(random, pool.clone());
-            if case.meant != Some(11) {
-                return case;
-            }
-        },
-        _ => plain(pool),
+    if random.once_in(16) {
+        spoiled(random, pool, 3)
+    } else {
+        plain(pool)
     }
 }
 

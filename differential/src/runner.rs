@@ -17,16 +17,12 @@ fn alike(a: f64, b: f64) -> bool {
     a.to_bits() == b.to_bits() || (a.is_nan() && b.is_nan()) || (a == 0.0 && b == 0.0)
 }
 
-/// How far apart, in scales: 0 where alike, infinite where no scale can tell.
+/// How far apart, in scales: 0 where alike, infinite where the scale or the gap is not finite.
 fn apart(ours: f64, rust: f64, scale: f64) -> f64 {
-    if alike(ours, rust) {
-        return 0.0;
-    }
-    let gap = (ours - rust).abs() / scale;
-    if gap.is_nan() {
-        f64::INFINITY
-    } else {
-        gap
+    match (ours - rust).abs() / scale {
+        _ if alike(ours, rust) => 0.0,
+        gap if scale.is_finite() && gap.is_finite() => gap,
+        _ => f64::INFINITY,
     }
 }
 
@@ -70,7 +66,8 @@ impl Answered {
         match &self.expected {
             Ok(all) => {
                 words.extend([0, all.len() as u64]);
-                words.extend(all.iter().zip(&self.scales).flat_map(|(x, scale)| [x.to_bits(), (at_most * scale).to_bits()]));
+                let distance = |scale: f64| if scale.is_finite() { at_most * scale } else { 0.0 };
+                words.extend(all.iter().zip(&self.scales).flat_map(|(x, scale)| [x.to_bits(), distance(*scale).to_bits()]));
             }
             Err(refusal) => words.extend([*refusal, 0]),
         }

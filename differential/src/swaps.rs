@@ -165,13 +165,13 @@ fn discounts(input: &Valued) -> f64 {
     1.0 + sum + curve.discount_factor(input.swap.tenor)
 }
 
-/// What the legs' discount factors are worth: the fixed leg without signs, and twice the notional for each that the floating leg reads.
-fn legs(input: &Valued) -> f64 {
-    swaps::fixed_leg_pv(&input.swap.without_signs(), &discount_curve(&input.curve)) + 2.0 * input.swap.notional * discounts(input)
-}
-
 fn fixed_leg_scale(input: &Valued) -> f64 {
     swaps::fixed_leg_pv(&input.swap.without_signs(), &discount_curve(&input.curve))
+}
+
+/// What the legs' discount factors are worth: the fixed leg without signs, and twice the notional for each that the floating leg reads.
+fn legs(input: &Valued) -> f64 {
+    fixed_leg_scale(input) + 2.0 * input.swap.notional * discounts(input)
 }
 
 /// A duration's sums may cancel where the rate is below zero.
@@ -181,6 +181,7 @@ fn duration_scale(input: &Valued, duration: f64) -> f64 {
     cancelled * (swaps::swap_duration(&absolute, &curve).abs() + duration.abs())
 }
 
+/// Each of the six as its own family has it, in the same 1e-12.
 fn valuation_scale(input: &Valued, rust: &[f64]) -> Vec<f64> {
     let legs = legs(input);
     vec![legs, fixed_leg_scale(input), rust[2].abs(), 1e3 * rust[3].abs(), 2.0 * legs, duration_scale(input, rust[5])]
