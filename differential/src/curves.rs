@@ -66,7 +66,7 @@ pub fn plain_curve(random: &mut Random) -> Curve {
 /// Any knots that are taken: rising times of any size, and any finite rates.
 fn wild_curve(random: &mut Random) -> Curve {
     let mut times: Vec<f64> = (0..knots(random)).map(|_| random.amount()).collect();
-    times.sort_by(|a, b| a.total_cmp(b));
+    times.sort_by(f64::total_cmp);
     times.dedup();
     let rates = times.iter().map(|_| random.finite()).collect();
     Curve { times, rates }
@@ -74,13 +74,15 @@ fn wild_curve(random: &mut Random) -> Curve {
 
 /// A time at a knot or one unit beside it, in a segment, before the first, after the last, or below zero.
 pub fn asked_time(random: &mut Random, curve: &Curve) -> f64 {
-    let knot = random.pick(&curve.times);
+    let place = random.below(curve.times.len() as u64) as usize;
+    let knot = curve.times[place];
     let t = match random.below(8) {
         0 | 1 => random.pick(&around(knot)),
         2 => curve.last_time() * random.between(1.0, 2.0),
         3 => curve.times[0] * random.between(-1.0, 1.0),
         4 => random.pick(&[0.0, -0.0, 5e-324, 1e-12, -1.0]),
-        _ => random.between(curve.times[0], curve.last_time()),
+        5 => random.between(curve.times[0], curve.last_time()),
+        _ => random.between(knot, *curve.times.get(place + 1).unwrap_or(&knot)),
     };
     if t.is_finite() {
         t
