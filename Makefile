@@ -3,6 +3,7 @@
 # make x86-64     builds build/x86-64/libsenyolanda.a alone, on any machine
 # make run        builds, draws a sample loan's schedule, and prints a sample loan's statement
 # make test       proves everything from nothing by `rt ci`, then runs every test; its last line is `rt ci`'s
+# make differential COUNT=..   compares every function with the Rust's published files, which FIN_PRIMITIVES says where they are
 # make bench      times jobs beside the Rust, both for this machine's own processor
 # make install    puts library, header and programs under PREFIX, within DESTDIR; make uninstall takes them away
 SHELL := /bin/sh
@@ -88,6 +89,18 @@ tests: all build/test/statement
 	test/hosts.sh build/libsenyolanda.a build/libsenyolanda.so
 	test/refusals.py build/libsenyolanda.so
 	test/install.sh
+	$(MAKE) differential-if-there
+
+# Beside the Rust's published files, COUNT cases a family (10,000, and 100 for pools and bootstraps).
+differential: build/libsenyolanda.a
+	@tools/need rustc rustc libstd-rust-dev
+	differential/run build/libsenyolanda.a "$(FIN_PRIMITIVES)" $(COUNT)
+
+# Where the Rust's files are not at hand and nobody said where they are, the replayed list stands in.
+.PHONY: differential differential-if-there
+differential-if-there:
+	@if [ "$(origin FIN_PRIMITIVES)" != file ] || [ -d "$(FIN_PRIMITIVES)/src/fixed_income" ]; then $(MAKE) differential; \
+	else echo "differential: the Rust's files are not at $(FIN_PRIMITIVES); the replayed list stands in"; fi
 
 build/libbench_jobs.a: $(SOURCES) tools/native | kit
 	tools/native bench_jobs $@
