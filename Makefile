@@ -94,7 +94,10 @@ tests: all build/test/statement
 # Beside the Rust's published files, COUNT cases a family (10,000, and 100 for pools and bootstraps).
 differential: build/libsenyolanda.a
 	@tools/need rustc rustc libstd-rust-dev
+	@tools/need nm binutils
 	differential/run build/libsenyolanda.a "$(FIN_PRIMITIVES)" $(COUNT)
+	@build/differential/compare --differences | sed -n '/^|/p' >build/differential/rows
+	@! grep -vxFf docs/DIFFERENCES.md build/differential/rows || { echo "differential: docs/DIFFERENCES.md lacks the lines above" >&2; exit 1; }
 
 # Where the Rust's files are not at hand and nobody said where they are, the replayed list stands in.
 .PHONY: differential differential-if-there
