@@ -1,4 +1,5 @@
-// Bonds: face, coupon, maturity and the frequency's code, a yield or a market price, and by how much the yield moves.
+// Bonds: face, coupon, maturity and the frequency's code, a yield or a market price, and by how much the yield moves; a
+// zero-coupon bond has a yield and a maturity alone.
 use bond::Bond;
 use bond::codes::FrequencyRead;
 use refusals::Number;
@@ -24,12 +25,12 @@ fn of_bond(question: u64, bond: Bond, at: f64, case: &[u8]) -> Number {
     }
 }
 
-// The frequency of a code, which is one byte.
+// The frequency of a code. A code is one byte, so that a larger one is outside the set.
 fn frequency_in(code: u64) -> FrequencyRead {
     if code < 256 {
         bond::codes::frequency_of(code as u8)
     } else {
-        FrequencyRead::Refused(refusals::refuse(0))
+        FrequencyRead::Refused(refusals::refuse(11))
     }
 }
 
@@ -53,7 +54,7 @@ pub(crate) fn answer(question: u64, case: &[u8]) -> Number {
         return replaying::no_answer();
     }
     if question == 414 {
-        return bond::price::zero_coupon_bond_price(float_at(case, 9), float_at(case, 7));
+        return bond::price::zero_coupon_bond_price(float_at(case, 5), float_at(case, 6));
     }
     of_record(question, case)
 }

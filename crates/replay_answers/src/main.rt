@@ -2,10 +2,13 @@
 // answers lie apart from the Rust's. A wrong number beyond the distance that its case allows, another refusal, a refusal for a number, a question that is
 // unknown and a case of another form all count as apart, so that the line would no longer be the one that stands in `stdout`.
 mod bonds;
+mod curves;
+mod listed;
 mod loans;
 mod powers;
+mod spreads;
+mod swap_values;
 
-ghost use Prim.Native.Nat.{_≤_};
 use libc::STDIN_FILENO;
 use refusals::Number;
 use replaying::QUESTION;
@@ -20,6 +23,7 @@ fn answer(question: u64, case: &[u8]) -> Number {
         1 => powers::answer(question, case),
         2 => loans::answer(question, case),
         4 => bonds::answer(question, case),
+        5 | 6 | 7 => listed::answer(question, case),
         _ => replaying::no_answer(),
     }
 }
