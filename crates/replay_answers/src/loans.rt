@@ -6,6 +6,7 @@ use refusals::Count;
 use refusals::Number;
 use replaying::float_at;
 use replaying::whole_at;
+use replaying::word_at;
 
 const BYTES: usize = 13 * 8;
 
@@ -68,6 +69,12 @@ fn breakeven_in(old: Terms, case: &[u8]) -> Number {
 fn of_terms(question: u64, terms: Terms, case: &[u8]) -> Number {
     match question {
         201 => mortgage::payment::monthly_payment(terms),
+        202 => crate::rows::answer(
+            terms,
+            float_at(case, 8),
+            word_at(case, 9),
+            word_at(case, 10),
+        ),
         205 => mortgage::totals::total_interest(terms),
         206 => remaining(terms, whole_at(case, 8)),
         207 => months_saved(terms, float_at(case, 8)),

@@ -6,6 +6,7 @@ mod curves;
 mod listed;
 mod loans;
 mod powers;
+mod rows;
 mod spreads;
 mod swap_values;
 
