@@ -1,8 +1,9 @@
 # make            builds in build/, for this machine's own processor: libsenyolanda.a, libsenyolanda.so and senyolanda.pc for programs
-#                 that link the library, and the programs schedule and statement
-# make x86-64     builds build/x86-64/libsenyolanda.a, on any machine
+#                 that link the library, and the programs schedule and statement; and build/x86-64/libsenyolanda.a
+# make x86-64     builds build/x86-64/libsenyolanda.a alone, on any machine
 # make run        builds, draws a sample loan's schedule, and prints a sample loan's statement
-# make test       runs every test; its last lines are `rt ci`'s
+# make test       proves everything from nothing by `rt ci`, then runs every test; its last line is `rt ci`'s
+# make differential COUNT=..   compares every function with the Rust's published files, which FIN_PRIMITIVES says where they are
 # make bench      times jobs beside the Rust, both for this machine's own processor
 # make install    puts library, header and programs under PREFIX, within DESTDIR; make uninstall takes them away
 SHELL := /bin/sh
@@ -19,11 +20,11 @@ VERSION := 0.1.0
 # The number goes up when a program that was linked before would no longer run as it did.
 SONAME := libsenyolanda.so.0
 
-.PHONY: all x86-64 run test bench install uninstall clean kit always
+.PHONY: all x86-64 run test tests bench install uninstall clean kit always
 # Two proofs at a time would write the same files under target/.
 .NOTPARALLEL:
 
-all: build/libsenyolanda.a build/libsenyolanda.so build/senyolanda.pc build/schedule build/statement
+all: build/libsenyolanda.a build/libsenyolanda.so build/senyolanda.pc build/x86-64/libsenyolanda.a build/schedule build/statement
 
 kit:
 	@command -v rt >/dev/null || { echo "make: please install the Rattle kit (its command is rt)" >&2; exit 1; }
@@ -66,12 +67,20 @@ run: build/schedule build/statement
 	test/record 1200 0 3 | build/schedule
 	build/statement 12000 0.06 12
 
-test: all x86-64 build/test/statement
+# The gate comes first: it proves from nothing, and what it proved the builds after it take as it stands. Its last line is the last here too.
+test: kit
 	@tools/need objdump binutils
 	@tools/need c++ g++
 	@tools/need python3 python3
 	@tools/need rustc rustc libstd-rust-dev
 	@tools/need pkg-config pkg-config
+	rt fmt --check
+	test/gate build/gate.log
+	$(MAKE) tests
+	@tail -n 1 build/gate.log
+
+# Every test but the gate.
+tests: all build/test/statement
 	test/schedule.sh
 	test/header.sh build/libsenyolanda.a build/libsenyolanda.so build/x86-64/libsenyolanda.a
 	test/statement.sh build/statement
@@ -80,8 +89,21 @@ test: all x86-64 build/test/statement
 	test/hosts.sh build/libsenyolanda.a build/libsenyolanda.so
 	test/refusals.py build/libsenyolanda.so
 	test/install.sh
-	rt fmt --check
-	rt ci
+	$(MAKE) differential-if-there
+
+# Beside the Rust's published files, COUNT cases a family (10,000, and 100 for pools and bootstraps).
+differential: build/libsenyolanda.a
+	@tools/need rustc rustc libstd-rust-dev
+	@tools/need nm binutils
+	differential/run build/libsenyolanda.a "$(FIN_PRIMITIVES)" $(COUNT)
+	@build/differential/compare --differences | sed -n '/^|/p' >build/differential/rows
+	@! grep -vxFf docs/DIFFERENCES.md build/differential/rows || { echo "differential: docs/DIFFERENCES.md lacks the lines above" >&2; exit 1; }
+
+# Where the Rust's files are not at hand and nobody said where they are, the replayed list stands in.
+.PHONY: differential differential-if-there
+differential-if-there:
+	@if [ "$(origin FIN_PRIMITIVES)" != file ] || [ -d "$(FIN_PRIMITIVES)/src/fixed_income" ]; then $(MAKE) differential; \
+	else echo "differential: the Rust's files are not at $(FIN_PRIMITIVES); the replayed list stands in"; fi
 
 # What is missing is said before minutes go into the library.
 .PHONY: bench-needs

@@ -1,10 +1,12 @@
 -- How tight the promises are: whatever a public function is given, any two results that its contract allows are equal. Assumes nothing.
 use mathlib.Core.Path.{_≡_, sym, ap, _∙_}
 use Rattle.numbers.proofs.Determined.{Determined}
-use Rattle.refusals.proofs.OneToOne.{same-refusal, number-one-to-one}
+use Rattle.refusals.proofs.OneToOne.{same-refusal, number-one-to-one, verdict-one-to-one}
 use Rattle.bond.specs.declared.codes.FrequencyRead.{FrequencyRead}
 use Rattle.bond.specs.declared.codes.FrequencyRead.the-variants as frequency-is
 use Rattle.bond.specs.Codes.{frequencyOutcome}
+use Rattle.bond.proofs.bonds.judge_numbers.Kinds as judge-numbers-kinds
+use Rattle.bond.proofs.bonds.judge_numbers.Reads as judge-numbers
 use Rattle.bond.proofs.price.price.Kinds as price-kinds
 use Rattle.bond.proofs.price.price.Reads as price
 use Rattle.bond.proofs.price.dv01.Kinds as dv01-kinds
@@ -39,6 +41,9 @@ frequency-one-to-one (frequency-is.Refused r) (frequency-is.Refused s) e = ap fr
 frequency-one-to-one (frequency-is.Refused r) (frequency-is.Given g) e = cc
 frequency-one-to-one (frequency-is.Given f) (frequency-is.Refused s) e = cc
 frequency-one-to-one (frequency-is.Given f) (frequency-is.Given g) e = cc
+
+pub judge-numbers-determined : Determined 0 judge-numbers-kinds.ps judge-numbers-kinds.r judge-numbers.Post
+judge-numbers-determined κs a x y e e′ p q = verdict-one-to-one x y (p ∙ sym q)
 
 pub price-determined : Determined 0 price-kinds.ps price-kinds.r price.Post
 price-determined κs a x y e e′ p q = number-one-to-one x y (p ∙ sym q)

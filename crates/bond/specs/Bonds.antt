@@ -36,6 +36,9 @@ periods b = nearestWhole (mul binary64 (b .maturity) (couponsAYear b))
 unfoldable pub badMaturity : Bond → Bool
 badMaturity b = not (finite (b .maturity)) || ltb 1200 (periods b)
 
--- the lines that a bond meets, with one number beside it: a yield or a market price
+-- the lines that a face, a maturity and a coupon meet, with one number beside them: a yield or a market price
+abbrev pub numberLines : Float → Bool → Float → Float → List Line
+numberLines face badTerm coupon x = line 1 (badAmount face) ∷ line 7 badTerm ∷ line 9 (badNumber x || badNumber coupon) ∷ []
+
 abbrev pub bondLines : Bond → Float → List Line
-bondLines b x = line 1 (badAmount (b .face)) ∷ line 7 (badMaturity b) ∷ line 9 (badNumber x || badNumber (b .coupon)) ∷ []
+bondLines b x = numberLines (b .face) (badMaturity b) (b .coupon) x

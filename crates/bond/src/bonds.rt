@@ -4,7 +4,7 @@ ghost use mathlib.Core.Bool.{_||_};
 ghost use Rattle.refusals.specs.Outcome.{judged};
 ghost use Rattle.refusals.specs.Answers.{verdictOutcome};
 ghost use Rattle.refusals.specs.Table.{badNumber};
-ghost use Rattle.bond.specs.Bonds.{perYear, couponsAYear, periodCoupon, periods, badMaturity, bondLines};
+ghost use Rattle.bond.specs.Bonds.{perYear, couponsAYear, periodCoupon, periods, badMaturity, numberLines, bondLines};
 ghost use Rattle.bond.specs.Worked.{WorkedOut};
 use crate::Bond;
 use crate::Frequency;
@@ -79,29 +79,36 @@ fn bad_maturity(worked: Worked) -> bool
 }
 
 // Line 9: a number beside the bond, or its coupon, that is not finite.
-fn bad_numbers(bond: Bond, beside: f64) -> bool
-    ensures { λ r. ⌜ r ≡ badNumber beside || badNumber (bond .coupon) ⌝ }
+fn bad_numbers(coupon: f64, beside: f64) -> bool
+    ensures { λ r. ⌜ r ≡ badNumber beside || badNumber coupon ⌝ }
 {
     if refusals::bad_number(beside) {
         return true;
     }
-    refusals::bad_number(bond.coupon)
+    refusals::bad_number(coupon)
 }
 
-// Lines 1, 7 and 9, asked of a bond and of one number beside it: a yield or a market price.
+// Lines 1, 7 and 9 of a face, a verdict on the maturity, a coupon, and one number beside them.
+pub fn judge_numbers(face: f64, bad_maturity: bool, coupon: f64, beside: f64) -> Verdict
+    ensures { λ r. ⌜ verdictOutcome r ≡ judged (numberLines face «bad_maturity» coupon beside) tt ⌝ }
+{
+    if refusals::bad_amount(face) {
+        return Verdict::Refused(refusals::refuse(1));
+    }
+    if bad_maturity {
+        return Verdict::Refused(refusals::refuse(7));
+    }
+    if bad_numbers(coupon, beside) {
+        return Verdict::Refused(refusals::refuse(9));
+    }
+    Verdict::Accepted
+}
+
+// The same of a bond, with a yield or a market price beside it.
 pub(crate) fn judge_bond(worked: Worked, beside: f64) -> Verdict
     requires { ⌜ WorkedOut worked ⌝ }
     ensures { λ r. ⌜ verdictOutcome r ≡ judged (bondLines (worked .bond) beside) tt ⌝ }
 {
     let bond = worked.bond;
-    if refusals::bad_amount(bond.face) {
-        return Verdict::Refused(refusals::refuse(1));
-    }
-    if bad_maturity(worked) {
-        return Verdict::Refused(refusals::refuse(7));
-    }
-    if bad_numbers(bond, beside) {
-        return Verdict::Refused(refusals::refuse(9));
-    }
-    Verdict::Accepted
+    judge_numbers(bond.face, bad_maturity(worked), bond.coupon, beside)
 }

@@ -3,10 +3,12 @@ use mathlib.Core.Path.{_≡_, sym, ap, _∙_}
 use mathlib.Core.List.{List}
 use lib.Ieee.{Float}
 use Rattle.numbers.proofs.Determined.{Determined, Settled}
-use Rattle.refusals.proofs.OneToOne.{same-refusal, number-one-to-one, count-one-to-one}
+use Rattle.refusals.proofs.OneToOne.{same-refusal, number-one-to-one, count-one-to-one, verdict-one-to-one}
 use Rattle.pool.specs.declared.totals.TotalsAnswer.{TotalsAnswer}
 use Rattle.pool.specs.declared.totals.TotalsAnswer.the-variants as totals-is
 use Rattle.pool.specs.Totals.{totalsOutcome}
+use Rattle.pool.proofs.loans.judge_pool.Kinds as judge-pool-kinds
+use Rattle.pool.proofs.loans.judge_pool.Reads as judge-pool
 use Rattle.pool.proofs.speed.monthly_smm.Kinds as monthly-smm-kinds
 use Rattle.pool.proofs.speed.monthly_smm.Reads as monthly-smm
 use Rattle.pool.proofs.totals.pool_totals.Kinds as pool-totals-kinds
@@ -49,3 +51,6 @@ cash-flows-determined κs a x y e e′ p q = count-one-to-one x y (p .0 ∙ sym 
 -- and the flows' promise one room, the fourth parameter
 pub cash-flows-room-settled : Settled 3 cash-flows-kinds.ps cash-flows-kinds.r cash-flows.Post
 cash-flows-room-settled κs a x y w w′ p q = ap (λ (l : List Float). (tt, (tt, (tt, (l, tt))))) (p .1 ∙ sym (q .1))
+
+pub judge-pool-determined : Determined 1 judge-pool-kinds.ps judge-pool-kinds.r judge-pool.Post
+judge-pool-determined κs a x y e e′ p q = verdict-one-to-one x y (p ∙ sym q)

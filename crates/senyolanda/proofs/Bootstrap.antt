@@ -7,7 +7,7 @@ use lib.ListN.{length, take, replicate, length-append}
 use lib.Seq.{take-append-seam}
 use lib.Ieee.{Float}
 use Rattle.numbers.specs.Clamps.{plusZero}
-use Rattle.refusals.specs.Outcome.{Outcome, refused, accepted, judged}
+use Rattle.refusals.specs.Outcome.{accepted}
 use Rattle.refusals.specs.Answers.{verdictOutcome}
 use Rattle.refusals.specs.declared.Verdict.{Verdict}
 use Rattle.refusals.specs.declared.Verdict.the-variants as verdict-is

@@ -1,14 +1,14 @@
 -- A bond as its record holds it. Definitions only. Assumes nothing.
 use Prim.Native.Nat.{ℕ}
-use mathlib.Core.Bool.{_||_}
-use mathlib.Core.List.{List, [], _∷_}
+use mathlib.Core.List.{List}
 use lib.Ieee.{Float}
-use Rattle.refusals.specs.Outcome.{Outcome, refused, accepted, Line, line, andThen, judged}
-use Rattle.refusals.specs.Table.{badAmount, badTime, badNumber}
+use Rattle.refusals.specs.Outcome.{Outcome, refused, accepted, Line, andThen, judged}
+use Rattle.refusals.specs.Table.{badTime}
 use Rattle.records.specs.declared.BondRecord.{BondRecord}
 use Rattle.records.specs.Kinds.{bondFields}
 use Rattle.bond.specs.declared.Bond.{Bond}
 use Rattle.bond.specs.declared.Frequency.{Frequency}
+use Rattle.bond.specs.Bonds.{numberLines}
 use Rattle.bond.specs.Codes.{frequencyAt, badCode}
 use Rattle.senyolanda.specs.declared.bonds.BondIn.{BondIn}
 use Rattle.senyolanda.specs.declared.bonds.BondIn.the-variants as bond-is
@@ -22,8 +22,7 @@ bondOf b = paidEach (frequencyAt (b .frequency)) b
 
 -- of a bond whose frequency nobody knows no periods are known: 7 is for a maturity that is not finite alone
 abbrev pub uncodedLines : BondRecord → Float → List Line
-uncodedLines b beside =
-    line 1 (badAmount (b .face)) ∷ line 7 (badTime (b .maturity)) ∷ line 9 (badNumber beside || badNumber (b .coupon)) ∷ []
+uncodedLines b beside = numberLines (b .face) (badTime (b .maturity)) (b .coupon) beside
 
 -- the bond of a record that has one number beside it, a yield or a market price
 unfoldable pub bondRead : List ℕ → Float → Outcome Bond

@@ -1,6 +1,5 @@
 // Bonds: a bond comes as a kind 2 record.
 ghost use mathlib.Core.Path.{_≡_};
-ghost use mathlib.Core.List.{List};
 ghost use Rattle.refusals.specs.Outcome.{judged};
 ghost use Rattle.refusals.specs.Answers.{verdictOutcome};
 ghost use Rattle.bond.specs.Price.{price as priceAt, dv01 as dv01At, currentYield, zeroCouponPrice};
@@ -26,19 +25,8 @@ pub(crate) enum BondIn {
 fn judge_uncoded(fields: BondRecord, beside: f64) -> Verdict
     ensures { λ r. ⌜ verdictOutcome r ≡ judged (uncodedLines fields beside) tt ⌝ }
 {
-    if refusals::bad_amount(fields.face) {
-        return Verdict::Refused(refusals::refuse(1));
-    }
-    if yield_curve::curve::bad_time(fields.maturity) {
-        return Verdict::Refused(refusals::refuse(7));
-    }
-    if refusals::bad_number(beside) {
-        return Verdict::Refused(refusals::refuse(9));
-    }
-    if refusals::bad_number(fields.coupon) {
-        return Verdict::Refused(refusals::refuse(9));
-    }
-    Verdict::Accepted
+    let bad_maturity = yield_curve::curve::bad_time(fields.maturity);
+    bond::bonds::judge_numbers(fields.face, bad_maturity, fields.coupon, beside)
 }
 
 // The bond of a record that has one number beside it. A code outside its set waits for what else the bond is refused with.

@@ -1,6 +1,6 @@
 // The result of a call, and answers put into their lent places.
 ghost use mathlib.Core.Path.{_≡_};
-ghost use Rattle.refusals.specs.Answers.{numberOutcome, countOutcome, verdictOutcome};
+ghost use Rattle.refusals.specs.Answers.{numberOutcome, countOutcome};
 ghost use Rattle.senyolanda.specs.Told.{refusalResult, toldNumber};
 use refusals::Count;
 use refusals::Number;

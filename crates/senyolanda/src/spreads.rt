@@ -1,6 +1,5 @@
 // Spreads: curves of rates, cash flows as two lists, spreads in basis points.
 ghost use mathlib.Core.Path.{_≡_};
-ghost use Rattle.refusals.specs.Answers.{countOutcome};
 ghost use Rattle.spread_analytics.specs.Units.{decimal};
 ghost use Rattle.spread_analytics.specs.Curves.{rateAt, discountFactor, forwardRate};
 ghost use Rattle.spread_analytics.specs.Flows.{bondCashFlows, flowTime, flowAmount, columnIn};

@@ -50,7 +50,7 @@ fn taken(count: usize) -> usize
 }
 
 // What more than 1,200 flows are refused with: the curve's own refusal, and else line 7.
-pub fn refused_for_count(tenors: &[f64], rates: &[f64]) -> Refusal
+fn refused_for_count(tenors: &[f64], rates: &[f64]) -> Refusal
     ensures { λ r. ⌜ ((times amounts : List Float) (bad : Bool) → length times ≡ length amounts → 1200 < length times
         → _≡_ {A = Outcome Unit} (refused (r .number) (r .place)) (judged (spreadLines times amounts (now (tenors .entry)) (now (rates .entry)) bad) tt)) ⌝ }
 {

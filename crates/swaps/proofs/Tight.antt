@@ -11,6 +11,8 @@ use Rattle.swaps.specs.declared.valuation.ValuationAnswer.{ValuationAnsw
 use Rattle.swaps.specs.declared.valuation.ValuationAnswer.the-variants as valuation-is
 use Rattle.swaps.specs.Codes.{dayCountOutcome}
 use Rattle.swaps.specs.Valuation.{valuationOutcome}
+use Rattle.swaps.proofs.judging.judge_swap.Kinds as judge-swap-kinds
+use Rattle.swaps.proofs.judging.judge_swap.Reads as judge-swap
 use Rattle.swaps.proofs.day_counts.day_count_fraction.Kinds as day-count-fraction-kinds
 use Rattle.swaps.proofs.day_counts.day_count_fraction.Reads as day-count-fraction
 use Rattle.swaps.proofs.day_counts.day_count_of.Kinds as day-count-of-kinds
@@ -93,3 +95,6 @@ swap-duration-determined κs a x y e e′ p q = number-one-to-one x y (p ∙ sym
 
 pub value-swap-determined : Determined 2 value-swap-kinds.ps value-swap-kinds.r value-swap.Post
 value-swap-determined κs a x y e e′ p q = valuation-told x y (p ∙ sym q)
+
+pub judge-swap-determined : Determined 2 judge-swap-kinds.ps judge-swap-kinds.r judge-swap.Post
+judge-swap-determined κs a x y e e′ p q = verdict-one-to-one x y (p ∙ sym q)

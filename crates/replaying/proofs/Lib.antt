@@ -1,0 +1,3 @@
+pub mod EightBytes
+pub mod Agreeing
+pub mod Tight

@@ -1,0 +1,156 @@
+// The library's exported functions that have a counterpart in the Rust, as the host's header declares them, and how an answer is asked for.
+// What reads and writes records has none: records are handed in as bytes made here, and a drawn row's record is taken apart here.
+use crate::harness::{Answer, Unanswered};
+
+/// What stands in lent memory before a call: far from every answer, so that no scale hides a stray write.
+pub const UNTOUCHED: f64 = 1.234567890123456e300;
+pub const UNTOUCHED_COUNT: u32 = 0xa5a5_a5a5;
+
+type Number<'a> = &'a mut f64;
+type Count<'a> = &'a mut u32;
+
+/// Declares exported functions: a list in brackets crosses as its pointer and its count, room as `[mut room: f64]` likewise.
+macro_rules! exported {
+    ($($name:ident($($parameters:tt)*);)+) => {
+        $(exported!(@ $name () $($parameters)*);)+
+    };
+    (@ $name:ident ($($done:tt)*)) => {
+        extern "C" {
+            pub fn $name($($done)*) -> u64;
+        }
+    };
+    (@ $name:ident ($($done:tt)*) [mut $room:ident: $item:ty] $(, $($rest:tt)*)?) => {
+        exported!(@ $name ($($done)* $room: *mut $item, _: usize,) $($($rest)*)?);
+    };
+    (@ $name:ident ($($done:tt)*) [$list:ident: $item:ty] $(, $($rest:tt)*)?) => {
+        exported!(@ $name ($($done)* $list: *const $item, _: usize,) $($($rest)*)?);
+    };
+    (@ $name:ident ($($done:tt)*) $parameter:ident: $kind:ty $(, $($rest:tt)*)?) => {
+        exported!(@ $name ($($done)* $parameter: $kind,) $($($rest)*)?);
+    };
+}
+
+exported! {
+    senyolanda_exp(x: f64, answer: Number);
+    senyolanda_exp_each([mut numbers: f64]);
+    senyolanda_ln(x: f64, answer: Number);
+    senyolanda_power(x: f64, y: f64, answer: Number);
+
+    senyolanda_monthly_payment([record: u8], payment: Number);
+    senyolanda_open([record: u8], term: Count, rate: Number, payment: Number, done: Count, balance: Number);
+    senyolanda_open_with_payment([record: u8], given: f64, term: Count, rate: Number, payment: Number, done: Count, balance: Number);
+    senyolanda_draw(term: u32, rate: f64, payment: f64, done: Count, balance: Number, [mut room: f64], written: Count, owed: Count);
+    senyolanda_next_row(term: u32, rate: f64, payment: f64, done: Count, balance: Number, record: &mut [u8; 37], written: Count, owed: Count);
+    senyolanda_total_interest([record: u8], interest: Number);
+    senyolanda_remaining_balance([record: u8], months: u32, balance: Number);
+    senyolanda_ltv([record: u8], value: f64, ratio: Number);
+    senyolanda_prepayment_savings([record: u8], extra: f64, months: Count, interest: Number);
+    senyolanda_refinance_breakeven([old: u8], [new: u8], cost: f64, elapsed: u32, month: Count);
+
+    senyolanda_monthly_smm(speed: u32, number: f64, [history: f64], month: u32, smm: Number);
+    senyolanda_pool_cash_flows([records: u8], speed: u32, number: f64, [history: f64], [mut room: f64], months: Count);
+    senyolanda_pool_price([records: u8], speed: u32, number: f64, [history: f64], rate: f64, price: Number);
+    senyolanda_pool_duration([records: u8], speed: u32, number: f64, [history: f64], rate: f64, duration: Number);
+    senyolanda_pool_convexity([records: u8], speed: u32, number: f64, [history: f64], rate: f64, convexity: Number);
+    senyolanda_pool_totals([records: u8], totals: &mut [f64; 3]);
+
+    senyolanda_bond_price([record: u8], ytm: f64, price: Number);
+    senyolanda_bond_dv01([record: u8], ytm: f64, dv01: Number);
+    senyolanda_bond_current_yield([record: u8], market: f64, current: Number);
+    senyolanda_bond_yield_to_maturity([record: u8], market: f64, ytm: Number);
+    senyolanda_bond_macaulay_duration([record: u8], ytm: f64, duration: Number);
+    senyolanda_bond_modified_duration([record: u8], ytm: f64, duration: Number);
+    senyolanda_bond_convexity([record: u8], ytm: f64, convexity: Number);
+    senyolanda_bond_price_change([record: u8], ytm: f64, delta: f64, change: Number);
+    senyolanda_bond_macaulay_duration_at_price([record: u8], market: f64, duration: Number);
+    senyolanda_bond_modified_duration_at_price([record: u8], market: f64, duration: Number);
+    senyolanda_bond_convexity_at_price([record: u8], market: f64, convexity: Number);
+    senyolanda_zero_coupon_bond_price(ytm: f64, maturity: f64, price: Number);
+
+    senyolanda_linear_interpolate([times: f64], [rates: f64], t: f64, rate: Number);
+    senyolanda_cubic_spline_interpolate([times: f64], [rates: f64], t: f64, rate: Number);
+    senyolanda_yield_curve_discount_factor([times: f64], [rates: f64], t: f64, factor: Number);
+    senyolanda_yield_curve_forward_rate([times: f64], [rates: f64], t1: f64, t2: f64, rate: Number);
+    senyolanda_par_yield([times: f64], [rates: f64], t: f64, par: Number);
+    senyolanda_nelson_siegel_fit([times: f64], [rates: f64], model: &mut [f64; 4]);
+    senyolanda_nelson_siegel_yield(model: &[f64; 4], t: f64, answer: Number);
+    senyolanda_nelson_siegel_forward_rate(model: &[f64; 4], t: f64, rate: Number);
+    senyolanda_nelson_siegel_instantaneous_forward(model: &[f64; 4], rate: Number);
+    senyolanda_nelson_siegel_metrics(model: &[f64; 4], metrics: &mut [f64; 3]);
+
+    senyolanda_day_count_fraction(day_count: u32, days: u32, fraction: Number);
+    senyolanda_bootstrap([tenors: f64], [par_rates: f64], zero_rates: &mut [f64; 120]);
+    senyolanda_discount_curve_rate([tenors: f64], [zeros: f64], t: f64, rate: Number);
+    senyolanda_discount_curve_factor([tenors: f64], [zeros: f64], t: f64, factor: Number);
+    senyolanda_fixed_leg_pv([record: u8], [tenors: f64], [zeros: f64], pv: Number);
+    senyolanda_floating_leg_pv([record: u8], [tenors: f64], [zeros: f64], pv: Number);
+    senyolanda_swap_npv([record: u8], [tenors: f64], [zeros: f64], receive_fixed: u32, npv: Number);
+    senyolanda_par_swap_rate([record: u8], [tenors: f64], [zeros: f64], rate: Number);
+    senyolanda_swap_dv01([record: u8], [tenors: f64], [zeros: f64], receive_fixed: u32, dv01: Number);
+    senyolanda_swap_duration([record: u8], [tenors: f64], [zeros: f64], duration: Number);
+    senyolanda_value_swap([record: u8], [tenors: f64], [zeros: f64], receive_fixed: u32, valuation: &mut [f64; 6]);
+
+    senyolanda_zero_curve_rate([tenors: f64], [rates: f64], t: f64, rate: Number);
+    senyolanda_swap_curve_rate([tenors: f64], [rates: f64], tenor: f64, rate: Number);
+    senyolanda_zero_curve_discount_factor([tenors: f64], [rates: f64], t: f64, factor: Number);
+    senyolanda_zero_curve_forward_rate([tenors: f64], [rates: f64], t1: f64, t2: f64, rate: Number);
+    senyolanda_bond_cash_flows(face: f64, coupon: f64, tenor: f64, frequency: u32, [mut times: f64], [mut amounts: f64], flows: Count);
+    senyolanda_pv_cash_flows([times: f64], [amounts: f64], [tenors: f64], [rates: f64], points: f64, pv: Number);
+    senyolanda_z_spread([times: f64], [amounts: f64], [tenors: f64], [rates: f64], market: f64, points: Number, found: Count);
+    senyolanda_duration_convexity([times: f64], [amounts: f64], [tenors: f64], [rates: f64], points: f64, sensitivity: &mut [f64; 2]);
+    senyolanda_dated_pv([flows: f64], [tenors: f64], [rates: f64], points: f64, pv: Number);
+    senyolanda_dated_z_spread([flows: f64], [tenors: f64], [rates: f64], market: f64, points: Number, found: Count);
+    senyolanda_dated_duration_convexity([flows: f64], [tenors: f64], [rates: f64], points: f64, sensitivity: &mut [f64; 2]);
+    senyolanda_points_to_decimal(points: f64, rate: Number);
+}
+
+/// Calls an exported function, with lists in brackets as it is declared.
+#[macro_export]
+macro_rules! called {
+    (@ $function:ident ($($done:expr,)*)) => {
+        unsafe { $function($($done),*) }
+    };
+    (@ $function:ident ($($done:expr,)*) [mut $room:expr] $(, $($rest:tt)*)?) => {
+        $crate::called!(@ $function ($($done,)* $room.as_mut_ptr(), $room.len(),) $($($rest)*)?)
+    };
+    (@ $function:ident ($($done:expr,)*) [$list:expr] $(, $($rest:tt)*)?) => {
+        $crate::called!(@ $function ($($done,)* $list.as_ptr(), $list.len(),) $($($rest)*)?)
+    };
+    (@ $function:ident ($($done:expr,)*) $argument:expr $(, $($rest:tt)*)?) => {
+        $crate::called!(@ $function ($($done,)* $argument,) $($($rest)*)?)
+    };
+    ($function:ident, $($arguments:tt)*) => {
+        $crate::called!(@ $function () $($arguments)*)
+    };
+}
+
+/// What a call answered in the numbers lent to it; a refusal must leave them as they were.
+pub fn settled(result: u64, lent: Vec<f64>, counts: &[u32]) -> Answer {
+    let untouched = lent.iter().all(|x| x.to_bits() == UNTOUCHED.to_bits()) && counts.iter().all(|c| *c == UNTOUCHED_COUNT);
+    match result {
+        0 => Ok(counts.iter().map(|c| f64::from(*c)).chain(lent).collect()),
+        _ if untouched => Err(Unanswered::Refused(result)),
+        _ => Err(Unanswered::Broken("a refusal touched lent memory")),
+    }
+}
+
+/// Asks for one number.
+pub fn asked(call: impl FnOnce(&mut f64) -> u64) -> Answer {
+    let mut answer = UNTOUCHED;
+    let result = call(&mut answer);
+    settled(result, vec![answer], &[])
+}
+
+/// Asks for an array of numbers.
+pub fn asked_for<const N: usize>(call: impl FnOnce(&mut [f64; N]) -> u64) -> Answer {
+    let mut answers = [UNTOUCHED; N];
+    let result = call(&mut answers);
+    settled(result, answers.to_vec(), &[])
+}
+
+/// Asks for a count and a number, the count first.
+pub fn asked_with_count(call: impl FnOnce(&mut u32, &mut f64) -> u64) -> Answer {
+    let (mut count, mut answer) = (UNTOUCHED_COUNT, UNTOUCHED);
+    let result = call(&mut count, &mut answer);
+    settled(result, vec![answer], &[count])
+}
