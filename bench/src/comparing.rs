@@ -31,11 +31,13 @@ fn hold_to(job: &mut Job, whose: &str, other: &[f64], allowed: f64) {
     }
 }
 
+pub fn hold_to_the_rust(job: &mut Job) {
+    let rust = job.rust.answer();
+    hold_to(job, "the Rust", &rust, FROM_THE_RUST);
+}
+
 pub fn compare(jobs: &mut [Job], quantlib: &mut Sides) {
-    for job in jobs.iter_mut() {
-        let rust = job.rust.answer();
-        hold_to(job, "the Rust", &rust, FROM_THE_RUST);
-    }
+    jobs.iter_mut().for_each(hold_to_the_rust);
     println!("{} answers compared with the Rust's: within {FROM_THE_RUST:e}", jobs.len());
     for (name, side) in quantlib.iter_mut() {
         match jobs.iter_mut().find(|job| job.name == *name) {

@@ -1,4 +1,5 @@
 //! What our side of a job takes as its input is doubled five times.
+use crate::comparing::hold_to_the_rust;
 use crate::job::Job;
 use crate::measure::best_times;
 use crate::{bonds, curves, elementary, loans, pools, spreads, swaps};
@@ -37,6 +38,7 @@ const GROWTHS: [Growth; 17] = [
 ];
 
 fn time_of(mut job: Job) -> f64 {
+    hold_to_the_rust(&mut job);
     best_times(&mut [&mut job.ours], BUDGET)[0]
 }
 

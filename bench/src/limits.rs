@@ -22,6 +22,22 @@ fn exps_in_turn(count: usize) -> Box<dyn Side> {
     })
 }
 
+/// Sums of fourteen terms by Horner's rule, eight at once, each product and each sum rounded, as exp's steps want them.
+fn sums_of_fourteen(count: usize) -> Box<dyn Side> {
+    let points: Vec<f64> = (0..count).map(|i| 0.3 * i as f64 / count as f64).collect();
+    filling(vec![0.0; count], move |room: &mut Vec<f64>| {
+        for (points, places) in unseen(&points).chunks_exact(8).zip(room.chunks_exact_mut(8)) {
+            let mut sums = [1e-10; 8];
+            for coefficient in 0..13 {
+                for (sum, point) in sums.iter_mut().zip(points) {
+                    *sum = *sum * point + f64::from(coefficient);
+                }
+            }
+            places.copy_from_slice(&sums);
+        }
+    })
+}
+
 /// An archive's places, each with the same number.
 fn filled(rows: usize) -> Box<dyn Side> {
     filling(vec![0.0; rows * ROW_PLACES], |places: &mut Vec<f64>| places.fill(*unseen(&1.0)))
@@ -31,6 +47,7 @@ pub fn print() {
     let limits = [
         ("360 months of multiply, subtract, subtract", chain(360)),
         ("64 exps, each waiting for the one before", exps_in_turn(64)),
+        ("4096 sums of fourteen terms, eight at once", sums_of_fourteen(4096)),
         ("3600000 rows' places filled", filled(3_600_000)),
     ];
     for (name, mut side) in limits {
