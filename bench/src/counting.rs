@@ -1,11 +1,10 @@
 //! Jobs run for valgrind's callgrind, which writes what it counted since it last did before each `bench_mark`.
 use crate::job::Job;
 use crate::measure::{unseen, Side};
-use std::time::{Duration, Instant};
 
-/// A side that takes less, valgrind's slowness included, is counted once more, over many runs with its memory warm; that stands.
-const SHORT: Duration = Duration::from_millis(50);
-const RUNS_OF_A_SHORT_ONE: usize = 16;
+/// A job of fewer rows is counted once more, over some runs with its memory warm, and that stands.
+const MANY_ROWS: usize = 10_000;
+const WARM_RUNS: usize = 8;
 
 #[no_mangle]
 #[inline(never)]
@@ -21,19 +20,18 @@ fn count_runs(job: &str, name: &str, side: &mut dyn Side, runs: usize) {
     println!("{job}\tnothing\t1\n{job}\t{name}\t{runs}");
 }
 
-fn count_side(job: &str, name: &str, side: &mut dyn Side) {
-    let start = Instant::now();
-    count_runs(job, name, side, 1);
-    if start.elapsed() < SHORT {
-        count_runs(job, name, side, RUNS_OF_A_SHORT_ONE);
+fn count_job(job: &mut Job, runs: usize) {
+    count_runs(&job.name, "ours", job.ours.as_mut(), runs);
+    if job.rust_is_counted {
+        count_runs(&job.name, "rust", job.rust.as_mut(), runs);
     }
 }
 
 pub fn count(jobs: &mut [Job]) {
     for job in jobs {
-        count_side(&job.name, "ours", job.ours.as_mut());
-        if job.rust_is_counted {
-            count_side(&job.name, "rust", job.rust.as_mut());
+        count_job(job, 1);
+        if job.rows < MANY_ROWS {
+            count_job(job, WARM_RUNS);
         }
     }
 }
