@@ -111,12 +111,13 @@ differential-if-there:
 	@if [ "$(origin FIN_PRIMITIVES)" != file ] || [ -d "$(FIN_PRIMITIVES)/src/fixed_income" ]; then $(MAKE) differential; \
 	else echo "differential: the Rust's files are not at $(FIN_PRIMITIVES); the replayed list stands in"; fi
 
-build/libbench_jobs.a: $(SOURCES) tools/native | kit
-	tools/native bench_jobs $@
+# What is missing is said before minutes go into the library.
+.PHONY: bench-needs
+bench-needs:
+	@bench/needs "$(FIN_PRIMITIVES)"
 
-bench: build/libbench_jobs.a
-	@tools/need rustc rustc libstd-rust-dev
-	bench/run "$(FIN_PRIMITIVES)"
+bench: bench-needs build/libsenyolanda.a
+	bench/run build/libsenyolanda.a "$(FIN_PRIMITIVES)"
 
 install: all
 	install -d $(DESTDIR)$(BINDIR) $(DESTDIR)$(LIBDIR)/pkgconfig $(DESTDIR)$(INCLUDEDIR)

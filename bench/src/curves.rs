@@ -1,0 +1,87 @@
+//! Curves, their years cut evenly into knots: lookups on the three kinds, and the fit.
+use crate::job::{one_by_one, unless_refused, Job};
+use crate::library::*;
+use crate::measure::{giving, lent, unseen};
+use crate::published::spread_analytics::ZeroRateCurve;
+use crate::published::swaps::DiscountCurve;
+use crate::published::yield_curve::{NelsonSiegel, YieldCurve, YieldPoint};
+
+const LOOKUPS: usize = 64;
+pub const YEARS: f64 = 30.0;
+
+#[derive(Clone)]
+pub struct Curve {
+    pub times: Vec<f64>,
+    pub rates: Vec<f64>,
+}
+
+pub fn curve(years: f64, knots: usize) -> Curve {
+    let times: Vec<f64> = (1..=knots).map(|k| years * k as f64 / knots as f64).collect();
+    let rates = times.iter().map(|t| 0.02 + 0.03 * t / (t + 10.0)).collect();
+    Curve { times, rates }
+}
+
+impl Curve {
+    pub fn zero_rates(&self) -> ZeroRateCurve {
+        ZeroRateCurve { tenors: self.times.clone(), rates: self.rates.clone() }
+    }
+
+    pub fn discount_curve(&self) -> DiscountCurve {
+        DiscountCurve { tenors: self.times.clone(), zero_rates: self.rates.clone() }
+    }
+
+    fn points(&self) -> Vec<YieldPoint> {
+        let each = self.times.iter().zip(&self.rates);
+        each.map(|(&maturity_years, &yield_rate)| YieldPoint { maturity_years, yield_rate }).collect()
+    }
+}
+
+type LibraryNumber = unsafe extern "C" fn(*const f64, usize, *const f64, usize, f64, &mut f64) -> Outcome;
+
+/// Lookups at times all over the years, in no order.
+fn lookups(kind: &str, curve: Curve, ours: LibraryNumber, rust: impl Fn(f64) -> f64 + 'static) -> Job {
+    let times = (0..LOOKUPS).map(|k| YEARS * ((k * 37 % LOOKUPS) as f64 + 0.5) / LOOKUPS as f64).collect();
+    one_by_one(
+        format!("{LOOKUPS} lookups at {} knots, {kind}", curve.times.len()),
+        times,
+        move |t, place| unsafe {
+            ours(curve.times.as_ptr(), curve.times.len(), curve.rates.as_ptr(), curve.rates.len(), *t, place)
+        },
+        move |t| rust(*t),
+    )
+}
+
+pub fn yield_curve(knots: usize) -> Job {
+    let curve = curve(YEARS, knots);
+    let theirs = YieldCurve::new(curve.points());
+    lookups("yield curve", curve, senyolanda_linear_interpolate, move |t| {
+        unseen(&theirs).linear_interpolate(t).unwrap_or(f64::NAN)
+    })
+}
+
+/// The Rust's zero rate is private here, so a lookup is a discount factor, with its exp.
+pub fn discount_curve(knots: usize) -> Job {
+    let curve = curve(YEARS, knots);
+    let theirs = curve.discount_curve();
+    lookups("discount curve", curve, senyolanda_discount_curve_factor, move |t| unseen(&theirs).discount_factor(t))
+}
+
+pub fn zero_curve(knots: usize) -> Job {
+    let curve = curve(YEARS, knots);
+    let theirs = curve.zero_rates();
+    lookups("zero curve", curve, senyolanda_zero_curve_rate, move |t| unseen(&theirs).rate_at(t))
+}
+
+pub fn fit(points: usize) -> Job {
+    let curve = curve(YEARS, points);
+    let theirs = curve.points();
+    let ours = lent(4, move |room| {
+        let model = room.try_into().expect("room for four numbers");
+        let outcome = unsafe {
+            senyolanda_nelson_siegel_fit(curve.times.as_ptr(), points, curve.rates.as_ptr(), points, model)
+        };
+        unless_refused(outcome, 4)
+    });
+    let rust = giving(move || NelsonSiegel::fit(unseen::<Vec<_>>(&theirs)));
+    Job::new(format!("Nelson-Siegel fit of {points} points"), points, ours, rust)
+}

@@ -1,0 +1,72 @@
+//! Loans: a schedule, a book of them, a payment.
+use crate::job::{one_by_one, unless_refused, Job};
+use crate::library::*;
+use crate::measure::{filling, giving, lent, unseen};
+use crate::published::mortgage::{AmortizationRow, MortgageCalculator, MortgageTerms};
+
+pub type Record = [u8; LOAN_BYTES];
+
+pub fn record_of(principal: f64, rate: f64, months: u32) -> Record {
+    let mut record = [0; LOAN_BYTES];
+    unsafe { senyolanda_write_loan(principal, rate, months, &mut record) };
+    record
+}
+
+/// A loan as a record, and as the Rust has it.
+fn loan(principal: f64, annual_rate: f64, term_months: u32) -> (Record, MortgageTerms) {
+    let terms = MortgageTerms { principal, annual_rate, term_months, down_payment: 0.0 };
+    (record_of(principal, annual_rate, term_months), terms)
+}
+
+/// Opens a loan and draws all of it; the places that its rows fill.
+fn drawn(record: &Record, room: &mut [f64]) -> usize {
+    let (mut term, mut rate, mut payment, mut done, mut balance) = (0, 0.0, 0.0, 0, 0.0);
+    let (mut written, mut owed) = (0, 0);
+    let outcome = unsafe {
+        senyolanda_open(record.as_ptr(), record.len(), &mut term, &mut rate, &mut payment, &mut done, &mut balance)
+            | senyolanda_draw(
+                term, rate, payment, &mut done, &mut balance, room.as_mut_ptr(), room.len(), &mut written, &mut owed,
+            )
+    };
+    unless_refused(outcome | Outcome::from(owed), written as usize * ROW_PLACES)
+}
+
+pub fn schedule(months: usize) -> Job {
+    let (record, terms) = loan(300_000.0, 0.065, months as u32);
+    Job::new(
+        format!("schedule of {months}"),
+        months,
+        lent(months * ROW_PLACES, move |room| drawn(&record, room)),
+        giving(move || MortgageCalculator::amortization_schedule(unseen(&terms))),
+    )
+}
+
+/// Schedules of 360 months, one after the other into one archive buffer.
+pub fn book(schedules: usize) -> Job {
+    let months = 360;
+    let rows = schedules * months;
+    let (records, terms): (Vec<Record>, Vec<MortgageTerms>) =
+        (0..schedules).map(|i| loan(100_000.0 + 37.0 * i as f64, 0.02 + 5e-6 * i as f64, months as u32)).unzip();
+    Job::new(
+        format!("book of {schedules} schedules of {months}"),
+        rows,
+        lent(rows * ROW_PLACES, move |room| {
+            records.iter().fold(0, |filled, record| filled + drawn(record, &mut room[filled..]))
+        }),
+        filling(Vec::with_capacity(rows), move |archive: &mut Vec<AmortizationRow>| {
+            archive.clear();
+            for terms in unseen(&terms) {
+                archive.extend(MortgageCalculator::amortization_schedule(terms));
+            }
+        }),
+    )
+}
+
+pub fn payment() -> Job {
+    one_by_one(
+        "payment",
+        vec![loan(300_000.0, 0.065, 360)],
+        |(record, _), place| unsafe { senyolanda_monthly_payment(record.as_ptr(), record.len(), place) },
+        |(_, terms)| MortgageCalculator::monthly_payment(terms),
+    )
+}
