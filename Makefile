@@ -99,8 +99,14 @@ differential: build/libsenyolanda.a
 	@build/differential/compare --differences | sed -n '/^|/p' >build/differential/rows
 	@! grep -vxFf docs/DIFFERENCES.md build/differential/rows || { echo "differential: docs/DIFFERENCES.md lacks the lines above" >&2; exit 1; }
 
+# The Rust's answers that the program replay_answers asks again, made anew; its file stdout says how many there are.
+replay-list: build/libsenyolanda.a
+	@mkdir -p build/lists
+	differential/run build/libsenyolanda.a "$(FIN_PRIMITIVES)" --list build/lists
+	differential/replayed build/lists crates/replay_answers/stdin
+
 # Where the Rust's files are not at hand and nobody said where they are, the replayed list stands in.
-.PHONY: differential differential-if-there
+.PHONY: differential differential-if-there replay-list
 differential-if-there:
 	@if [ "$(origin FIN_PRIMITIVES)" != file ] || [ -d "$(FIN_PRIMITIVES)/src/fixed_income" ]; then $(MAKE) differential; \
 	else echo "differential: the Rust's files are not at $(FIN_PRIMITIVES); the replayed list stands in"; fi

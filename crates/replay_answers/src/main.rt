@@ -1,6 +1,8 @@
 // Replays the Rust's answers: reads cases from standard input, asks the library each question again, and writes how many were replayed and how many of our
 // answers lie apart from the Rust's. A wrong number beyond the distance that its case allows, another refusal, a refusal for a number, a question that is
 // unknown and a case of another form all count as apart, so that the line would no longer be the one that stands in `stdout`.
+// The list, `stdin`, is made by `differential/run .. --list LISTS` and then `differential/replayed LISTS crates/replay_answers/stdin`. Of draws it has the
+// rows, and not what a draw says beside them.
 mod bonds;
 mod curves;
 mod listed;
