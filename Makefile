@@ -3,6 +3,7 @@
 # make x86-64     builds build/x86-64/libsenyolanda.a alone, on any machine
 # make run        builds, draws a sample loan's schedule, and prints a sample loan's statement
 # make test       proves everything from nothing by `rt ci`, then runs every test; its last line is `rt ci`'s
+# make test-x86-64   runs the tests in C over the library for x86-64, emulated on any other machine
 # make differential COUNT=..   compares every function with the Rust's published files, which FIN_PRIMITIVES says where they are
 # make bench      times jobs beside the Rust, both for this machine's own processor
 # make install    puts library, header and programs under PREFIX, within DESTDIR; make uninstall takes them away
@@ -90,6 +91,17 @@ tests: all build/test/statement
 	test/refusals.py build/libsenyolanda.so
 	test/install.sh
 	$(MAKE) differential-if-there
+
+# The tests in C once more, over the library for x86-64; elsewhere they are cross-compiled and emulated.
+.PHONY: test-x86-64
+test-x86-64: build/x86-64/libsenyolanda.a
+ifeq ($(shell uname -m),x86_64)
+	test/c/run $<
+else
+	@tools/need x86_64-linux-gnu-gcc gcc-x86-64-linux-gnu libc6-dev-amd64-cross
+	@tools/need qemu-x86_64 qemu-user
+	test/c/run $< x86_64-linux-gnu-gcc "qemu-x86_64 -L /usr/x86_64-linux-gnu"
+endif
 
 # Beside the Rust's published files, COUNT cases a family (10,000, and 100 for pools and bootstraps).
 differential: build/libsenyolanda.a

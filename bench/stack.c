@@ -14,6 +14,7 @@ enum { STACK = 1 << 20, PAINT = 0xa5 };
 enum {
     MONTHS = SENYOLANDA_MOST_MONTHS,
     LOANS = SENYOLANDA_MOST_LOANS,
+    BOOK = SENYOLANDA_MOST_BOOK_LOANS,
     KNOTS = SENYOLANDA_MOST_KNOTS,
     FLOWS = SENYOLANDA_MOST_FLOWS
 };
@@ -24,8 +25,11 @@ static uint8_t loan[SENYOLANDA_LOAN_BYTES], new_loan[SENYOLANDA_LOAN_BYTES], poo
 static uint8_t bond[SENYOLANDA_BOND_BYTES], row[SENYOLANDA_ROW_BYTES], swap[SENYOLANDA_SWAP_BYTES];
 static double times[KNOTS], rates[KNOTS], zeros[KNOTS], model[4] = { 0.05, -0.02, 0.01, 0.5 };
 static double flow_times[FLOWS], amounts[FLOWS], dated[2 * FLOWS], history[MONTHS], bond_times[FLOWS], bond_amounts[FLOWS];
-static double room[MONTHS * SENYOLANDA_ROW_PLACES], numbers[8], x, rate, payment, balance;
+static double room[MONTHS * SENYOLANDA_ROW_PLACES], asked[MONTHS], numbers[8], x, rate, payment, balance;
 static uint32_t term, done, written, owed, count, code;
+static uint8_t book[BOOK * SENYOLANDA_LOAN_BYTES];
+static double book_room[BOOK * MONTHS * SENYOLANDA_ROW_PLACES];
+static uint32_t answers[BOOK];
 
 #define OF(array) (array), sizeof(array) / sizeof *(array)
 
@@ -33,6 +37,8 @@ static void set_out(void) {
     senyolanda_write_loan(250000.0, 0.06, MONTHS, loan);
     senyolanda_write_loan(250000.0, 0.05, MONTHS, new_loan);
     for (int i = 0; i < LOANS; i++) memcpy(pool + i * SENYOLANDA_LOAN_BYTES, loan, sizeof loan);
+    for (int i = 0; i < BOOK; i++) memcpy(book + i * SENYOLANDA_LOAN_BYTES, loan, sizeof loan);
+    for (int i = 0; i < MONTHS; i++) asked[i] = i / 12.0;
     senyolanda_write_bond(1000.0, 0.05, 100.0, SENYOLANDA_MONTHLY, bond);
     senyolanda_write_row(1, 1500.0, 250.0, 1250.0, 249750.0, row);
     senyolanda_write_swap(1e6, 0.04, 100.0, 12, SENYOLANDA_ACTUAL_360, swap);
@@ -74,6 +80,7 @@ static void set_out(void) {
     CALL(open_with_payment, (LOAN, 1500.0, &term, &rate, &payment, &done, &balance))                    \
     CALL(next_row, (term, rate, payment, &done, &balance, row, &written, &owed))                        \
     CALL(draw, (term, rate, payment, &done, &balance, OF(room), &written, &owed))                       \
+    CALL(draw_book, (OF(book), OF(answers), OF(book_room), &count, &written, &owed))                    \
     CALL(total_interest, (LOAN, &x))                                                                    \
     CALL(remaining_balance, (LOAN, MONTHS, &x))                                                         \
     CALL(ltv, (LOAN, 500000.0, &x))                                                                     \
@@ -98,8 +105,10 @@ static void set_out(void) {
     CALL(bond_convexity_at_price, (BOND, 900.0, &x))                                                    \
     CALL(zero_coupon_bond_price, (0.04, 99.5, &x))                                                      \
     CALL(linear_interpolate, (CURVE, 50.0, &x))                                                         \
+    CALL(linear_interpolate_each, (CURVE, OF(asked)))                                                   \
     CALL(cubic_spline_interpolate, (CURVE, 50.0, &x))                                                   \
     CALL(yield_curve_discount_factor, (CURVE, 50.0, &x))                                                \
+    CALL(yield_curve_discount_factor_each, (CURVE, OF(asked)))                                          \
     CALL(yield_curve_forward_rate, (CURVE, 50.0, 60.0, &x))                                             \
     CALL(par_yield, (CURVE, 600.0, &x))                                                                 \
     CALL(nelson_siegel_fit, (CURVE, model))                                                             \
@@ -110,7 +119,9 @@ static void set_out(void) {
     CALL(day_count_fraction, (SENYOLANDA_THIRTY_360, 90, &x))                                           \
     CALL(bootstrap, (CURVE, zeros))                                                                     \
     CALL(discount_curve_rate, (CURVE, 50.0, &x))                                                        \
+    CALL(discount_curve_rate_each, (CURVE, OF(asked)))                                                  \
     CALL(discount_curve_factor, (CURVE, 50.0, &x))                                                      \
+    CALL(discount_curve_factor_each, (CURVE, OF(asked)))                                                \
     CALL(fixed_leg_pv, (SWAP, &x))                                                                      \
     CALL(floating_leg_pv, (SWAP, &x))                                                                   \
     CALL(swap_npv, (SWAP, 1, &x))                                                                       \
@@ -119,8 +130,11 @@ static void set_out(void) {
     CALL(swap_duration, (SWAP, &x))                                                                     \
     CALL(value_swap, (SWAP, 1, numbers))                                                                \
     CALL(zero_curve_rate, (CURVE, 50.0, &x))                                                            \
+    CALL(zero_curve_rate_each, (CURVE, OF(asked)))                                                      \
     CALL(swap_curve_rate, (CURVE, 50.0, &x))                                                            \
+    CALL(swap_curve_rate_each, (CURVE, OF(asked)))                                                      \
     CALL(zero_curve_discount_factor, (CURVE, 50.0, &x))                                                 \
+    CALL(zero_curve_discount_factor_each, (CURVE, OF(asked)))                                           \
     CALL(zero_curve_forward_rate, (CURVE, 50.0, 60.0, &x))                                              \
     CALL(bond_cash_flows, (1000.0, 0.05, 100.0, 12, OF(bond_times), OF(bond_amounts), &count))          \
     CALL(pv_cash_flows, (LISTS, 85.0, &x))                                                              \

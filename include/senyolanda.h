@@ -70,9 +70,10 @@ extern "C" {
 #define SENYOLANDA_ROW_PLACES 5
 #define SENYOLANDA_POOL_MONTH_PLACES 3
 
-/* The most months of a loan, loans of a pool, knots of a curve, and flows or periods. */
+/* The most months of a loan, loans of a pool and of a book, knots of a curve, and flows or periods. */
 #define SENYOLANDA_MOST_MONTHS 1200
 #define SENYOLANDA_MOST_LOANS 64
+#define SENYOLANDA_MOST_BOOK_LOANS 256
 #define SENYOLANDA_MOST_KNOTS 120
 #define SENYOLANDA_MOST_FLOWS 1200
 
@@ -259,6 +260,16 @@ senyolanda_result senyolanda_next_row(
     uint8_t record[SENYOLANDA_FILLED SENYOLANDA_ROW_BYTES],
     uint32_t *SENYOLANDA_RESTRICT written, uint32_t *SENYOLANDA_RESTRICT owed);
 
+/* Draws a book: loans as their records end to end, at most 256, each opened with its worked-out payment and drawn whole, one behind
+   the other into one room; two are drawn at once, which is faster than by itself. A loan's answer is 0, or the number that it alone
+   would be refused with: the others go on. finished counts the loans that are done, refused ones too; where the room ended inside a
+   loan, cut is how many of its rows were written, else 0; waiting counts the loans without a row, whose answers stay. Fewer answers
+   than loans, or no room for the first row, is 3; bytes that do not divide into records, or too many, are 11. Refuses 3, 11. */
+senyolanda_result senyolanda_draw_book(
+    const uint8_t *records, size_t length, uint32_t *SENYOLANDA_RESTRICT answers, size_t answers_count,
+    double *SENYOLANDA_RESTRICT room, size_t places,
+    uint32_t *SENYOLANDA_RESTRICT finished, uint32_t *SENYOLANDA_RESTRICT cut, uint32_t *SENYOLANDA_RESTRICT waiting);
+
 /* The sum of the interest column at the worked-out payment. Refuses 1, 2, 11. */
 senyolanda_result senyolanda_total_interest(const uint8_t *record, size_t length, double *SENYOLANDA_RESTRICT interest);
 
@@ -420,6 +431,11 @@ senyolanda_result senyolanda_linear_interpolate(
     const double *times, size_t times_count, const double *rates, size_t rates_count,
     double t, double *SENYOLANDA_RESTRICT rate);
 
+/* Each time of the list becomes its rate, the knots tested once for all; a bad time stands at its index. Refuses 4, 5, 6, 7. */
+senyolanda_result senyolanda_linear_interpolate_each(
+    const double *times, size_t times_count, const double *rates, size_t rates_count,
+    double *SENYOLANDA_RESTRICT asked, size_t asked_count);
+
 /* The rate at t, on the natural cubic spline through the knots. Refuses 4, 5, 6, 7. */
 senyolanda_result senyolanda_cubic_spline_interpolate(
     const double *times, size_t times_count, const double *rates, size_t rates_count,
@@ -429,6 +445,11 @@ senyolanda_result senyolanda_cubic_spline_interpolate(
 senyolanda_result senyolanda_yield_curve_discount_factor(
     const double *times, size_t times_count, const double *rates, size_t rates_count,
     double t, double *SENYOLANDA_RESTRICT factor);
+
+/* Each time of the list becomes its factor, faster than one by one; a bad time stands at its index. Refuses 4, 5, 6, 7. */
+senyolanda_result senyolanda_yield_curve_discount_factor_each(
+    const double *times, size_t times_count, const double *rates, size_t rates_count,
+    double *SENYOLANDA_RESTRICT asked, size_t asked_count);
 
 /* The rate from t1 to t2 that today's curve implies. Refuses 4, 5, 6, 7. */
 senyolanda_result senyolanda_yield_curve_forward_rate(
@@ -478,10 +499,20 @@ senyolanda_result senyolanda_discount_curve_rate(
     const double *tenors, size_t tenors_count, const double *zeros, size_t zeros_count,
     double t, double *SENYOLANDA_RESTRICT rate);
 
+/* Each time of the list becomes its zero rate, the knots tested once for all; a bad time stands at its index. Refuses 4, 5, 6, 7. */
+senyolanda_result senyolanda_discount_curve_rate_each(
+    const double *tenors, size_t tenors_count, const double *zeros, size_t zeros_count,
+    double *SENYOLANDA_RESTRICT asked, size_t asked_count);
+
 /* What 1 at t is worth today. Refuses 4, 5, 6, 7. */
 senyolanda_result senyolanda_discount_curve_factor(
     const double *tenors, size_t tenors_count, const double *zeros, size_t zeros_count,
     double t, double *SENYOLANDA_RESTRICT factor);
+
+/* Each time of the list becomes its factor, faster than one by one; a bad time stands at its index. Refuses 4, 5, 6, 7. */
+senyolanda_result senyolanda_discount_curve_factor_each(
+    const double *tenors, size_t tenors_count, const double *zeros, size_t zeros_count,
+    double *SENYOLANDA_RESTRICT asked, size_t asked_count);
 
 /* The present value of the fixed payments, and of the notional at the end. Refuses 1, 4, 5, 6, 7, 8, 9, 11. */
 senyolanda_result senyolanda_fixed_leg_pv(
@@ -532,15 +563,30 @@ senyolanda_result senyolanda_zero_curve_rate(
     const double *tenors, size_t tenors_count, const double *rates, size_t rates_count,
     double t, double *SENYOLANDA_RESTRICT rate);
 
+/* Each time of the list becomes its zero rate, the knots tested once for all; a bad time stands at its index. Refuses 4, 5, 6, 7. */
+senyolanda_result senyolanda_zero_curve_rate_each(
+    const double *tenors, size_t tenors_count, const double *rates, size_t rates_count,
+    double *SENYOLANDA_RESTRICT asked, size_t asked_count);
+
 /* The par swap rate at a tenor. Refuses 4, 5, 6, 7. */
 senyolanda_result senyolanda_swap_curve_rate(
     const double *tenors, size_t tenors_count, const double *rates, size_t rates_count,
     double tenor, double *SENYOLANDA_RESTRICT rate);
 
+/* Each tenor of the list becomes its par swap rate, the knots tested once for all; a bad tenor stands at its index. Refuses 4, 5, 6, 7. */
+senyolanda_result senyolanda_swap_curve_rate_each(
+    const double *tenors, size_t tenors_count, const double *rates, size_t rates_count,
+    double *SENYOLANDA_RESTRICT asked, size_t asked_count);
+
 /* What 1 at t is worth today. Refuses 4, 5, 6, 7. */
 senyolanda_result senyolanda_zero_curve_discount_factor(
     const double *tenors, size_t tenors_count, const double *rates, size_t rates_count,
     double t, double *SENYOLANDA_RESTRICT factor);
+
+/* Each time of the list becomes its factor, faster than one by one; a bad time stands at its index. Refuses 4, 5, 6, 7. */
+senyolanda_result senyolanda_zero_curve_discount_factor_each(
+    const double *tenors, size_t tenors_count, const double *rates, size_t rates_count,
+    double *SENYOLANDA_RESTRICT asked, size_t asked_count);
 
 /* The rate from t1 to t2 that today's curve implies. Refuses 4, 5, 6, 7. */
 senyolanda_result senyolanda_zero_curve_forward_rate(

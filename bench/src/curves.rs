@@ -37,39 +37,68 @@ impl Curve {
 }
 
 type LibraryNumber = unsafe extern "C" fn(*const f64, usize, *const f64, usize, f64, &mut f64) -> Outcome;
+type LibraryNumbers = unsafe extern "C" fn(*const f64, usize, *const f64, usize, *mut f64, usize) -> Outcome;
 
-/// Lookups at times all over the years, in no order.
-fn lookups(kind: &str, curve: Curve, ours: LibraryNumber, rust: impl Fn(f64) -> f64 + 'static) -> Job {
-    let times = (0..LOOKUPS).map(|k| YEARS * ((k * 37 % LOOKUPS) as f64 + 0.5) / LOOKUPS as f64).collect();
-    one_by_one(
-        format!("{LOOKUPS} lookups at {} knots, {kind}", curve.times.len()),
-        times,
-        move |t, place| unsafe {
-            ours(curve.times.as_ptr(), curve.times.len(), curve.rates.as_ptr(), curve.rates.len(), *t, place)
-        },
-        move |t| rust(*t),
-    )
+/// Whether lookups are asked for one by one or as a list.
+#[derive(Clone, Copy, PartialEq)]
+pub enum Asked {
+    OneByOne,
+    AsAList,
 }
 
-pub fn yield_curve(knots: usize) -> Job {
+/// Lookups at times all over the years, in no order. A list is filled afresh for each run, since its answers take its place; the time
+/// of that is in.
+fn lookups(
+    kind: &str,
+    asked: Asked,
+    curve: Curve,
+    (one, each): (LibraryNumber, LibraryNumbers),
+    rust: impl Fn(f64) -> f64 + 'static,
+) -> Job {
+    let times: Vec<f64> = (0..LOOKUPS).map(|k| YEARS * ((k * 37 % LOOKUPS) as f64 + 0.5) / LOOKUPS as f64).collect();
+    let name = format!("{LOOKUPS} lookups at {} knots, {kind}", curve.times.len());
+    let (listed, knots) = (times.clone(), curve.clone());
+    let alone = one_by_one(
+        name.clone(),
+        times,
+        move |t, place| unsafe {
+            one(curve.times.as_ptr(), curve.times.len(), curve.rates.as_ptr(), curve.rates.len(), *t, place)
+        },
+        move |t| rust(*t),
+    );
+    if asked == Asked::OneByOne {
+        return alone;
+    }
+    let ours = lent(LOOKUPS, move |room| {
+        room.copy_from_slice(&listed);
+        let outcome = unsafe {
+            each(knots.times.as_ptr(), knots.times.len(), knots.rates.as_ptr(), knots.rates.len(), room.as_mut_ptr(), room.len())
+        };
+        unless_refused(outcome, room.len())
+    });
+    Job { name: name + ", a list", ours, ..alone }
+}
+
+pub fn yield_curve(asked: Asked, knots: usize) -> Job {
     let curve = curve(YEARS, knots);
     let theirs = YieldCurve::new(curve.points());
-    lookups("yield curve", curve, senyolanda_linear_interpolate, move |t| {
-        unseen(&theirs).linear_interpolate(t).unwrap_or(f64::NAN)
-    })
+    let ours: (LibraryNumber, LibraryNumbers) = (senyolanda_linear_interpolate, senyolanda_linear_interpolate_each);
+    lookups("yield curve", asked, curve, ours, move |t| unseen(&theirs).linear_interpolate(t).unwrap_or(f64::NAN))
 }
 
 /// The Rust's zero rate is private here, so a lookup is a discount factor, with its exp.
-pub fn discount_curve(knots: usize) -> Job {
+pub fn discount_curve(asked: Asked, knots: usize) -> Job {
     let curve = curve(YEARS, knots);
     let theirs = curve.discount_curve();
-    lookups("discount curve", curve, senyolanda_discount_curve_factor, move |t| unseen(&theirs).discount_factor(t))
+    let ours: (LibraryNumber, LibraryNumbers) = (senyolanda_discount_curve_factor, senyolanda_discount_curve_factor_each);
+    lookups("discount curve", asked, curve, ours, move |t| unseen(&theirs).discount_factor(t))
 }
 
-pub fn zero_curve(knots: usize) -> Job {
+pub fn zero_curve(asked: Asked, knots: usize) -> Job {
     let curve = curve(YEARS, knots);
     let theirs = curve.zero_rates();
-    lookups("zero curve", curve, senyolanda_zero_curve_rate, move |t| unseen(&theirs).rate_at(t))
+    let ours: (LibraryNumber, LibraryNumbers) = (senyolanda_zero_curve_rate, senyolanda_zero_curve_rate_each);
+    lookups("zero curve", asked, curve, ours, move |t| unseen(&theirs).rate_at(t))
 }
 
 pub fn fit(points: usize) -> Job {

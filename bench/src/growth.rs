@@ -1,5 +1,6 @@
 //! What our side of a job takes as its input is doubled five times.
 use crate::comparing::hold_to_the_rust;
+use crate::curves::Asked::{AsAList, OneByOne};
 use crate::job::Job;
 use crate::measure::best_times;
 use crate::{bonds, curves, elementary, loans, pools, spreads, swaps};
@@ -17,7 +18,7 @@ struct Growth {
     of: fn(usize) -> Job,
 }
 
-const GROWTHS: [Growth; 17] = [
+const GROWTHS: [Growth; 18] = [
     Growth { job: "schedule", input: "rows", first: 36, of: loans::schedule },
     Growth { job: "book", input: "schedules", first: 10, of: loans::book },
     Growth { job: "pool months", input: "loans", first: 2, of: |loans| pools::months(loans, 360) },
@@ -25,9 +26,10 @@ const GROWTHS: [Growth; 17] = [
     Growth { job: "pool duration", input: "loans", first: 2, of: |loans| pools::duration(loans, 360) },
     Growth { job: "bond yield", input: "periods", first: 36, of: bonds::yield_to_maturity },
     Growth { job: "bond duration", input: "periods", first: 36, of: bonds::duration },
-    Growth { job: "lookups, yield curve", input: "knots", first: 3, of: curves::yield_curve },
-    Growth { job: "lookups, discount curve", input: "knots", first: 3, of: curves::discount_curve },
-    Growth { job: "lookups, zero curve", input: "knots", first: 3, of: curves::zero_curve },
+    Growth { job: "lookups, yield curve", input: "knots", first: 3, of: |knots| curves::yield_curve(OneByOne, knots) },
+    Growth { job: "lookups, discount curve", input: "knots", first: 3, of: |knots| curves::discount_curve(OneByOne, knots) },
+    Growth { job: "lookups, zero curve", input: "knots", first: 3, of: |knots| curves::zero_curve(OneByOne, knots) },
+    Growth { job: "lookups as a list, yield curve", input: "knots", first: 3, of: |knots| curves::yield_curve(AsAList, knots) },
     Growth { job: "z_spread", input: "flows", first: 36, of: spreads::spread },
     Growth { job: "value_swap", input: "periods", first: 36, of: |periods| swaps::value(periods, 30) },
     Growth { job: "value_swap", input: "knots", first: 3, of: |knots| swaps::value(120, knots) },

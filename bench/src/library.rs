@@ -9,6 +9,7 @@ pub const SWAP_BYTES: usize = 30;
 pub const ROW_PLACES: usize = 5;
 pub const POOL_MONTH_PLACES: usize = 3;
 pub const MOST_KNOTS: usize = 120;
+pub const MOST_BOOK_LOANS: usize = 256;
 
 /// Declares functions, those of one shape together.
 macro_rules! exported {
@@ -37,6 +38,10 @@ exported! {
         term: u32, rate: f64, payment: f64, done: &mut u32, balance: &mut f64,
         room: *mut f64, places: usize, written: &mut u32, owed: &mut u32,
     );
+    senyolanda_draw_book: (
+        records: *const u8, length: usize, answers: *mut u32, answers_count: usize, room: *mut f64, places: usize,
+        finished: &mut u32, cut: &mut u32, waiting: &mut u32,
+    );
 
     senyolanda_pool_cash_flows: (
         records: *const u8, length: usize, speed: u32, number: f64, history: *const f64, history_count: usize,
@@ -53,6 +58,9 @@ exported! {
 
     senyolanda_linear_interpolate senyolanda_discount_curve_factor senyolanda_zero_curve_rate: (
         times: *const f64, times_count: usize, rates: *const f64, rates_count: usize, t: f64, answer: &mut f64,
+    );
+    senyolanda_linear_interpolate_each senyolanda_discount_curve_factor_each senyolanda_zero_curve_rate_each: (
+        times: *const f64, times_count: usize, rates: *const f64, rates_count: usize, asked: *mut f64, asked_count: usize,
     );
     senyolanda_nelson_siegel_fit: (
         times: *const f64, times_count: usize, rates: *const f64, rates_count: usize, model: &mut [f64; 4],

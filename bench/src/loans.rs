@@ -6,6 +6,8 @@ use crate::published::mortgage::{AmortizationRow, MortgageCalculator, MortgageTe
 
 pub type Record = [u8; LOAN_BYTES];
 
+const MONTHS_OF_A_BOOK: usize = 360;
+
 pub fn record_of(principal: f64, rate: f64, months: u32) -> Record {
     let mut record = [0; LOAN_BYTES];
     unsafe { senyolanda_write_loan(principal, rate, months, &mut record) };
@@ -41,18 +43,32 @@ pub fn schedule(months: usize) -> Job {
     )
 }
 
+/// Draws loans, as many in a call as it takes, their records end to end; the places that their rows fill.
+fn drawn_together(records: &[Record], room: &mut [f64]) -> usize {
+    let mut answers = [0; MOST_BOOK_LOANS];
+    records.chunks(MOST_BOOK_LOANS).fold(0, |filled, loans| {
+        let (bytes, room) = (loans.concat(), &mut room[filled..]);
+        let (mut finished, mut cut, mut waiting) = (0, 0, 0);
+        let outcome = unsafe {
+            senyolanda_draw_book(
+                bytes.as_ptr(), bytes.len(), answers.as_mut_ptr(), answers.len(), room.as_mut_ptr(), room.len(),
+                &mut finished, &mut cut, &mut waiting,
+            )
+        };
+        let refused = answers[..loans.len()].iter().fold(outcome | Outcome::from(waiting), |all, &one| all | Outcome::from(one));
+        filled + unless_refused(refused, finished as usize * MONTHS_OF_A_BOOK * ROW_PLACES)
+    })
+}
+
 /// Schedules of 360 months, one after the other into one archive buffer.
-pub fn book(schedules: usize) -> Job {
-    let months = 360;
-    let rows = schedules * months;
+fn book_of(name: String, schedules: usize, drawn: fn(&[Record], &mut [f64]) -> usize) -> Job {
+    let rows = schedules * MONTHS_OF_A_BOOK;
     let (records, terms): (Vec<Record>, Vec<MortgageTerms>) =
-        (0..schedules).map(|i| loan(100_000.0 + 37.0 * i as f64, 0.02 + 5e-6 * i as f64, months as u32)).unzip();
+        (0..schedules).map(|i| loan(100_000.0 + 37.0 * i as f64, 0.02 + 5e-6 * i as f64, MONTHS_OF_A_BOOK as u32)).unzip();
     Job::new(
-        format!("book of {schedules} schedules of {months}"),
+        name,
         rows,
-        lent(rows * ROW_PLACES, move |room| {
-            records.iter().fold(0, |filled, record| filled + drawn(record, &mut room[filled..]))
-        }),
+        lent(rows * ROW_PLACES, move |room| drawn(&records, room)),
         filling(Vec::with_capacity(rows), move |archive: &mut Vec<AmortizationRow>| {
             archive.clear();
             for terms in unseen(&terms) {
@@ -60,6 +76,16 @@ pub fn book(schedules: usize) -> Job {
             }
         }),
     )
+}
+
+pub fn book(schedules: usize) -> Job {
+    book_of(format!("book of {schedules} schedules of 360"), schedules, drawn_together)
+}
+
+pub fn book_loan_by_loan(schedules: usize) -> Job {
+    book_of(format!("the same {schedules}, loan by loan"), schedules, |records, room| {
+        records.iter().fold(0, |filled, record| filled + drawn(record, &mut room[filled..]))
+    })
 }
 
 pub fn payment() -> Job {

@@ -17,6 +17,7 @@ mod spreads;
 mod swaps;
 mod table;
 
+use curves::Asked::{AsAList, OneByOne};
 use job::Job;
 
 pub fn fail(said: &str) -> ! {
@@ -31,6 +32,7 @@ fn jobs() -> Vec<Job> {
         loans::schedule(360).aims_at(2.0),
         loans::schedule(1200).aims_at(2.0),
         loans::book(10_000).aims_at(3.5),
+        loans::book_loan_by_loan(10_000),
         loans::payment(),
         pools::months(64, 360).aims_at(400.0),
         pools::price(64, 360).aims_at(400.0),
@@ -40,15 +42,24 @@ fn jobs() -> Vec<Job> {
         bonds::duration(20),
         swaps::bootstrap(30.0, 30).aims_at(6.0),
         swaps::bootstrap(30.0, 120).aims_at(6.0),
-        curves::yield_curve(10).aims_at(1.0),
-        curves::yield_curve(30).aims_at(1.0),
-        curves::yield_curve(120).aims_at(1.0),
-        curves::discount_curve(10).aims_at(1.0),
-        curves::discount_curve(30).aims_at(1.0),
-        curves::discount_curve(120).aims_at(1.0),
-        curves::zero_curve(10).aims_at(1.0),
-        curves::zero_curve(30).aims_at(1.0),
-        curves::zero_curve(120).aims_at(1.0),
+        curves::yield_curve(OneByOne, 10).aims_at(1.0),
+        curves::yield_curve(AsAList, 10).aims_at(1.0),
+        curves::yield_curve(OneByOne, 30).aims_at(1.0),
+        curves::yield_curve(AsAList, 30).aims_at(1.0),
+        curves::yield_curve(OneByOne, 120).aims_at(1.0),
+        curves::yield_curve(AsAList, 120).aims_at(1.0),
+        curves::discount_curve(OneByOne, 10).aims_at(1.0),
+        curves::discount_curve(AsAList, 10).aims_at(1.0),
+        curves::discount_curve(OneByOne, 30).aims_at(1.0),
+        curves::discount_curve(AsAList, 30).aims_at(1.0),
+        curves::discount_curve(OneByOne, 120).aims_at(1.0),
+        curves::discount_curve(AsAList, 120).aims_at(1.0),
+        curves::zero_curve(OneByOne, 10).aims_at(1.0),
+        curves::zero_curve(AsAList, 10).aims_at(1.0),
+        curves::zero_curve(OneByOne, 30).aims_at(1.0),
+        curves::zero_curve(AsAList, 30).aims_at(1.0),
+        curves::zero_curve(OneByOne, 120).aims_at(1.0),
+        curves::zero_curve(AsAList, 120).aims_at(1.0),
         spreads::spread(60).aims_at(2.0),
         spreads::pv(60),
         swaps::value(120, 30).aims_at(5.0),

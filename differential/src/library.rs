@@ -41,6 +41,7 @@ exported! {
     senyolanda_open_with_payment([record: u8], given: f64, term: Count, rate: Number, payment: Number, done: Count, balance: Number);
     senyolanda_draw(term: u32, rate: f64, payment: f64, done: Count, balance: Number, [mut room: f64], written: Count, owed: Count);
     senyolanda_next_row(term: u32, rate: f64, payment: f64, done: Count, balance: Number, record: &mut [u8; 37], written: Count, owed: Count);
+    senyolanda_draw_book([records: u8], [mut answers: u32], [mut room: f64], finished: Count, cut: Count, waiting: Count);
     senyolanda_total_interest([record: u8], interest: Number);
     senyolanda_remaining_balance([record: u8], months: u32, balance: Number);
     senyolanda_ltv([record: u8], value: f64, ratio: Number);
@@ -68,8 +69,10 @@ exported! {
     senyolanda_zero_coupon_bond_price(ytm: f64, maturity: f64, price: Number);
 
     senyolanda_linear_interpolate([times: f64], [rates: f64], t: f64, rate: Number);
+    senyolanda_linear_interpolate_each([times: f64], [rates: f64], [mut asked: f64]);
     senyolanda_cubic_spline_interpolate([times: f64], [rates: f64], t: f64, rate: Number);
     senyolanda_yield_curve_discount_factor([times: f64], [rates: f64], t: f64, factor: Number);
+    senyolanda_yield_curve_discount_factor_each([times: f64], [rates: f64], [mut asked: f64]);
     senyolanda_yield_curve_forward_rate([times: f64], [rates: f64], t1: f64, t2: f64, rate: Number);
     senyolanda_par_yield([times: f64], [rates: f64], t: f64, par: Number);
     senyolanda_nelson_siegel_fit([times: f64], [rates: f64], model: &mut [f64; 4]);
@@ -81,7 +84,9 @@ exported! {
     senyolanda_day_count_fraction(day_count: u32, days: u32, fraction: Number);
     senyolanda_bootstrap([tenors: f64], [par_rates: f64], zero_rates: &mut [f64; 120]);
     senyolanda_discount_curve_rate([tenors: f64], [zeros: f64], t: f64, rate: Number);
+    senyolanda_discount_curve_rate_each([tenors: f64], [zeros: f64], [mut asked: f64]);
     senyolanda_discount_curve_factor([tenors: f64], [zeros: f64], t: f64, factor: Number);
+    senyolanda_discount_curve_factor_each([tenors: f64], [zeros: f64], [mut asked: f64]);
     senyolanda_fixed_leg_pv([record: u8], [tenors: f64], [zeros: f64], pv: Number);
     senyolanda_floating_leg_pv([record: u8], [tenors: f64], [zeros: f64], pv: Number);
     senyolanda_swap_npv([record: u8], [tenors: f64], [zeros: f64], receive_fixed: u32, npv: Number);
@@ -91,8 +96,11 @@ exported! {
     senyolanda_value_swap([record: u8], [tenors: f64], [zeros: f64], receive_fixed: u32, valuation: &mut [f64; 6]);
 
     senyolanda_zero_curve_rate([tenors: f64], [rates: f64], t: f64, rate: Number);
+    senyolanda_zero_curve_rate_each([tenors: f64], [rates: f64], [mut asked: f64]);
     senyolanda_swap_curve_rate([tenors: f64], [rates: f64], tenor: f64, rate: Number);
+    senyolanda_swap_curve_rate_each([tenors: f64], [rates: f64], [mut asked: f64]);
     senyolanda_zero_curve_discount_factor([tenors: f64], [rates: f64], t: f64, factor: Number);
+    senyolanda_zero_curve_discount_factor_each([tenors: f64], [rates: f64], [mut asked: f64]);
     senyolanda_zero_curve_forward_rate([tenors: f64], [rates: f64], t1: f64, t2: f64, rate: Number);
     senyolanda_bond_cash_flows(face: f64, coupon: f64, tenor: f64, frequency: u32, [mut times: f64], [mut amounts: f64], flows: Count);
     senyolanda_pv_cash_flows([times: f64], [amounts: f64], [tenors: f64], [rates: f64], points: f64, pv: Number);

@@ -6,7 +6,7 @@ use crate::random::{around, Random, TURNS};
 use crate::{called, input};
 
 /// Numbers of a row.
-const WIDTH: usize = 5;
+pub const WIDTH: usize = 5;
 const LONGEST_TERM: u32 = 1200;
 /// Rows from an own payment are compared for terms up to here.
 const LONGEST_OWN: u32 = 480;

@@ -1,11 +1,13 @@
 // Compares the library with the Rust's published files, family by family: `compare [COUNT | --list FOLDER | --differences]`.
 // Each family prints a line, `FAMILY cases N refused R worst W allowed T`; the last line is `N passed, 0 failed`.
 mod bonds;
+mod books;
 mod curves;
 mod differences;
 mod elementary;
 mod harness;
 mod library;
+mod listed;
 mod loans;
 mod pools;
 mod published;
@@ -24,7 +26,17 @@ const QUICK: u64 = 10_000;
 const LISTED: usize = 32;
 
 fn families() -> Vec<Compared> {
-    let modules = [elementary::families, loans::families, pools::families, bonds::families, curves::families, swaps::families, spreads::families];
+    let modules = [
+        elementary::families,
+        loans::families,
+        books::families,
+        pools::families,
+        bonds::families,
+        curves::families,
+        swaps::families,
+        spreads::families,
+        listed::families,
+    ];
     modules.iter().flat_map(|families| families()).collect()
 }
 

@@ -68,6 +68,23 @@ const struct cause second_time_causes[] = {
     END_OF_CAUSES,
 };
 
+const struct cause asked_causes[] = {
+    NOT_FINITE_AT(0, 7, asked[0]),
+    NOT_FINITE_AT(1, 7, asked[1]),
+    NOT_FINITE_AT(2, 7, asked[2]),
+    CAUSE_AT(19, 7, WHOLE(asked_count, 20), NUMBER(asked[19], NAN)),
+    TAKEN(NUMBER(asked[3], NAN)),
+    TAKEN(NUMBER(asked[0], -1.0)),
+    TAKEN(NUMBER(asked[1], 0.5)),
+    TAKEN(NUMBER(asked[2], 2.5)),
+    FINITE_TAKEN(asked[0]),
+    FINITE_TAKEN(asked[2]),
+    TAKEN(WHOLE(asked_count, 0)),
+    TAKEN(WHOLE(asked_count, 1)),
+    TAKEN(WHOLE(asked_count, 20)),
+    END_OF_CAUSES,
+};
+
 void set_curve(size_t count, const double *times, const double *rates) {
     memcpy(desk.times, times, count * sizeof *times);
     memcpy(desk.rates, rates, count * sizeof *rates);
@@ -90,6 +107,12 @@ senyolanda_result number_between(curve_number_between *function) {
     struct lent_curve curve = lend_curve();
     double *answer = lend_number();
     return CALL(function(curve.times, curve.times_count, curve.rates, curve.rates_count, desk.t, desk.t2, answer));
+}
+
+senyolanda_result numbers_of_curve(curve_numbers *function) {
+    struct lent_curve curve = lend_curve();
+    double *asked = lend_numbers_in_hand(desk.asked, desk.asked_count);
+    return CALL(function(curve.times, curve.times_count, curve.rates, curve.rates_count, asked, desk.asked_count));
 }
 
 double at(call *called, double t) {
@@ -118,4 +141,22 @@ struct segments set_random_segments(void) {
     double times[] = { s.t0, s.t1, s.t2 }, rates[] = { s.rate0, s.rate1, s.rate2 };
     set_curve(3, times, rates);
     return s;
+}
+
+/* Inside the first segment, at a knot, before the first one, after the last one. */
+static double random_time(const struct segments *s) {
+    const double times[] = { s->inside, s->t0, s->t1, s->t2, s->t0 - random_part(), s->t2 + random_part(), -random_part(), 0 };
+    return times[random_below(sizeof times / sizeof *times)];
+}
+
+void as_one_by_one(call *listed, call *alone) {
+    for (size_t round = 0; round < 500; round++) {
+        struct segments s = set_random_segments();
+        double answers[ASKED];
+        desk.asked_count = round % (ASKED + 1);
+        for (size_t i = 0; i < desk.asked_count; i++) answers[i] = at(alone, desk.asked[i] = random_time(&s));
+        ACCEPTED(listed);
+        for (size_t i = 0; i < desk.asked_count; i++) IS(answered_numbers(0)[i], answers[i]);
+    }
+    tidy_desk();
 }

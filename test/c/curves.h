@@ -4,8 +4,8 @@
 
 #include "functions.h"
 
-/* 4, 5 and 6 of a curve; what only a bootstrap refuses of it; a time asked, and a second one. */
-extern const struct cause curve_causes[], open_curve_causes[], time_causes[], second_time_causes[];
+/* 4, 5 and 6 of a curve; what only a bootstrap refuses of it; a time asked, a second one, and a list of them. */
+extern const struct cause curve_causes[], open_curve_causes[], time_causes[], second_time_causes[], asked_causes[];
 
 void set_curve(size_t count, const double *times, const double *rates);
 
@@ -22,6 +22,14 @@ typedef senyolanda_result curve_number(const double *, size_t, const double *, s
 typedef senyolanda_result curve_number_between(const double *, size_t, const double *, size_t, double, double, double *);
 senyolanda_result number_of_curve(curve_number *function);
 senyolanda_result number_between(curve_number_between *function);
+
+/* A function that puts its answers in the place of a list of times, called on the desk's list. */
+typedef senyolanda_result curve_numbers(const double *, size_t, const double *, size_t, double *, size_t);
+senyolanda_result numbers_of_curve(curve_numbers *function);
+
+/* Lists of every length up to the desk's, at times in and around segments at random: each answer is what the other call gives at
+   its time alone. */
+void as_one_by_one(call *listed, call *alone);
 
 /* What the call gives at a time, or between two. */
 double at(call *called, double t);

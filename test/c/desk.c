@@ -20,6 +20,7 @@ static const struct desk at_rest = {
     .cost = 100,
     .months = 6,
     .loans_count = 3,
+    .answers_count = 3,
     .number = 0.06,
     .history = { 0.5, 0.25, 0.125, 0.0625 },
     .history_count = MONTHS,
@@ -32,6 +33,7 @@ static const struct desk at_rest = {
     .model = { 0.05, -0.02, 0.01, 0.5 },
     .times_count = 5,
     .rates_count = 5,
+    .asked_count = 3,
     .receive_fixed = 1,
     .days = 90,
     .points = 100,
@@ -53,6 +55,7 @@ static struct desk in_good_order(void) {
         order.times[i] = 0.5 * (double)(i + 1);
         order.rates[i] = 0.03 + 0.0001 * (double)i;
     }
+    for (size_t i = 0; i < ASKED; i++) order.asked[i] = 0.4 * (double)(i + 1);
     for (size_t i = 0; i < FLOWS; i++) {
         order.flow_times[i] = 0.25 * (double)(i + 1);
         order.flow_amounts[i] = 10 + (double)i;

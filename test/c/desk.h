@@ -8,7 +8,7 @@
 #include "harness.h"
 
 /* One more than the most that is taken, and one more again. */
-enum { LOANS = 66, KNOTS = 122, FLOWS = 1202, MONTHS = 4 };
+enum { LOANS = 258, KNOTS = 122, FLOWS = 1202, MONTHS = 4, ASKED = 20 };
 
 /* Records in their parts. The length is that of the bytes lent, whatever the kind; the bytes past the parts are 0. */
 struct loan_parts {
@@ -51,16 +51,16 @@ struct desk {
     /* what goes with a loan */
     double value, extra, cost;
     uint32_t months;
-    /* a pool: its loans, and how many bytes more than their records are lent */
+    /* a pool or a book: its loans, and how many bytes more than their records are lent; places for a book's answers */
     struct loan_parts loans[LOANS];
-    size_t loans_count, bytes_more;
+    size_t loans_count, bytes_more, answers_count;
     double number, history[MONTHS], discount;
     size_t history_count;
     /* what goes with a bond */
     double yield, market, delta;
-    /* a curve, and what is asked of it */
-    double times[KNOTS], rates[KNOTS], t, t2, model[4];
-    size_t times_count, rates_count;
+    /* a curve, and what is asked of it: one time, two, or a list */
+    double times[KNOTS], rates[KNOTS], t, t2, asked[ASKED], model[4];
+    size_t times_count, rates_count, asked_count;
     /* what goes with a swap */
     uint32_t receive_fixed, days;
     /* cash flows: as two lists, and as one list of twice as many numbers */

@@ -5,7 +5,7 @@
 #include <math.h>
 
 static const struct claim matrix[] = {
-    /*                                       1 2 3 4 5 6 7 8 9 10 11 12 13 */
+    /*                                      1 2 3 4 5 6 7 8 9 10 11 12 13 */
     CLAIM(bond_price,                      "1 . . . . . 7 . 9 .. 11 .. .."),
     CLAIM(bond_dv01,                       "1 . . . . . 7 . 9 .. 11 .. .."),
     CLAIM(bond_current_yield,              "1 . . . . . 7 . 9 .. 11 .. .."),

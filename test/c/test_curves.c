@@ -5,10 +5,12 @@
 #include <math.h>
 
 static const struct claim matrix[] = {
-    /*                                           1 2 3 4 5 6 7 8 9 10 11 12 13 */
+    /*                                          1 2 3 4 5 6 7 8 9 10 11 12 13 */
     CLAIM(linear_interpolate,                  ". . . 4 5 6 7 . . .. .. .. .."),
+    CLAIM(linear_interpolate_each,             ". . . 4 5 6 7 . . .. .. .. .."),
     CLAIM(cubic_spline_interpolate,            ". . . 4 5 6 7 . . .. .. .. .."),
     CLAIM(yield_curve_discount_factor,         ". . . 4 5 6 7 . . .. .. .. .."),
+    CLAIM(yield_curve_discount_factor_each,    ". . . 4 5 6 7 . . .. .. .. .."),
     CLAIM(yield_curve_forward_rate,            ". . . 4 5 6 7 . . .. .. .. .."),
     CLAIM(par_yield,                           ". . . 4 5 6 7 . . .. .. .. .."),
     CLAIM(nelson_siegel_fit,                   ". . . 4 5 6 . . . .. .. .. .."),
@@ -59,6 +61,14 @@ static senyolanda_result call_nelson_siegel_metrics(void) {
     return CALL(senyolanda_nelson_siegel_metrics(model.numbers, metrics));
 }
 
+static senyolanda_result call_linear_interpolate_each(void) {
+    return numbers_of_curve(senyolanda_linear_interpolate_each);
+}
+
+static senyolanda_result call_yield_curve_discount_factor_each(void) {
+    return numbers_of_curve(senyolanda_yield_curve_discount_factor_each);
+}
+
 /* ---- causes ---- */
 
 /* A par yield is asked over half years, of which there may be 1,200. */
@@ -85,8 +95,10 @@ static const struct cause model_causes[] = {
 
 static const struct function functions[] = {
     { FUNCTION(linear_interpolate), { curve_causes, open_curve_causes, time_causes }, NULL },
+    { FUNCTION(linear_interpolate_each), { curve_causes, open_curve_causes, asked_causes }, NULL },
     { FUNCTION(cubic_spline_interpolate), { curve_causes, open_curve_causes, time_causes }, NULL },
     { FUNCTION(yield_curve_discount_factor), { curve_causes, open_curve_causes, time_causes }, NULL },
+    { FUNCTION(yield_curve_discount_factor_each), { curve_causes, open_curve_causes, asked_causes }, NULL },
     { FUNCTION(yield_curve_forward_rate), { curve_causes, open_curve_causes, time_causes, second_time_causes }, NULL },
     { FUNCTION(par_yield), { curve_causes, open_curve_causes, par_yield_causes }, NULL },
     { FUNCTION(nelson_siegel_fit), { curve_causes, open_curve_causes }, NULL },
@@ -192,5 +204,7 @@ int main(int arguments, char **words) {
     par_yields();
     models();
     fits();
+    as_one_by_one(call_linear_interpolate_each, call_linear_interpolate);
+    as_one_by_one(call_yield_curve_discount_factor_each, call_yield_curve_discount_factor);
     return close_checks();
 }

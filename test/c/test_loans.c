@@ -7,7 +7,7 @@
 #include <string.h>
 
 static const struct claim matrix[] = {
-    /*                           1 2 3 4 5 6 7 8 9 10 11 12 13 */
+    /*                          1 2 3 4 5 6 7 8 9 10 11 12 13 */
     CLAIM(monthly_payment,     "1 2 . . . . . . . .. 11 .. .."),
     CLAIM(open,                "1 2 . . . . . . . .. 11 .. .."),
     CLAIM(open_with_payment,   "1 2 . . . . . . . .. 11 .. .."),

@@ -6,7 +6,7 @@
 #include <string.h>
 
 static const struct claim matrix[] = {
-    /*                  1 2 3 4 5 6 7 8 9 10 11 12 13 */
+    /*                 1 2 3 4 5 6 7 8 9 10 11 12 13 */
     CLAIM(read_loan,  ". . . . . . . . . .. 11 .. .."),
     CLAIM(write_loan, ". . . . . . . . . .. .. .. .."),
     CLAIM(read_bond,  ". . . . . . . . . .. 11 .. .."),

@@ -6,19 +6,22 @@
 #include <string.h>
 
 static const struct claim matrix[] = {
-    /*                                  1 2 3 4 5 6 7 8 9 10 11 12 13 */
-    CLAIM(zero_curve_rate,            ". . . 4 5 6 7 . . .. .. .. .."),
-    CLAIM(swap_curve_rate,            ". . . 4 5 6 7 . . .. .. .. .."),
-    CLAIM(zero_curve_discount_factor, ". . . 4 5 6 7 . . .. .. .. .."),
-    CLAIM(zero_curve_forward_rate,    ". . . 4 5 6 7 . . .. .. .. .."),
-    CLAIM(bond_cash_flows,            "1 . 3 . . . 7 . 9 .. .. .. .."),
-    CLAIM(pv_cash_flows,              ". . . 4 5 6 7 . 9 .. .. .. .."),
-    CLAIM(z_spread,                   ". . . 4 5 6 7 . 9 .. .. .. .."),
-    CLAIM(duration_convexity,         ". . . 4 5 6 7 . 9 .. .. .. .."),
-    CLAIM(dated_pv,                   ". . . 4 5 6 7 . 9 .. .. .. .."),
-    CLAIM(dated_z_spread,             ". . . 4 5 6 7 . 9 .. .. .. .."),
-    CLAIM(dated_duration_convexity,   ". . . 4 5 6 7 . 9 .. .. .. .."),
-    CLAIM(points_to_decimal,          ". . . . . . . . . .. .. .. .."),
+    /*                                      1 2 3 4 5 6 7 8 9 10 11 12 13 */
+    CLAIM(zero_curve_rate,                 ". . . 4 5 6 7 . . .. .. .. .."),
+    CLAIM(zero_curve_rate_each,            ". . . 4 5 6 7 . . .. .. .. .."),
+    CLAIM(swap_curve_rate,                 ". . . 4 5 6 7 . . .. .. .. .."),
+    CLAIM(swap_curve_rate_each,            ". . . 4 5 6 7 . . .. .. .. .."),
+    CLAIM(zero_curve_discount_factor,      ". . . 4 5 6 7 . . .. .. .. .."),
+    CLAIM(zero_curve_discount_factor_each, ". . . 4 5 6 7 . . .. .. .. .."),
+    CLAIM(zero_curve_forward_rate,         ". . . 4 5 6 7 . . .. .. .. .."),
+    CLAIM(bond_cash_flows,                 "1 . 3 . . . 7 . 9 .. .. .. .."),
+    CLAIM(pv_cash_flows,                   ". . . 4 5 6 7 . 9 .. .. .. .."),
+    CLAIM(z_spread,                        ". . . 4 5 6 7 . 9 .. .. .. .."),
+    CLAIM(duration_convexity,              ". . . 4 5 6 7 . 9 .. .. .. .."),
+    CLAIM(dated_pv,                        ". . . 4 5 6 7 . 9 .. .. .. .."),
+    CLAIM(dated_z_spread,                  ". . . 4 5 6 7 . 9 .. .. .. .."),
+    CLAIM(dated_duration_convexity,        ". . . 4 5 6 7 . 9 .. .. .. .."),
+    CLAIM(points_to_decimal,               ". . . . . . . . . .. .. .. .."),
     END_OF_MATRIX,
 };
 
@@ -110,6 +113,18 @@ static senyolanda_result call_dated_duration_convexity(void) {
 static senyolanda_result call_points_to_decimal(void) {
     double *rate = lend_number();
     return CALL(senyolanda_points_to_decimal(desk.points, rate));
+}
+
+static senyolanda_result call_zero_curve_rate_each(void) {
+    return numbers_of_curve(senyolanda_zero_curve_rate_each);
+}
+
+static senyolanda_result call_swap_curve_rate_each(void) {
+    return numbers_of_curve(senyolanda_swap_curve_rate_each);
+}
+
+static senyolanda_result call_zero_curve_discount_factor_each(void) {
+    return numbers_of_curve(senyolanda_zero_curve_discount_factor_each);
 }
 
 /* ---- causes: at rest four flows, of the bond (two years, twice a year) and as they are lent ---- */
@@ -206,8 +221,11 @@ static const struct cause market_causes[] = {
 
 static const struct function functions[] = {
     { FUNCTION(zero_curve_rate), { curve_causes, open_curve_causes, time_causes }, NULL },
+    { FUNCTION(zero_curve_rate_each), { curve_causes, open_curve_causes, asked_causes }, NULL },
     { FUNCTION(swap_curve_rate), { curve_causes, open_curve_causes, time_causes }, NULL },
+    { FUNCTION(swap_curve_rate_each), { curve_causes, open_curve_causes, asked_causes }, NULL },
     { FUNCTION(zero_curve_discount_factor), { curve_causes, open_curve_causes, time_causes }, NULL },
+    { FUNCTION(zero_curve_discount_factor_each), { curve_causes, open_curve_causes, asked_causes }, NULL },
     { FUNCTION(zero_curve_forward_rate), { curve_causes, open_curve_causes, time_causes, second_time_causes }, NULL },
     { FUNCTION(bond_cash_flows), { bond_causes }, NULL },
     { FUNCTION(pv_cash_flows), { flow_causes, curve_causes, open_curve_causes, points_causes }, NULL },
@@ -390,5 +408,8 @@ int main(int arguments, char **words) {
     spreads();
     dated_amounts();
     dated_seconds();
+    as_one_by_one(call_zero_curve_rate_each, call_zero_curve_rate);
+    as_one_by_one(call_swap_curve_rate_each, call_swap_curve_rate);
+    as_one_by_one(call_zero_curve_discount_factor_each, call_zero_curve_discount_factor);
     return close_checks();
 }

@@ -6,18 +6,20 @@
 #include <math.h>
 
 static const struct claim matrix[] = {
-    /*                             1 2 3 4 5 6 7 8 9 10 11 12 13 */
-    CLAIM(day_count_fraction,    ". . . . . . . . . .. 11 .. .."),
-    CLAIM(bootstrap,             ". . . 4 5 6 . . . .. .. .. .."),
-    CLAIM(discount_curve_rate,   ". . . 4 5 6 7 . . .. .. .. .."),
-    CLAIM(discount_curve_factor, ". . . 4 5 6 7 . . .. .. .. .."),
-    CLAIM(fixed_leg_pv,          "1 . . 4 5 6 7 8 9 .. 11 .. .."),
-    CLAIM(floating_leg_pv,       "1 . . 4 5 6 7 8 9 .. 11 .. .."),
-    CLAIM(swap_npv,              "1 . . 4 5 6 7 8 9 .. 11 .. .."),
-    CLAIM(par_swap_rate,         "1 . . 4 5 6 7 8 9 .. 11 .. .."),
-    CLAIM(swap_dv01,             "1 . . 4 5 6 7 8 9 .. 11 .. .."),
-    CLAIM(swap_duration,         "1 . . 4 5 6 7 8 9 .. 11 .. .."),
-    CLAIM(value_swap,            "1 . . 4 5 6 7 8 9 .. 11 .. .."),
+    /*                                 1 2 3 4 5 6 7 8 9 10 11 12 13 */
+    CLAIM(day_count_fraction,         ". . . . . . . . . .. 11 .. .."),
+    CLAIM(bootstrap,                  ". . . 4 5 6 . . . .. .. .. .."),
+    CLAIM(discount_curve_rate,        ". . . 4 5 6 7 . . .. .. .. .."),
+    CLAIM(discount_curve_rate_each,   ". . . 4 5 6 7 . . .. .. .. .."),
+    CLAIM(discount_curve_factor,      ". . . 4 5 6 7 . . .. .. .. .."),
+    CLAIM(discount_curve_factor_each, ". . . 4 5 6 7 . . .. .. .. .."),
+    CLAIM(fixed_leg_pv,               "1 . . 4 5 6 7 8 9 .. 11 .. .."),
+    CLAIM(floating_leg_pv,            "1 . . 4 5 6 7 8 9 .. 11 .. .."),
+    CLAIM(swap_npv,                   "1 . . 4 5 6 7 8 9 .. 11 .. .."),
+    CLAIM(par_swap_rate,              "1 . . 4 5 6 7 8 9 .. 11 .. .."),
+    CLAIM(swap_dv01,                  "1 . . 4 5 6 7 8 9 .. 11 .. .."),
+    CLAIM(swap_duration,              "1 . . 4 5 6 7 8 9 .. 11 .. .."),
+    CLAIM(value_swap,                 "1 . . 4 5 6 7 8 9 .. 11 .. .."),
     END_OF_MATRIX,
 };
 
@@ -67,6 +69,14 @@ static senyolanda_result numbers_of_side(side_number *function, size_t count) {
 static senyolanda_result call_swap_npv(void) { return numbers_of_side(senyolanda_swap_npv, 1); }
 static senyolanda_result call_swap_dv01(void) { return numbers_of_side(senyolanda_swap_dv01, 1); }
 static senyolanda_result call_value_swap(void) { return numbers_of_side(senyolanda_value_swap, 6); }
+
+static senyolanda_result call_discount_curve_rate_each(void) {
+    return numbers_of_curve(senyolanda_discount_curve_rate_each);
+}
+
+static senyolanda_result call_discount_curve_factor_each(void) {
+    return numbers_of_curve(senyolanda_discount_curve_factor_each);
+}
 
 /* ---- causes: at rest two years, twice a year ---- */
 
@@ -146,7 +156,9 @@ static const struct function functions[] = {
     { FUNCTION(day_count_fraction), { day_count_causes }, NULL },
     { FUNCTION(bootstrap), { curve_causes, bootstrap_causes }, NULL },
     { FUNCTION(discount_curve_rate), { curve_causes, open_curve_causes, time_causes }, NULL },
+    { FUNCTION(discount_curve_rate_each), { curve_causes, open_curve_causes, asked_causes }, NULL },
     { FUNCTION(discount_curve_factor), { curve_causes, open_curve_causes, time_causes }, NULL },
+    { FUNCTION(discount_curve_factor_each), { curve_causes, open_curve_causes, asked_causes }, NULL },
     { FUNCTION(fixed_leg_pv), OF_SWAP },
     { FUNCTION(floating_leg_pv), OF_SWAP },
     { FUNCTION(swap_npv), OF_SWAP },
@@ -306,5 +318,7 @@ int main(int arguments, char **words) {
     valuations();
     tidy_desk();
     try_records(functions, damaged_record, 500000);
+    as_one_by_one(call_discount_curve_rate_each, call_discount_curve_rate);
+    as_one_by_one(call_discount_curve_factor_each, call_discount_curve_factor);
     return close_checks();
 }
