@@ -1,8 +1,10 @@
 pub mod Choices
 pub mod Adding
+pub mod Comparing
 pub mod Serving
 pub mod Flat
 pub mod KnotLine
+pub mod InOrder
 pub mod CurveLines
 pub mod Forwards
 pub mod Pars

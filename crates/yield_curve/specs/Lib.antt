@@ -1,5 +1,6 @@
 pub mod Segments
 pub mod Curve
+pub mod Lists
 pub mod Linear
 pub mod Spline
 pub mod NelsonSiegel
