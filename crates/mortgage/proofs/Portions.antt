@@ -10,7 +10,7 @@ use lib.Seq.{sets, sets-eq, take-append-seam, drop-append-add, drop-drop, take-a
 use Rattle.mortgage.specs.Steps.{stepped, written, laid}
 
 -- stores behind a list that stands at the front of a room
-behind : {A : Type 0} (p vs o : List A) → length p + length vs ≤ length o
+pub behind : {A : Type 0} (p vs o : List A) → length p + length vs ≤ length o
     → sets (p ++ drop (length p) o) (length p) vs ≡ (p ++ vs) ++ drop (length p + length vs) o
 behind p vs o h =
     let b : length p + length vs ≤ length (p ++ drop (length p) o) = simp (length-append, length-drop) (omega arith) in
