@@ -5,7 +5,6 @@ mod bonds;
 mod books;
 mod curves;
 mod dated;
-mod lists;
 mod loans;
 mod models;
 mod plain;

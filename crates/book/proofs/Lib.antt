@@ -1,0 +1,5 @@
+pub mod Asking
+pub mod Planning
+pub mod Taking
+pub mod Answering
+pub mod Drawing
