@@ -5,6 +5,7 @@ mod bonds;
 mod books;
 mod curves;
 mod dated;
+mod lists;
 mod loans;
 mod models;
 mod plain;
