@@ -28,11 +28,9 @@ use Rattle.book.specs.Book.{recordAt, loanAt, answer, asked, firstRows}
 
 -- ---- by its terms
 module _ (t : Terms) (x : Verdict) (e : verdictOutcome x ≡ judged (termsLines t) tt) where
-  pub refused-terms : (r : Refusal) → x ≡ verdict-is.Refused r → (r .number ≡ answer (opened t)) × (0 ≡ asked (opened t))
+  pub refused-terms : (r : Refusal) → x ≡ verdict-is.Refused r → refused (r .number) (r .place) ≡ opened t
   unfolding opened openedWith
-  refused-terms r h =
-      let same : refused (r .number) (r .place) ≡ opened t = refused-by (termsLines t) (loanOf t (payment t)) x r h e in
-      (ap answer same, ap asked same)
+  refused-terms r h = refused-by (termsLines t) (loanOf t (payment t)) x r h e
 
   pub accepted-terms : x ≡ verdict-is.Accepted → (0 ≡ answer (opened t)) × (t .term ≡ asked (opened t))
   unfolding opened openedWith loanOf due endMonth
