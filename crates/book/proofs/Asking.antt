@@ -13,13 +13,11 @@ use Rattle.refusals.proofs.Verdicts.{refused-by, accepted-by, accepted-value}
 use Rattle.records.specs.declared.Terms.{Terms}
 use Rattle.records.specs.declared.TermsRead.{TermsRead}
 use Rattle.records.specs.declared.TermsRead.the-variants as terms-is
-use Rattle.records.specs.Kinds.{termsSize, readTerms, termsOutcome}
+use Rattle.records.specs.Kinds.{readTerms, termsOutcome}
 use Rattle.mortgage.specs.declared.Loan.{Loan}
-use Rattle.mortgage.specs.declared.opening.Opening.{Opening}
-use Rattle.mortgage.specs.declared.opening.Opening.the-variants as opening-is
 use Rattle.mortgage.specs.Row.{width}
 use Rattle.mortgage.specs.Terms.{termsLines}
-use Rattle.mortgage.specs.Payment.{payment, loanOf, openedWith, opened, openingOutcome}
+use Rattle.mortgage.specs.Payment.{payment, loanOf, openedWith, opened}
 use Rattle.mortgage.specs.RowRule.{endMonth, due}
 use Rattle.mortgage.specs.Rows.{rows}
 use Rattle.mortgage.specs.Steps.{written}

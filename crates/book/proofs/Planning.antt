@@ -1,6 +1,6 @@
 -- How far a book's work goes, loan by loan: what is known of the loans passed, where it stops, and where all are passed. Assumes nothing.
 use mathlib.Core.Path.{_≡_, refl, sym, ap, _∙_}
-use mathlib.Core.Bool.{Bool, true, false, cond}
+use mathlib.Core.Bool.{true, false, cond}
 use mathlib.Core.List.{List}
 use Prim.Native.Nat.{ℕ, zero, suc, _+_, _-_, _/_, _<_, _≤_, zero-le}
 use native.Mathlib.Numerals.{add-one}
