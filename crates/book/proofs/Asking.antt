@@ -13,13 +13,11 @@ use Rattle.refusals.proofs.Verdicts.{refused-by, accepted-by, accepted-value}
 use Rattle.records.specs.declared.Terms.{Terms}
 use Rattle.records.specs.declared.TermsRead.{TermsRead}
 use Rattle.records.specs.declared.TermsRead.the-variants as terms-is
-use Rattle.records.specs.Kinds.{termsSize, readTerms, termsOutcome}
+use Rattle.records.specs.Kinds.{readTerms, termsOutcome}
 use Rattle.mortgage.specs.declared.Loan.{Loan}
-use Rattle.mortgage.specs.declared.opening.Opening.{Opening}
-use Rattle.mortgage.specs.declared.opening.Opening.the-variants as opening-is
 use Rattle.mortgage.specs.Row.{width}
 use Rattle.mortgage.specs.Terms.{termsLines}
-use Rattle.mortgage.specs.Payment.{payment, loanOf, openedWith, opened, openingOutcome}
+use Rattle.mortgage.specs.Payment.{payment, loanOf, openedWith, opened}
 use Rattle.mortgage.specs.RowRule.{endMonth, due}
 use Rattle.mortgage.specs.Rows.{rows}
 use Rattle.mortgage.specs.Steps.{written}
@@ -28,11 +26,9 @@ use Rattle.book.specs.Book.{recordAt, loanAt, answer, asked, firstRows}
 
 -- ---- by its terms
 module _ (t : Terms) (x : Verdict) (e : verdictOutcome x ≡ judged (termsLines t) tt) where
-  pub refused-terms : (r : Refusal) → x ≡ verdict-is.Refused r → (r .number ≡ answer (opened t)) × (0 ≡ asked (opened t))
+  pub refused-terms : (r : Refusal) → x ≡ verdict-is.Refused r → refused (r .number) (r .place) ≡ opened t
   unfolding opened openedWith
-  refused-terms r h =
-      let same : refused (r .number) (r .place) ≡ opened t = refused-by (termsLines t) (loanOf t (payment t)) x r h e in
-      (ap answer same, ap asked same)
+  refused-terms r h = refused-by (termsLines t) (loanOf t (payment t)) x r h e
 
   pub accepted-terms : x ≡ verdict-is.Accepted → (0 ≡ answer (opened t)) × (t .term ≡ asked (opened t))
   unfolding opened openedWith loanOf due endMonth

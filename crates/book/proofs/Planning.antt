@@ -2,13 +2,13 @@
 use mathlib.Core.Path.{_≡_, refl, sym, ap, _∙_}
 use mathlib.Core.Bool.{Bool, true, false, cond}
 use mathlib.Core.List.{List}
-use Prim.Native.Nat.{ℕ, zero, suc, _+_, _-_, _/_, _<_, _≤_, zero-le}
+use Prim.Native.Nat.{ℕ, zero, suc, _+_, _-_, _/_, _<_, _≤_, zero-le, min}
 use native.Mathlib.Numerals.{add-one}
 use native.Mathlib.Omega.{arith}
 use lib.Dec.{ltb}
-use borrow.Author.Tests.{lt-ltb, le-ltb}
+use borrow.Author.Tests.{lt-ltb, le-ltb, ltb-true}
 use Rattle.mortgage.specs.Row.{width}
-use Rattle.book.specs.Book.{loanCount, loanAt, asked, askedBy, finishing, held, finished, cutShort}
+use Rattle.book.specs.Book.{loanCount, loanAt, asked, askedBy, finishing, held, finished, cutShort, answered, progress}
 
 -- the rows that the first loans ask for are among those of more loans
 pub asked-within : (bytes : List ℕ) (i k : ℕ) → askedBy bytes i ≤ askedBy bytes (k + i)
@@ -76,3 +76,27 @@ module _ (bytes : List ℕ) (room : ℕ) where
       let k : i ≡ n = omega (arith, p .0) in
       let d : n ≡ finished bytes room = omega (arith, p .0, p .3, g) in
       ((d, rw k at (p .1), rw (sym d, le-ltb n (loanCount bytes) (omega arith))), ((omega arith, omega (arith, p .2), zero-le), (λ z. absurd (omega arith))))
+
+-- ---- every loan is finished, cut short or not started
+finishing-within : (bytes : List ℕ) (left i k : ℕ) → finishing bytes left i k ≤ k
+unfolding finishing
+finishing-within bytes left i zero = omega arith
+finishing-within bytes left i (suc k) =
+    go (ltb left (asked (loanAt bytes i))) (finishing bytes (left - asked (loanAt bytes i)) (suc i) k) (finishing-within bytes (left - asked (loanAt bytes i)) (suc i) k)
+  where
+    go : (t : Bool) (n : ℕ) → n ≤ k → cond t 0 (suc n) ≤ suc k
+    go true n h = omega arith
+    go false n h = omega arith
+
+finished-within : (bytes : List ℕ) (room : ℕ) → finished bytes room ≤ loanCount bytes
+unfolding finished
+finished-within bytes room = finishing-within bytes (held room) 0 (loanCount bytes)
+
+pub all-told : (bytes : List ℕ) (room : ℕ) → progress bytes room .finished + min (progress bytes room .cut) 1 + progress bytes room .waiting ≡ loanCount bytes
+unfolding progress answered cutShort
+all-told bytes room =
+    go (finished bytes room) (held room - askedBy bytes (finished bytes room)) (loanCount bytes) (ltb (finished bytes room) (loanCount bytes)) (ltb-true _ _) (finished-within bytes room)
+  where
+    go : (f c n : ℕ) (t : Bool) → (t ≡ true → f < n) → f ≤ n → f + min (cond t c 0) 1 + (n - (f + min (cond t c 0) 1)) ≡ n
+    go f c n true h w = let g : f < n = h refl in omega arith
+    go f c n false h w = omega arith

@@ -9,7 +9,6 @@ use lib.Ieee.{Float}
 use Rattle.refusals.specs.Outcome.{Outcome, refused, accepted, andThen, Line, line, judged}
 use Rattle.records.specs.Kinds.{termsSize, readTerms}
 use Rattle.mortgage.specs.declared.Loan.{Loan}
-use Rattle.book.specs.declared.BookProgress.{BookProgress}
 use Rattle.book.specs.declared.BookDrawing.{BookDrawing}
 use Rattle.book.specs.declared.BookDrawing.the-variants as drawing-is
 use Rattle.mortgage.specs.Payment.{opened}

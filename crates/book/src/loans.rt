@@ -8,6 +8,7 @@ use mortgage::opening::Opening;
 use records::Terms;
 use records::TermsRead;
 use records::terms_record::TERMS_SIZE;
+use refusals::Refusal;
 use refusals::Verdict;
 
 // A loan's answer, and the rows that it asks for.
@@ -33,15 +34,22 @@ fn read_at(records: &[u8], i: usize) -> TermsRead
     records::terms_record::read_terms(&records[at..end])
 }
 
+// A refused loan answers the refusal's number and asks for nothing.
+fn refused_loan(refusal: Refusal) -> Asking
+    ensures { λ r. ⌜ (r .answer ≡ refusal .number) × (r .rows ≡ 0) ⌝ }
+{
+    Asking {
+        answer: refusal.number,
+        rows: 0,
+    }
+}
+
 // What a loan of these terms answers and asks for: no payment is worked out.
 fn asking_of(terms: Terms) -> Asking
     ensures { λ r. ⌜ (r .answer ≡ answer (opened terms)) × (r .rows ≡ asked (opened terms)) ⌝ }
 {
     match mortgage::terms::judge_terms(terms) {
-        Verdict::Refused(refusal) => Asking {
-            answer: refusal.number,
-            rows: 0,
-        },
+        Verdict::Refused(refusal) => refused_loan(refusal),
         Verdict::Accepted => Asking {
             answer: 0,
             rows: terms.term,
@@ -55,10 +63,7 @@ pub(crate) fn asking_at(records: &[u8], i: usize) -> Asking
     ensures { λ r. ⌜ (r .answer ≡ answer (loanAt (now (records .entry)) i)) × (r .rows ≡ asked (loanAt (now (records .entry)) i)) ⌝ }
 {
     match read_at(records, i) {
-        TermsRead::Refused(refusal) => Asking {
-            answer: refusal.number,
-            rows: 0,
-        },
+        TermsRead::Refused(refusal) => refused_loan(refusal),
         TermsRead::Given(terms) => asking_of(terms),
     }
 }

@@ -2,7 +2,6 @@
 use mathlib.Core.Path.{_≡_, refl, sym, ap, _∙_}
 use mathlib.Core.List.{List, _++_}
 use Prim.Native.Nat.{ℕ, _+_, _-_, _*_, _<_, _≤_, zero-le}
-use native.Mathlib.Nat.{add-zero}
 use native.Mathlib.Numerals.{add-one}
 use native.Mathlib.Omega.{arith}
 use lib.ListN.{length, take, drop}
@@ -17,7 +16,7 @@ use Rattle.mortgage.specs.Rows.{after, rows}
 use Rattle.mortgage.proofs.Portions.{stepped-sum, written-sum, stepped-next, length-written}
 use Rattle.mortgage.proofs.RowLaws.{done-after, end-after}
 use Rattle.mortgage.proofs.DrawCases.{rowPlaces, wide}
-use Rattle.mortgage.proofs.Apart.{sets-append, behind-both, laid-from}
+use Rattle.mortgage.proofs.Apart.{behind-both, laid-from}
 
 long : (k : ℕ) (l : Loan) → length (rows k l) ≡ k * width
 long = length-written nextOf rowPlaces width wide

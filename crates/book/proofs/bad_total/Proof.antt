@@ -1,5 +1,4 @@
 -- `book::bad_total` meets its contract: the total length first, then the count. Assumes nothing.
-use mathlib.Core.Path.{_∙_}
 use borrow.Author.Needs.{needs}
 use Rattle.book.proofs.Drawing.{odd-length, by-count}
 use Rattle.book.proofs.bad_total.Statement.{statement}

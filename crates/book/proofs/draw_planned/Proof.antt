@@ -1,10 +1,8 @@
 -- `book::draw_planned` meets its contract: the answers, the loans that are finished, and the one cut short behind them. Assumes nothing.
-use mathlib.Core.Path.{_≡_, refl, _∙_}
-use Prim.Native.Nat.{_≤_}
+use mathlib.Core.Path.{refl}
 use native.Mathlib.Omega.{arith}
 use denote.Ref.{now}
 use borrow.Author.Needs.{needs}
-use Rattle.book.specs.Book.{loanCount}
 use Rattle.book.proofs.Drawing.{answered-within, waiting-is, answers-are, room-is}
 use Rattle.book.proofs.draw_planned.Statement.{statement}
 use Rattle.book.proofs.draw_planned.Tie as tie

@@ -1,11 +1,7 @@
 -- `book::answers::put_answers` meets its contract: after i turns the first i answers stand. Assumes nothing.
-use mathlib.Core.Path.{_≡_, refl, _∙_}
-use mathlib.Core.List.{_++_}
-use Prim.Native.Nat.{_-_, _≤_}
+use Prim.Native.Nat.{_-_}
 use native.Mathlib.Omega.{arith}
-use lib.ListN.{length, drop, length-set}
 use borrow.Author.Needs.{needs}
-use Rattle.book.specs.Book.{answersUpTo}
 use Rattle.book.proofs.Answering.{Underway, begun, a-turn, all-answered}
 use Rattle.book.proofs.answers.put_answers.Statement.{statement}
 use Rattle.book.proofs.answers.put_answers.Tie as tie

@@ -1,5 +1,5 @@
 -- `book::hands::lay_first` meets its contract: a refused loan has no rows, and any other's are laid. Assumes nothing.
-use mathlib.Core.Path.{refl, sym, ap, _∙_}
+use mathlib.Core.Path.{sym, ap, _∙_}
 use native.Mathlib.Omega.{arith}
 use denote.Ref.{now}
 use borrow.Author.Needs.{needs}

@@ -1,10 +1,9 @@
 -- `book::hands::lay_loans` meets its contract: after i turns the room, once the loan in hand is drawn to its end, holds the first i loans whole. Assumes nothing.
-use mathlib.Core.Path.{_≡_, sym, ap, _∙_}
+use mathlib.Core.Path.{_∙_}
 use Prim.Native.Nat.{_-_}
 use native.Mathlib.Omega.{arith}
 use denote.Ref.{now}
 use borrow.Author.Needs.{needs}
-use Rattle.mortgage.specs.RowRule.{endMonth, due}
 use Rattle.book.proofs.Taking.{Underway, begun, may-take-next, a-turn, may-finish, finishes}
 use Rattle.book.proofs.hands.lay_loans.Statement.{statement}
 use Rattle.book.proofs.hands.lay_loans.Tie as tie

@@ -1,5 +1,4 @@
 -- `book::hands::take_in` meets its contract: whichever loan stays in hand, its end is the end of both. Assumes nothing.
-use native.Mathlib.Omega.{arith}
 use denote.Ref.{now}
 use borrow.Author.Needs.{needs}
 use Rattle.book.proofs.Taking.{stays, follows, both-fit, fewer-fit}

@@ -1,11 +1,9 @@
 -- `book::hands::take_next` meets its contract: a refused loan leaves the hand as it is, and any other is taken in. Assumes nothing.
-use mathlib.Core.Path.{_≡_, refl, sym, ap, _∙_}
+use mathlib.Core.Path.{refl, sym, ap, _∙_}
 use denote.Ref.{now}
 use borrow.Author.Needs.{needs}
 use Rattle.mortgage.specs.Payment.{openingOutcome}
-use Rattle.refusals.specs.Outcome.{accepted}
 use Rattle.book.specs.Book.{loanAt}
-use Rattle.book.proofs.Asking.{begins}
 use Rattle.book.proofs.Taking.{passed-over, taken-next, may-take}
 use Rattle.book.proofs.hands.take_next.Statement.{statement}
 use Rattle.book.proofs.hands.take_next.Tie as tie

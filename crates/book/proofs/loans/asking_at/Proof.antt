@@ -1,5 +1,4 @@
 -- `book::loans::asking_at` meets its contract: a record that is refused asks for nothing, and any other what its terms ask for. Assumes nothing.
-use mathlib.Core.Path.{refl}
 use borrow.Author.Needs.{needs}
 use Rattle.refusals.specs.Outcome.{refused}
 use Rattle.book.proofs.Asking.{refused-record, given-record, both-of}
@@ -18,10 +17,13 @@ enum-known-terms c = search needs
 asking-of-requires : tie.Need-asking-of-requires
 asking-of-requires c κs = search needs
 
+refused-loan-requires : tie.Need-refused-loan-requires
+refused-loan-requires c κs = search needs
+
 returns : tie.Need-returns
 returns c =
-    let read = c .before .before .before in
-    both-of _ _ (refused _ _) _ (refl, refl) (refused-record _ _ _ (read .read-at .ensures) _ (c .before .refusal .given .1))
+    let read = c .before .before .before .before in
+    both-of _ _ (refused _ _) _ (c .refused-loan .ensures) (refused-record _ _ _ (read .read-at .ensures) _ (c .before .before .refusal .given .1))
 
 returns-2 : tie.Need-returns-2
 returns-2 c =
@@ -34,6 +36,7 @@ asking-at-spec =
     (tie.spec
     read-at-requires
     enum-known-refusal
+    refused-loan-requires
     enum-known-terms
     asking-of-requires
     returns

@@ -1,5 +1,5 @@
 -- `mortgage::pairs::pair_rows` meets its contract: after k turns k rows of each loan stand from its place, and each loan is k months on, whichever way the loop is left. Assumes nothing.
-use mathlib.Core.Path.{_≡_, refl, _∙_}
+use mathlib.Core.Path.{refl, _∙_}
 use Prim.Native.Nat.{_-_}
 use native.Mathlib.Omega.{arith}
 use denote.Ref.{now}
