@@ -26,20 +26,20 @@ sub-loop c = search needs
 add-end : tie.Need-add-end Inv-loop μ-loop
 add-end c = search needs
 
-mul-exp-eight : tie.Need-mul-exp-eight Inv-loop μ-loop
-mul-exp-eight c = search needs
+mul-exp-sixteen : tie.Need-mul-exp-sixteen Inv-loop μ-loop
+mul-exp-sixteen c = search needs
 
-sub-exp-eight : tie.Need-sub-exp-eight Inv-loop μ-loop
-sub-exp-eight c = search needs
+sub-exp-sixteen : tie.Need-sub-exp-sixteen Inv-loop μ-loop
+sub-exp-sixteen c = search needs
 
-part-exp-eight-start : tie.Need-part-exp-eight-start Inv-loop μ-loop
-part-exp-eight-start c = search needs
+part-exp-sixteen-start : tie.Need-part-exp-sixteen-start Inv-loop μ-loop
+part-exp-sixteen-start c = search needs
 
-part-exp-eight-end : tie.Need-part-exp-eight-end Inv-loop μ-loop
-part-exp-eight-end c = search needs
+part-exp-sixteen-end : tie.Need-part-exp-sixteen-end Inv-loop μ-loop
+part-exp-sixteen-end c = search needs
 
-exp-eight-requires : tie.Need-exp-eight-requires Inv-loop μ-loop
-exp-eight-requires c κs =
+exp-sixteen-requires : tie.Need-exp-sixteen-requires Inv-loop μ-loop
+exp-sixteen-requires c κs =
     let at = c .before .before in
     simp (length-take, length-drop) (omega (arith, at .loop .inv .2))
 
@@ -51,32 +51,32 @@ loop-again c =
     let at = c .before .before .before .before .before in
     let xs = now (at .before .before .args .numbers) in
     let i = at .loop .at in
-    let e : i + (i + 8 - i) ≡ i + 8 = omega arith in
+    let e : i + (i + 16 - i) ≡ i + 16 = omega arith in
     let l = at .loop .inv .2 in (
       omega (arith, l),
-      part-further exp i (i + 8 - i) xs (at .loop .numbers) _ (at .loop .inv .0) (at .loop .inv .1) (c .before .before .exp-eight .ensures) ∙ ap (λ (k : ℕ). partWay exp (λ x. x) k xs) e,
-      same-len-mid i (i + 8 - i) (at .loop .numbers) (c .before .before .exp-eight .last .0) (c .before .before .exp-eight .kept .0) ∙ l,
+      part-further exp i (i + 16 - i) xs (at .loop .numbers) _ (at .loop .inv .0) (at .loop .inv .1) (c .before .before .exp-sixteen .ensures) ∙ ap (λ (k : ℕ). partWay exp (λ x. x) k xs) e,
+      same-len-mid i (i + 16 - i) (at .loop .numbers) (c .before .before .exp-sixteen .last .0) (c .before .before .exp-sixteen .kept .0) ∙ l,
     )
 
-mul-exp-one-by-one : tie.Need-mul-exp-one-by-one Inv-loop μ-loop
-mul-exp-one-by-one c = search needs
+mul-exp-last : tie.Need-mul-exp-last Inv-loop μ-loop
+mul-exp-last c = search needs
 
-sub-exp-one-by-one : tie.Need-sub-exp-one-by-one Inv-loop μ-loop
-sub-exp-one-by-one c = search needs
+sub-exp-last : tie.Need-sub-exp-last Inv-loop μ-loop
+sub-exp-last c = search needs
 
-part-exp-one-by-one-start : tie.Need-part-exp-one-by-one-start Inv-loop μ-loop
-part-exp-one-by-one-start c = search needs
+part-exp-last-start : tie.Need-part-exp-last-start Inv-loop μ-loop
+part-exp-last-start c = search needs
 
-part-exp-one-by-one-end : tie.Need-part-exp-one-by-one-end Inv-loop μ-loop
-part-exp-one-by-one-end c = search needs
+part-exp-last-end : tie.Need-part-exp-last-end Inv-loop μ-loop
+part-exp-last-end c = search needs
 
-exp-one-by-one-requires : tie.Need-exp-one-by-one-requires Inv-loop μ-loop
-exp-one-by-one-requires c κs = search needs
+exp-last-requires : tie.Need-exp-last-requires Inv-loop μ-loop
+exp-last-requires c κs = search needs
 
 same-length : tie.Need-same-length Inv-loop μ-loop
 same-length c =
     let at = c .before .before .before .before .before in
-    same-len-mid (at .loop .at) (length (at .loop .numbers) - at .loop .at) (at .loop .numbers) (c .before .before .exp-one-by-one .last .0) (c .before .before .exp-one-by-one .kept .0) ∙ at .loop .inv .2
+    same-len-mid (at .loop .at) (length (at .loop .numbers) - at .loop .at) (at .loop .numbers) (c .before .before .exp-last .last .0) (c .before .before .exp-last .kept .0) ∙ at .loop .inv .2
 
 returns : tie.Need-returns Inv-loop μ-loop
 returns c =
@@ -85,7 +85,7 @@ returns c =
     let i = at .loop .at in
     let n = length (at .loop .numbers) - i in
     let h : length xs ≤ i + n = omega (arith, at .loop .inv .2) in
-    part-further exp i n xs (at .loop .numbers) _ (at .loop .inv .0) (at .loop .inv .1) (c .before .before .exp-one-by-one .ensures) ∙ at-end exp (λ x. x) (i + n) xs h
+    part-further exp i n xs (at .loop .numbers) _ (at .loop .inv .0) (at .loop .inv .1) (c .before .before .exp-last .ensures) ∙ at-end exp (λ x. x) (i + n) xs h
 
 pub exp-each-spec : {M : Type 1} → statement M
 exp-each-spec =
@@ -96,17 +96,17 @@ exp-each-spec =
     loop-holds
     sub-loop
     add-end
-    mul-exp-eight
-    sub-exp-eight
-    part-exp-eight-start
-    part-exp-eight-end
-    exp-eight-requires
+    mul-exp-sixteen
+    sub-exp-sixteen
+    part-exp-sixteen-start
+    part-exp-sixteen-end
+    exp-sixteen-requires
     loop-less
     loop-again
-    mul-exp-one-by-one
-    sub-exp-one-by-one
-    part-exp-one-by-one-start
-    part-exp-one-by-one-end
-    exp-one-by-one-requires
+    mul-exp-last
+    sub-exp-last
+    part-exp-last-start
+    part-exp-last-end
+    exp-last-requires
     same-length
     returns)

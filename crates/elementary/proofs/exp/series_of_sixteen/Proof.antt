@@ -1,4 +1,4 @@
--- `elementary::exp::series_of_eight` meets its contract: each turn of the outer loop is a step of Horner's rule at all eight places. Assumes nothing.
+-- `elementary::exp::series_of_sixteen` meets its contract: each turn of the outer loop is a step of Horner's rule at all sixteen places. Assumes nothing.
 use mathlib.Core.Path.{_≡_, sym, ap, _∙_}
 use mathlib.Core.List.{map}
 use Prim.Native.Nat.{ℕ, _+_, _-_, _≤_, _<_}
@@ -10,18 +10,18 @@ use Rattle.elementary.specs.Horner.{horner}
 use Rattle.elementary.specs.Exp.{inverseFactorial}
 use Rattle.elementary.proofs.Horners.{downTo, at-top, turn-at, ended}
 use Rattle.elementary.proofs.PartWay.{partWay, at-start, one-further, next-of, at-end, map-alike, copies}
-use Rattle.elementary.proofs.exp.series_of_eight.Statement.{statement}
-use Rattle.elementary.proofs.exp.series_of_eight.Tie as tie
+use Rattle.elementary.proofs.exp.series_of_sixteen.Statement.{statement}
+use Rattle.elementary.proofs.exp.series_of_sixteen.Tie as tie
 
 -- the sum over the coefficients from k on
 abbrev summed : ℕ → Float → Float
 summed k x = downTo inverseFactorial x 13 k
 
 abbrev Inv-loop2 : tie.InvT-loop2
-Inv-loop2 rests sums₀ k c j₀ sums j = (j ≤ 8) × (sums ≡ partWay (summed k) (summed (k + 1)) j rests)
+Inv-loop2 rests sums₀ k c j₀ sums j = (j ≤ 16) × (sums ≡ partWay (summed k) (summed (k + 1)) j rests)
 
 abbrev μ-loop2 : tie.MeasureT-loop2
-μ-loop2 rests sums₀ k c j₀ sums j = 8 - j
+μ-loop2 rests sums₀ k c j₀ sums j = 16 - j
 
 abbrev Inv-loop : tie.InvT-loop
 Inv-loop rests sums₀ k₀ sums k = (k ≤ 13) × (sums ≡ map (summed k) rests)
@@ -36,7 +36,7 @@ loop-holds : tie.Need-loop-holds Inv-loop2 μ-loop2 Inv-loop μ-loop
 loop-holds c =
     let start = c .before .before in
     let top = c .inverse-factorial in
-    (omega arith, copies 8 (top .result) (now (start .args .rests)) (start .pre) ∙ map-alike (λ x. top .result) (summed 13) (λ x. top .ensures ∙ at-top inverseFactorial x 13) (now (start .args .rests)))
+    (omega arith, copies 16 (top .result) (now (start .args .rests)) (start .pre) ∙ map-alike (λ x. top .result) (summed 13) (λ x. top .ensures ∙ at-top inverseFactorial x 13) (now (start .args .rests)))
 
 sub-k : tie.Need-sub-k Inv-loop2 μ-loop2 Inv-loop μ-loop
 sub-k c = omega arith
@@ -108,8 +108,8 @@ returns c =
     let none : at .loop .k ≡ 0 = omega arith in
     at .loop .inv .1 ∙ map-alike (summed (at .loop .k)) (λ x. horner inverseFactorial x 0 13) (λ x. ended inverseFactorial x 13 (at .loop .k) none) xs
 
-pub series-of-eight-spec : {M : Type 1} → statement M
-series-of-eight-spec =
+pub series-of-sixteen-spec : {M : Type 1} → statement M
+series-of-sixteen-spec =
     tie.close
     (tie.spec
     Inv-loop2

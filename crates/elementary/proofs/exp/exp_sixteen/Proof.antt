@@ -1,4 +1,4 @@
--- `elementary::exp::exp_eight` meets its contract: eight at once where none passes an end, otherwise one by one. Assumes nothing.
+-- `elementary::exp::exp_sixteen` meets its contract: sixteen at once where none passes an end, otherwise one by one. Assumes nothing.
 use mathlib.Core.Path.{_≡_, refl, sym, ap, _∙_}
 use mathlib.Core.List.{List, map}
 use Prim.Native.Nat.{ℕ, _-_, _≤_, _<_}
@@ -13,8 +13,8 @@ use Rattle.elementary.specs.Horner.{horner}
 use Rattle.elementary.specs.Exp.{inverseFactorial, reduced, signed, below, halvings, twoTo, exp}
 use Rattle.elementary.proofs.ExpSteps.{Inside, steps}
 use Rattle.elementary.proofs.PartWay.{partWay, at-start, one-further, at-end, copies, map-same, map-at}
-use Rattle.elementary.proofs.exp.exp_eight.Statement.{statement}
-use Rattle.elementary.proofs.exp.exp_eight.Tie as tie
+use Rattle.elementary.proofs.exp.exp_sixteen.Statement.{statement}
+use Rattle.elementary.proofs.exp.exp_sixteen.Tie as tie
 
 abbrev rest : Float → Float
 rest x = reduced x (signed (below x) (halvings x))
@@ -26,19 +26,19 @@ abbrev nothing : Float → Float
 nothing x = plusZero
 
 abbrev Inv-loop : tie.InvT-loop
-Inv-loop numbers rests₀ scales₀ j₀ rests scales j = (j ≤ 8) × (rests ≡ partWay rest nothing j numbers) × (scales ≡ partWay scale nothing j numbers)
+Inv-loop numbers rests₀ scales₀ j₀ rests scales j = (j ≤ 16) × (rests ≡ partWay rest nothing j numbers) × (scales ≡ partWay scale nothing j numbers)
 
 abbrev μ-loop : tie.MeasureT-loop
-μ-loop numbers rests₀ scales₀ j₀ rests scales j = 8 - j
+μ-loop numbers rests₀ scales₀ j₀ rests scales j = 16 - j
 
 abbrev Inv-loop2 : tie.InvT-loop2
-Inv-loop2 numbers₀ scales j sums i₀ numbers i = (i ≤ 8) × (numbers ≡ partWay exp (λ x. x) i numbers₀) × (length numbers ≡ length numbers₀)
+Inv-loop2 numbers₀ scales j sums i₀ numbers i = (i ≤ 16) × (numbers ≡ partWay exp (λ x. x) i numbers₀) × (length numbers ≡ length numbers₀)
 
 abbrev μ-loop2 : tie.MeasureT-loop2
-μ-loop2 numbers₀ scales j sums i₀ numbers i = 8 - i
+μ-loop2 numbers₀ scales j sums i₀ numbers i = 16 - i
 
 -- what the test says of each place
-inside : (c : tie.At-loop Inv-loop μ-loop Inv-loop2 μ-loop2) (k : ℕ) → k < 8 → Inside (getD (now (c .before .before .before .before .before .args .numbers)) k nan)
+inside : (c : tie.At-loop Inv-loop μ-loop Inv-loop2 μ-loop2) (k : ℕ) → k < 16 → Inside (getD (now (c .before .before .before .before .before .args .numbers)) k nan)
 inside c k h = c .before .before .all-inside .ensures (c .before .if1 .taken) k (omega (arith, c .before .before .before .before .before .pre))
 
 -- after the first loop
@@ -48,8 +48,8 @@ rests-are c = let at = c .before in at .loop .inv .1 ∙ at-end rest nothing (at
 scales-are : (c : tie.After-loop Inv-loop μ-loop Inv-loop2 μ-loop2) → c .before .loop .scales ≡ map scale (now (c .before .before .before .before .before .before .args .numbers))
 scales-are c = let at = c .before in at .loop .inv .2 ∙ at-end scale nothing (at .loop .j) _ (omega (arith, at .before .before .before .before .before .pre))
 
-eight : (c : tie.After-loop Inv-loop μ-loop Inv-loop2 μ-loop2) → length (c .before .loop .rests) ≡ 8
-eight c = rw (rests-are c, length-map) (c .before .before .before .before .before .before .pre)
+sixteen : (c : tie.After-loop Inv-loop μ-loop Inv-loop2 μ-loop2) → length (c .before .loop .rests) ≡ 16
+sixteen c = rw (rests-are c, length-map) (c .before .before .before .before .before .before .pre)
 
 -- one place of the second loop
 lane : (xs sums scales : List Float) (i : ℕ) → i < length xs → Inside (getD xs i nan) → sums ≡ map (λ x. horner inverseFactorial x 0 13) (map rest xs) → scales ≡ map scale xs
@@ -67,7 +67,7 @@ loop-holds : tie.Need-loop-holds Inv-loop μ-loop Inv-loop2 μ-loop2
 loop-holds c =
     let start = c .before .before .before .before in
     let xs = now (start .args .numbers) in
-    (omega arith, copies 8 plusZero xs (start .pre) ∙ sym (at-start rest nothing xs), copies 8 plusZero xs (start .pre) ∙ sym (at-start scale nothing xs))
+    (omega arith, copies 16 plusZero xs (start .pre) ∙ sym (at-start rest nothing xs), copies 16 plusZero xs (start .pre) ∙ sym (at-start scale nothing xs))
 
 mul-x : tie.Need-mul-x Inv-loop μ-loop Inv-loop2 μ-loop2
 mul-x c = search needs
@@ -75,8 +75,11 @@ mul-x c = search needs
 slice-read-x : tie.Need-slice-read-x Inv-loop μ-loop Inv-loop2 μ-loop2
 slice-read-x c = search needs
 
-rest-of-requires : tie.Need-rest-of-requires Inv-loop μ-loop Inv-loop2 μ-loop2
-rest-of-requires c κs = let at = c .before .before in inside at (at .loop .j) (omega arith)
+multiple-of-requires : tie.Need-multiple-of-requires Inv-loop μ-loop Inv-loop2 μ-loop2
+multiple-of-requires c κs = let at = c .before .before in inside at (at .loop .j) (omega arith)
+
+taken-off-requires : tie.Need-taken-off-requires Inv-loop μ-loop Inv-loop2 μ-loop2
+taken-off-requires c κs = search needs
 
 mul-rests : tie.Need-mul-rests Inv-loop μ-loop Inv-loop2 μ-loop2
 mul-rests c = search needs
@@ -85,7 +88,10 @@ array-write-rests : tie.Need-array-write-rests Inv-loop μ-loop Inv-loop2 μ-loo
 array-write-rests c = search needs
 
 scale-of-requires : tie.Need-scale-of-requires Inv-loop μ-loop Inv-loop2 μ-loop2
-scale-of-requires c κs = let at = c .before .before .before in inside at (at .loop .j) (omega arith)
+scale-of-requires c κs =
+    let at = c .before .before .before .before in
+    let i = inside at (at .loop .j) (omega arith) in
+    (i .1, i .2, c .before .multiple-of .ensures)
 
 mul-scales : tie.Need-mul-scales Inv-loop μ-loop Inv-loop2 μ-loop2
 mul-scales c = search needs
@@ -101,18 +107,21 @@ loop-less c = search needs
 
 loop-again : tie.Need-loop-again Inv-loop μ-loop Inv-loop2 μ-loop2
 loop-again c =
-    let at = c .before .before .before .before in
+    let at = c .before .before .before .before .before in
     let start = at .before .before .before .before .before in
     let xs = now (start .args .numbers) in
-    let h : at .loop .j < length xs = omega (arith, start .pre) in
-    (omega arith, one-further rest nothing (at .loop .j) xs (at .loop .rests) _ h (at .loop .inv .1) (c .before .rest-of .ensures), one-further scale nothing (at .loop .j) xs (at .loop .scales) _ h (at .loop .inv .2) (c .scale-of .ensures))
+    let h : at .loop .j < length xs = omega (arith, start .pre) in (
+      omega arith,
+      one-further rest nothing (at .loop .j) xs (at .loop .rests) _ h (at .loop .inv .1) (c .before .taken-off .ensures ∙ ap (reduced (getD xs (at .loop .j) nan)) (c .before .before .multiple-of .ensures)),
+      one-further scale nothing (at .loop .j) xs (at .loop .scales) _ h (at .loop .inv .2) (c .scale-of .ensures),
+    )
 
-slice-aggregate-series-of-eight :
-    tie.Need-slice-aggregate-series-of-eight Inv-loop μ-loop Inv-loop2 μ-loop2
-slice-aggregate-series-of-eight c = sym (eight (c .before))
+slice-aggregate-series-of-sixteen :
+    tie.Need-slice-aggregate-series-of-sixteen Inv-loop μ-loop Inv-loop2 μ-loop2
+slice-aggregate-series-of-sixteen c = sym (sixteen (c .before))
 
-series-of-eight-requires : tie.Need-series-of-eight-requires Inv-loop μ-loop Inv-loop2 μ-loop2
-series-of-eight-requires c κs = eight (c .before)
+series-of-sixteen-requires : tie.Need-series-of-sixteen-requires Inv-loop μ-loop Inv-loop2 μ-loop2
+series-of-sixteen-requires c κs = sixteen (c .before)
 
 loop2-holds : tie.Need-loop2-holds Inv-loop μ-loop Inv-loop2 μ-loop2
 loop2-holds c = (omega arith, sym (at-start exp (λ x. x) _ ∙ map-same _), refl)
@@ -150,7 +159,7 @@ loop2-again c =
     let h : at .loop2 .i < length xs = omega (arith, start .pre) in (
       omega arith,
       one-further exp (λ x. x) (at .loop2 .i) xs (at .loop2 .numbers) _ h (at .loop2 .inv .1)
-          (lane xs _ _ (at .loop2 .i) h (inside (done .before) (at .loop2 .i) (omega arith)) (at .before .series-of-eight .ensures ∙ ap (map (λ x. horner inverseFactorial x 0 13)) (rests-are done)) (scales-are done)),
+          (lane xs _ _ (at .loop2 .i) h (inside (done .before) (at .loop2 .i) (omega arith)) (at .before .series-of-sixteen .ensures ∙ ap (map (λ x. horner inverseFactorial x 0 13)) (rests-are done)) (scales-are done)),
       simp length-set (at .loop2 .inv .2),
     )
 
@@ -169,8 +178,8 @@ same-length-2 c = search needs
 returns-2 : tie.Need-returns-2 Inv-loop μ-loop Inv-loop2 μ-loop2
 returns-2 c = c .before .before .exp-one-by-one .ensures
 
-pub exp-eight-spec : {M : Type 1} → statement M
-exp-eight-spec =
+pub exp-sixteen-spec : {M : Type 1} → statement M
+exp-sixteen-spec =
     tie.close
     (tie.spec
     Inv-loop
@@ -181,7 +190,8 @@ exp-eight-spec =
     loop-holds
     mul-x
     slice-read-x
-    rest-of-requires
+    multiple-of-requires
+    taken-off-requires
     mul-rests
     array-write-rests
     scale-of-requires
@@ -190,8 +200,8 @@ exp-eight-spec =
     add-j
     loop-less
     loop-again
-    slice-aggregate-series-of-eight
-    series-of-eight-requires
+    slice-aggregate-series-of-sixteen
+    series-of-sixteen-requires
     loop2-holds
     mul-numbers
     array-read-numbers
