@@ -2,7 +2,7 @@
 ghost use mathlib.Core.Path.{_≡_};
 ghost use mathlib.Core.Bool.{true, false};
 ghost use mathlib.Core.List.{map};
-ghost use Prim.Native.Nat.{ℕ, _<_, _≤_};
+ghost use Prim.Native.Nat.{ℕ, _<_, _≤_, _%_};
 ghost use lib.ListN.{length, getD};
 ghost use lib.IntN.{pos};
 ghost use lib.Ieee.{nan, binary64, lt, ne, ofInt};
@@ -146,8 +146,9 @@ pub fn exp(x: f64) -> f64
     not_below_zero(x)
 }
 
-// Whether each is a number between the ends.
+// Whether each of sixteen is a number between the ends.
 fn all_inside(numbers: &[f64]) -> bool
+    requires { ⌜ length (now numbers) ≡ 16 ⌝ }
     ensures { λ r. ⌜ (r ≡ true → (k : ℕ) → k < length (now (numbers .entry))
         → (ne (getD (now (numbers .entry)) k nan) (getD (now (numbers .entry)) k nan) ≡ false)
         × (lt highest (getD (now (numbers .entry)) k nan) ≡ false)
@@ -155,7 +156,7 @@ fn all_inside(numbers: &[f64]) -> bool
 {
     let mut inside = true;
     let mut j: usize = 0;
-    while j < numbers.len() {
+    while j < 16 {
         let x = numbers[j];
         inside = inside & (x <= 709.0) & (x >= -708.0);
         j += 1;
@@ -234,13 +235,26 @@ fn filled_up(numbers: &[f64]) -> [f64; 16]
     room
 }
 
+// Whole blocks of sixteen.
+fn exp_blocks(numbers: &mut [f64])
+    requires { ⌜ length (now numbers) % 16 ≡ 0 ⌝ }
+    ensures { λ _. ⌜ now (numbers .exit) ≡ map exp (now (numbers .entry)) ⌝ }
+{
+    let mut at: usize = 0;
+    while at < numbers.len() {
+        let end = at + 16;
+        exp_sixteen(&mut numbers[at..end]);
+        at = end;
+    }
+}
+
 // Up to sixteen at once, in room for sixteen.
 fn exp_few(numbers: &mut [f64])
     requires { ⌜ length (now numbers) ≤ 16 ⌝ }
     ensures { λ _. ⌜ now (numbers .exit) ≡ map exp (now (numbers .entry)) ⌝ }
 {
     let mut room = filled_up(numbers);
-    exp_sixteen(&mut room);
+    exp_blocks(&mut room);
     let mut j: usize = 0;
     while j < numbers.len() {
         numbers[j] = room[j];
@@ -248,12 +262,12 @@ fn exp_few(numbers: &mut [f64])
     }
 }
 
-// The last fewer than sixteen: one or two are quicker one by one.
+// Fewer than sixteen: up to four are quicker one by one.
 fn exp_last(numbers: &mut [f64])
     requires { ⌜ length (now numbers) ≤ 16 ⌝ }
     ensures { λ _. ⌜ now (numbers .exit) ≡ map exp (now (numbers .entry)) ⌝ }
 {
-    if numbers.len() <= 2 {
+    if numbers.len() <= 4 {
         exp_one_by_one(numbers);
     } else {
         exp_few(numbers);
@@ -264,11 +278,8 @@ fn exp_last(numbers: &mut [f64])
 pub fn exp_each(numbers: &mut [f64])
     ensures { λ _. ⌜ now (numbers .exit) ≡ map exp (now (numbers .entry)) ⌝ }
 {
-    let mut at: usize = 0;
-    while numbers.len() - at >= 16 {
-        let end = at + 16;
-        exp_sixteen(&mut numbers[at..end]);
-        at = end;
-    }
-    exp_last(&mut numbers[at..]);
+    let start: usize = 0;
+    let end = numbers.len() - numbers.len() % 16;
+    exp_blocks(&mut numbers[start..end]);
+    exp_last(&mut numbers[end..]);
 }

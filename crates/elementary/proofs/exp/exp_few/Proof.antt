@@ -21,11 +21,11 @@ abbrev μ-loop : tie.MeasureT-loop
 filled-up-requires : tie.Need-filled-up-requires Inv-loop μ-loop
 filled-up-requires c κs = search needs
 
-slice-aggregate-exp-sixteen : tie.Need-slice-aggregate-exp-sixteen Inv-loop μ-loop
-slice-aggregate-exp-sixteen c = sym (c .before .filled-up .ensures .0)
+slice-aggregate-exp-blocks : tie.Need-slice-aggregate-exp-blocks Inv-loop μ-loop
+slice-aggregate-exp-blocks c = sym (c .before .filled-up .ensures .0)
 
-exp-sixteen-requires : tie.Need-exp-sixteen-requires Inv-loop μ-loop
-exp-sixteen-requires c κs = c .before .filled-up .ensures .0
+exp-blocks-requires : tie.Need-exp-blocks-requires Inv-loop μ-loop
+exp-blocks-requires c κs = rw (c .before .filled-up .ensures .0) refl
 
 loop-holds : tie.Need-loop-holds Inv-loop μ-loop
 loop-holds c = (omega arith, sym (at-start exp (λ x. x) _ ∙ map-same _), refl)
@@ -58,7 +58,7 @@ loop-again c =
     let l : at .loop .j < length (made .filled-up .result) = omega (arith, start .pre, made .filled-up .ensures .0) in (
       omega arith,
       one-further exp (λ x. x) (at .loop .j) xs (at .loop .numbers) _ h (at .loop .inv .1)
-          (ap (λ (r : List Float). getD r (at .loop .j) nan) (at .before .before .exp-sixteen .ensures) ∙ map-at exp (at .loop .j) (made .filled-up .result) l ∙ ap exp (made .filled-up .ensures .1 (at .loop .j) h)),
+          (ap (λ (r : List Float). getD r (at .loop .j) nan) (at .before .before .exp-blocks .ensures) ∙ map-at exp (at .loop .j) (made .filled-up .result) l ∙ ap exp (made .filled-up .ensures .1 (at .loop .j) h)),
       simp length-set (at .loop .inv .2),
     )
 
@@ -75,8 +75,8 @@ exp-few-spec =
     Inv-loop
     μ-loop
     filled-up-requires
-    slice-aggregate-exp-sixteen
-    exp-sixteen-requires
+    slice-aggregate-exp-blocks
+    exp-blocks-requires
     loop-holds
     mul-numbers
     array-read-numbers

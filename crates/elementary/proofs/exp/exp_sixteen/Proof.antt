@@ -61,7 +61,7 @@ lane xs sums scales i h f es et =
     (rw et (map-at scale i xs h))
 
 all-inside-requires : tie.Need-all-inside-requires Inv-loop μ-loop Inv-loop2 μ-loop2
-all-inside-requires c κs = search needs
+all-inside-requires c κs = c .before .before .pre
 
 loop-holds : tie.Need-loop-holds Inv-loop μ-loop Inv-loop2 μ-loop2
 loop-holds c =
