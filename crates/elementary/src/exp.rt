@@ -164,25 +164,6 @@ fn all_inside(numbers: &[f64]) -> bool
     inside
 }
 
-// Sixteen sums of the series at once.
-fn series_of_sixteen(rests: &[f64]) -> [f64; 16]
-    requires { ⌜ length (now rests) ≡ 16 ⌝ }
-    ensures { λ r. ⌜ r ≡ map (λ x. horner inverseFactorial x 0 13) (now (rests .entry)) ⌝ }
-{
-    let mut sums = [inverse_factorial(13); 16];
-    let mut k: usize = 13;
-    while k > 0 {
-        k -= 1;
-        let c = inverse_factorial(k);
-        let mut j: usize = 0;
-        while j < 16 {
-            sums[j] = sums[j] * rests[j] + c;
-            j += 1;
-        }
-    }
-    sums
-}
-
 // Each number's exp in its place, one at a time.
 fn exp_one_by_one(numbers: &mut [f64])
     ensures { λ _. ⌜ now (numbers .exit) ≡ map exp (now (numbers .entry)) ⌝ }
@@ -210,10 +191,9 @@ fn exp_sixteen(numbers: &mut [f64])
             scales[j] = scale_of(x, k);
             j += 1;
         }
-        let sums = series_of_sixteen(&rests);
         let mut i: usize = 0;
         while i < 16 {
-            numbers[i] = sums[i] * scales[i];
+            numbers[i] = series(rests[i]) * scales[i];
             i += 1;
         }
     } else {

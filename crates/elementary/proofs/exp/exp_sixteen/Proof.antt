@@ -32,10 +32,10 @@ abbrev μ-loop : tie.MeasureT-loop
 μ-loop numbers rests₀ scales₀ j₀ rests scales j = 16 - j
 
 abbrev Inv-loop2 : tie.InvT-loop2
-Inv-loop2 numbers₀ scales j sums i₀ numbers i = (i ≤ 16) × (numbers ≡ partWay exp (λ x. x) i numbers₀) × (length numbers ≡ length numbers₀)
+Inv-loop2 numbers₀ rests scales j i₀ numbers i = (i ≤ 16) × (numbers ≡ partWay exp (λ x. x) i numbers₀) × (length numbers ≡ length numbers₀)
 
 abbrev μ-loop2 : tie.MeasureT-loop2
-μ-loop2 numbers₀ scales j sums i₀ numbers i = 16 - i
+μ-loop2 numbers₀ rests scales j i₀ numbers i = 16 - i
 
 -- what the test says of each place
 inside : (c : tie.At-loop Inv-loop μ-loop Inv-loop2 μ-loop2) (k : ℕ) → k < 16 → Inside (getD (now (c .before .before .before .before .before .args .numbers)) k nan)
@@ -48,17 +48,11 @@ rests-are c = let at = c .before in at .loop .inv .1 ∙ at-end rest nothing (at
 scales-are : (c : tie.After-loop Inv-loop μ-loop Inv-loop2 μ-loop2) → c .before .loop .scales ≡ map scale (now (c .before .before .before .before .before .before .args .numbers))
 scales-are c = let at = c .before in at .loop .inv .2 ∙ at-end scale nothing (at .loop .j) _ (omega (arith, at .before .before .before .before .before .pre))
 
-sixteen : (c : tie.After-loop Inv-loop μ-loop Inv-loop2 μ-loop2) → length (c .before .loop .rests) ≡ 16
-sixteen c = rw (rests-are c, length-map) (c .before .before .before .before .before .before .pre)
-
 -- one place of the second loop
-lane : (xs sums scales : List Float) (i : ℕ) → i < length xs → Inside (getD xs i nan) → sums ≡ map (λ x. horner inverseFactorial x 0 13) (map rest xs) → scales ≡ map scale xs
-    → mul binary64 (getD sums i nan) (getD scales i nan) ≡ exp (getD xs i nan)
-lane xs sums scales i h f es et =
-    steps (getD xs i nan) (f .0) (f .1) (f .2) (getD (map rest xs) i nan) (getD sums i nan) (getD scales i nan)
-    (map-at rest i xs h)
-    (rw es (map-at (λ x. horner inverseFactorial x 0 13) i (map rest xs) (rw length-map h)))
-    (rw et (map-at scale i xs h))
+lane : (xs rests scales : List Float) (i : ℕ) (sum : Float) → i < length xs → Inside (getD xs i nan) → rests ≡ map rest xs → sum ≡ horner inverseFactorial (getD rests i nan) 0 13 → scales ≡ map scale xs
+    → mul binary64 sum (getD scales i nan) ≡ exp (getD xs i nan)
+lane xs rests scales i sum h f er es et =
+    steps (getD xs i nan) (f .0) (f .1) (f .2) (getD rests i nan) sum (getD scales i nan) (rw er (map-at rest i xs h)) es (rw et (map-at scale i xs h))
 
 all-inside-requires : tie.Need-all-inside-requires Inv-loop μ-loop Inv-loop2 μ-loop2
 all-inside-requires c κs = c .before .before .pre
@@ -116,15 +110,17 @@ loop-again c =
       one-further scale nothing (at .loop .j) xs (at .loop .scales) _ h (at .loop .inv .2) (c .scale-of .ensures),
     )
 
-slice-aggregate-series-of-sixteen :
-    tie.Need-slice-aggregate-series-of-sixteen Inv-loop μ-loop Inv-loop2 μ-loop2
-slice-aggregate-series-of-sixteen c = sym (sixteen (c .before))
-
-series-of-sixteen-requires : tie.Need-series-of-sixteen-requires Inv-loop μ-loop Inv-loop2 μ-loop2
-series-of-sixteen-requires c κs = sixteen (c .before)
-
 loop2-holds : tie.Need-loop2-holds Inv-loop μ-loop Inv-loop2 μ-loop2
 loop2-holds c = (omega arith, sym (at-start exp (λ x. x) _ ∙ map-same _), refl)
+
+mul-series : tie.Need-mul-series Inv-loop μ-loop Inv-loop2 μ-loop2
+mul-series c = search needs
+
+array-read-series : tie.Need-array-read-series Inv-loop μ-loop Inv-loop2 μ-loop2
+array-read-series c = search needs
+
+series-requires : tie.Need-series-requires Inv-loop μ-loop Inv-loop2 μ-loop2
+series-requires c κs = search needs
 
 mul-numbers : tie.Need-mul-numbers Inv-loop μ-loop Inv-loop2 μ-loop2
 mul-numbers c = search needs
@@ -134,12 +130,6 @@ array-read-numbers c = search needs
 
 mul-numbers-2 : tie.Need-mul-numbers-2 Inv-loop μ-loop Inv-loop2 μ-loop2
 mul-numbers-2 c = search needs
-
-array-read-numbers-2 : tie.Need-array-read-numbers-2 Inv-loop μ-loop Inv-loop2 μ-loop2
-array-read-numbers-2 c = search needs
-
-mul-numbers-3 : tie.Need-mul-numbers-3 Inv-loop μ-loop Inv-loop2 μ-loop2
-mul-numbers-3 c = search needs
 
 slice-write-numbers : tie.Need-slice-write-numbers Inv-loop μ-loop Inv-loop2 μ-loop2
 slice-write-numbers c = search needs
@@ -152,14 +142,14 @@ loop2-less c = search needs
 
 loop2-again : tie.Need-loop2-again Inv-loop μ-loop Inv-loop2 μ-loop2
 loop2-again c =
-    let at = c .before in
-    let done = at .before .before .before in
+    let at = c .before .before in
+    let done = at .before in
     let start = done .before .before .before .before .before .before in
     let xs = now (start .args .numbers) in
     let h : at .loop2 .i < length xs = omega (arith, start .pre) in (
       omega arith,
       one-further exp (λ x. x) (at .loop2 .i) xs (at .loop2 .numbers) _ h (at .loop2 .inv .1)
-          (lane xs _ _ (at .loop2 .i) h (inside (done .before) (at .loop2 .i) (omega arith)) (at .before .series-of-sixteen .ensures ∙ ap (map (λ x. horner inverseFactorial x 0 13)) (rests-are done)) (scales-are done)),
+          (lane xs _ _ (at .loop2 .i) _ h (inside (done .before) (at .loop2 .i) (omega arith)) (rests-are done) (c .series .ensures) (scales-are done)),
       simp length-set (at .loop2 .inv .2),
     )
 
@@ -170,7 +160,7 @@ same-length : tie.Need-same-length Inv-loop μ-loop Inv-loop2 μ-loop2
 same-length c = c .before .loop2 .inv .2
 
 returns : tie.Need-returns Inv-loop μ-loop Inv-loop2 μ-loop2
-returns c = let at = c .before in at .loop2 .inv .1 ∙ at-end exp (λ x. x) (at .loop2 .i) _ (omega (arith, at .before .before .before .before .before .before .before .before .before .pre))
+returns c = let at = c .before in at .loop2 .inv .1 ∙ at-end exp (λ x. x) (at .loop2 .i) _ (omega (arith, at .before .before .before .before .before .before .before .pre))
 
 same-length-2 : tie.Need-same-length-2 Inv-loop μ-loop Inv-loop2 μ-loop2
 same-length-2 c = search needs
@@ -200,14 +190,13 @@ exp-sixteen-spec =
     add-j
     loop-less
     loop-again
-    slice-aggregate-series-of-sixteen
-    series-of-sixteen-requires
     loop2-holds
+    mul-series
+    array-read-series
+    series-requires
     mul-numbers
     array-read-numbers
     mul-numbers-2
-    array-read-numbers-2
-    mul-numbers-3
     slice-write-numbers
     add-i
     loop2-less
