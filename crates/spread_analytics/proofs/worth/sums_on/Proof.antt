@@ -1,28 +1,26 @@
--- `spread_analytics::worth::sums_of` meets its contract: after i turns the first i terms of each sum are added. Assumes nothing.
-use mathlib.Core.Path.{_≡_, refl, ap, _∙_}
+-- `spread_analytics::worth::sums_on` meets its contract: after i turns the first i terms of each sum are added to those before. Assumes nothing.
+use mathlib.Core.Path.{_≡_}
 use Prim.Native.Nat.{ℕ, _-_, _≤_}
 use lib.ListN.{length}
 use lib.Ieee.{binary64, mul}
-use Rattle.numbers.specs.Sums.{addedUp}
 use Rattle.yield_curve.specs.Segments.{knot}
-use Rattle.yield_curve.proofs.Adding.{one-more}
+use Rattle.spread_analytics.proofs.CarriedOn.{Carried, nothing-yet, further, all-of}
 use native.Mathlib.Omega.{arith}
-use Rattle.spread_analytics.proofs.worth.sums_of.Statement.{statement}
-use Rattle.spread_analytics.proofs.worth.sums_of.Tie as tie
+use Rattle.spread_analytics.proofs.worth.sums_on.Statement.{statement}
+use Rattle.spread_analytics.proofs.worth.sums_on.Tie as tie
 
 abbrev Inv-loop : tie.InvT-loop
 Inv-loop times amounts factors worth₀ timed₀ squared₀ i₀ worth timed squared i =
     (i ≤ length times)
-    × (worth ≡ addedUp (λ (j : ℕ). mul binary64 (knot amounts j) (knot factors j)) i)
-    × (timed ≡ addedUp (λ (j : ℕ). mul binary64 (mul binary64 (knot times j) (knot amounts j)) (knot factors j)) i)
-    × (squared ≡ addedUp (λ (j : ℕ). mul binary64 (mul binary64 (mul binary64 (knot times j) (knot times j)) (knot amounts j)) (knot factors j)) i)
+    × Carried worth₀ worth (λ (j : ℕ). mul binary64 (knot amounts j) (knot factors j)) i
+    × Carried timed₀ timed (λ (j : ℕ). mul binary64 (mul binary64 (knot times j) (knot amounts j)) (knot factors j)) i
+    × Carried squared₀ squared (λ (j : ℕ). mul binary64 (mul binary64 (mul binary64 (knot times j) (knot times j)) (knot amounts j)) (knot factors j)) i
 
 abbrev μ-loop : tie.MeasureT-loop
 μ-loop times amounts factors worth₀ timed₀ squared₀ i₀ worth timed squared i = length times - i
 
 loop-holds : tie.Need-loop-holds Inv-loop μ-loop
-unfolding addedUp
-loop-holds c = (omega arith, refl, refl, refl)
+loop-holds c = (omega arith, nothing-yet _ _, nothing-yet _ _, nothing-yet _ _)
 
 mul-time : tie.Need-mul-time Inv-loop μ-loop
 mul-time c = omega arith
@@ -50,18 +48,18 @@ loop-less c = omega arith
 
 loop-again : tie.Need-loop-again Inv-loop μ-loop
 loop-again c =
-    let i = c .before .before .before .before .loop .inv in
-    (omega arith, one-more _ _ _ _ (i .1) refl, one-more _ _ _ _ (i .2) refl, one-more _ _ _ _ (i .3) refl)
+    let l = c .before .before .before .before .loop in
+    (omega arith, further _ _ (l .worth) (l .i) (l .inv .1), further _ _ (l .timed) (l .i) (l .inv .2), further _ _ (l .squared) (l .i) (l .inv .3))
 
 returns : tie.Need-returns Inv-loop μ-loop
 returns c =
     let h = c .before in
-    let i = h .loop .inv in
-    let e : h .loop .i ≡ length (h .before .args .times .now) = omega arith in
-    (i .1 ∙ ap (addedUp _) e, (i .2 ∙ ap (addedUp _) e, i .3 ∙ ap (addedUp _) e))
+    let l = h .loop in
+    let e : l .i ≡ length (h .before .args .times .now) = omega arith in
+    (all-of _ _ (l .worth) (l .i) _ e (l .inv .1), (all-of _ _ (l .timed) (l .i) _ e (l .inv .2), all-of _ _ (l .squared) (l .i) _ e (l .inv .3)))
 
-pub sums-of-spec : {M : Type 1} → statement M
-sums-of-spec =
+pub sums-on-spec : {M : Type 1} → statement M
+sums-on-spec =
     tie.close
     (tie.spec
     Inv-loop

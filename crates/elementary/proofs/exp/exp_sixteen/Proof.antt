@@ -1,4 +1,4 @@
--- `elementary::exp::exp_eight` meets its contract: eight at once where none passes an end, otherwise one by one. Assumes nothing.
+-- `elementary::exp::exp_sixteen` meets its contract: sixteen at once where none passes an end, otherwise one by one. Assumes nothing.
 use mathlib.Core.Path.{_≡_, refl, sym, ap, _∙_}
 use mathlib.Core.List.{List, map}
 use Prim.Native.Nat.{ℕ, _-_, _≤_, _<_}
@@ -13,8 +13,8 @@ use Rattle.elementary.specs.Horner.{horner}
 use Rattle.elementary.specs.Exp.{inverseFactorial, reduced, signed, below, halvings, twoTo, exp}
 use Rattle.elementary.proofs.ExpSteps.{Inside, steps}
 use Rattle.elementary.proofs.PartWay.{partWay, at-start, one-further, at-end, copies, map-same, map-at}
-use Rattle.elementary.proofs.exp.exp_eight.Statement.{statement}
-use Rattle.elementary.proofs.exp.exp_eight.Tie as tie
+use Rattle.elementary.proofs.exp.exp_sixteen.Statement.{statement}
+use Rattle.elementary.proofs.exp.exp_sixteen.Tie as tie
 
 abbrev rest : Float → Float
 rest x = reduced x (signed (below x) (halvings x))
@@ -26,19 +26,19 @@ abbrev nothing : Float → Float
 nothing x = plusZero
 
 abbrev Inv-loop : tie.InvT-loop
-Inv-loop numbers rests₀ scales₀ j₀ rests scales j = (j ≤ 8) × (rests ≡ partWay rest nothing j numbers) × (scales ≡ partWay scale nothing j numbers)
+Inv-loop numbers rests₀ scales₀ j₀ rests scales j = (j ≤ 16) × (rests ≡ partWay rest nothing j numbers) × (scales ≡ partWay scale nothing j numbers)
 
 abbrev μ-loop : tie.MeasureT-loop
-μ-loop numbers rests₀ scales₀ j₀ rests scales j = 8 - j
+μ-loop numbers rests₀ scales₀ j₀ rests scales j = 16 - j
 
 abbrev Inv-loop2 : tie.InvT-loop2
-Inv-loop2 numbers₀ scales j sums i₀ numbers i = (i ≤ 8) × (numbers ≡ partWay exp (λ x. x) i numbers₀) × (length numbers ≡ length numbers₀)
+Inv-loop2 numbers₀ rests scales j i₀ numbers i = (i ≤ 16) × (numbers ≡ partWay exp (λ x. x) i numbers₀) × (length numbers ≡ length numbers₀)
 
 abbrev μ-loop2 : tie.MeasureT-loop2
-μ-loop2 numbers₀ scales j sums i₀ numbers i = 8 - i
+μ-loop2 numbers₀ rests scales j i₀ numbers i = 16 - i
 
 -- what the test says of each place
-inside : (c : tie.At-loop Inv-loop μ-loop Inv-loop2 μ-loop2) (k : ℕ) → k < 8 → Inside (getD (now (c .before .before .before .before .before .args .numbers)) k nan)
+inside : (c : tie.At-loop Inv-loop μ-loop Inv-loop2 μ-loop2) (k : ℕ) → k < 16 → Inside (getD (now (c .before .before .before .before .before .args .numbers)) k nan)
 inside c k h = c .before .before .all-inside .ensures (c .before .if1 .taken) k (omega (arith, c .before .before .before .before .before .pre))
 
 -- after the first loop
@@ -48,26 +48,20 @@ rests-are c = let at = c .before in at .loop .inv .1 ∙ at-end rest nothing (at
 scales-are : (c : tie.After-loop Inv-loop μ-loop Inv-loop2 μ-loop2) → c .before .loop .scales ≡ map scale (now (c .before .before .before .before .before .before .args .numbers))
 scales-are c = let at = c .before in at .loop .inv .2 ∙ at-end scale nothing (at .loop .j) _ (omega (arith, at .before .before .before .before .before .pre))
 
-eight : (c : tie.After-loop Inv-loop μ-loop Inv-loop2 μ-loop2) → length (c .before .loop .rests) ≡ 8
-eight c = rw (rests-are c, length-map) (c .before .before .before .before .before .before .pre)
-
 -- one place of the second loop
-lane : (xs sums scales : List Float) (i : ℕ) → i < length xs → Inside (getD xs i nan) → sums ≡ map (λ x. horner inverseFactorial x 0 13) (map rest xs) → scales ≡ map scale xs
-    → mul binary64 (getD sums i nan) (getD scales i nan) ≡ exp (getD xs i nan)
-lane xs sums scales i h f es et =
-    steps (getD xs i nan) (f .0) (f .1) (f .2) (getD (map rest xs) i nan) (getD sums i nan) (getD scales i nan)
-    (map-at rest i xs h)
-    (rw es (map-at (λ x. horner inverseFactorial x 0 13) i (map rest xs) (rw length-map h)))
-    (rw et (map-at scale i xs h))
+lane : (xs rests scales : List Float) (i : ℕ) (sum : Float) → i < length xs → Inside (getD xs i nan) → rests ≡ map rest xs → sum ≡ horner inverseFactorial (getD rests i nan) 0 13 → scales ≡ map scale xs
+    → mul binary64 sum (getD scales i nan) ≡ exp (getD xs i nan)
+lane xs rests scales i sum h f er es et =
+    steps (getD xs i nan) (f .0) (f .1) (f .2) (getD rests i nan) sum (getD scales i nan) (rw er (map-at rest i xs h)) es (rw et (map-at scale i xs h))
 
 all-inside-requires : tie.Need-all-inside-requires Inv-loop μ-loop Inv-loop2 μ-loop2
-all-inside-requires c κs = search needs
+all-inside-requires c κs = c .before .before .pre
 
 loop-holds : tie.Need-loop-holds Inv-loop μ-loop Inv-loop2 μ-loop2
 loop-holds c =
     let start = c .before .before .before .before in
     let xs = now (start .args .numbers) in
-    (omega arith, copies 8 plusZero xs (start .pre) ∙ sym (at-start rest nothing xs), copies 8 plusZero xs (start .pre) ∙ sym (at-start scale nothing xs))
+    (omega arith, copies 16 plusZero xs (start .pre) ∙ sym (at-start rest nothing xs), copies 16 plusZero xs (start .pre) ∙ sym (at-start scale nothing xs))
 
 mul-x : tie.Need-mul-x Inv-loop μ-loop Inv-loop2 μ-loop2
 mul-x c = search needs
@@ -75,8 +69,11 @@ mul-x c = search needs
 slice-read-x : tie.Need-slice-read-x Inv-loop μ-loop Inv-loop2 μ-loop2
 slice-read-x c = search needs
 
-rest-of-requires : tie.Need-rest-of-requires Inv-loop μ-loop Inv-loop2 μ-loop2
-rest-of-requires c κs = let at = c .before .before in inside at (at .loop .j) (omega arith)
+multiple-of-requires : tie.Need-multiple-of-requires Inv-loop μ-loop Inv-loop2 μ-loop2
+multiple-of-requires c κs = let at = c .before .before in inside at (at .loop .j) (omega arith)
+
+taken-off-requires : tie.Need-taken-off-requires Inv-loop μ-loop Inv-loop2 μ-loop2
+taken-off-requires c κs = search needs
 
 mul-rests : tie.Need-mul-rests Inv-loop μ-loop Inv-loop2 μ-loop2
 mul-rests c = search needs
@@ -85,7 +82,10 @@ array-write-rests : tie.Need-array-write-rests Inv-loop μ-loop Inv-loop2 μ-loo
 array-write-rests c = search needs
 
 scale-of-requires : tie.Need-scale-of-requires Inv-loop μ-loop Inv-loop2 μ-loop2
-scale-of-requires c κs = let at = c .before .before .before in inside at (at .loop .j) (omega arith)
+scale-of-requires c κs =
+    let at = c .before .before .before .before in
+    let i = inside at (at .loop .j) (omega arith) in
+    (i .1, i .2, c .before .multiple-of .ensures)
 
 mul-scales : tie.Need-mul-scales Inv-loop μ-loop Inv-loop2 μ-loop2
 mul-scales c = search needs
@@ -101,21 +101,26 @@ loop-less c = search needs
 
 loop-again : tie.Need-loop-again Inv-loop μ-loop Inv-loop2 μ-loop2
 loop-again c =
-    let at = c .before .before .before .before in
+    let at = c .before .before .before .before .before in
     let start = at .before .before .before .before .before in
     let xs = now (start .args .numbers) in
-    let h : at .loop .j < length xs = omega (arith, start .pre) in
-    (omega arith, one-further rest nothing (at .loop .j) xs (at .loop .rests) _ h (at .loop .inv .1) (c .before .rest-of .ensures), one-further scale nothing (at .loop .j) xs (at .loop .scales) _ h (at .loop .inv .2) (c .scale-of .ensures))
-
-slice-aggregate-series-of-eight :
-    tie.Need-slice-aggregate-series-of-eight Inv-loop μ-loop Inv-loop2 μ-loop2
-slice-aggregate-series-of-eight c = sym (eight (c .before))
-
-series-of-eight-requires : tie.Need-series-of-eight-requires Inv-loop μ-loop Inv-loop2 μ-loop2
-series-of-eight-requires c κs = eight (c .before)
+    let h : at .loop .j < length xs = omega (arith, start .pre) in (
+      omega arith,
+      one-further rest nothing (at .loop .j) xs (at .loop .rests) _ h (at .loop .inv .1) (c .before .taken-off .ensures ∙ ap (reduced (getD xs (at .loop .j) nan)) (c .before .before .multiple-of .ensures)),
+      one-further scale nothing (at .loop .j) xs (at .loop .scales) _ h (at .loop .inv .2) (c .scale-of .ensures),
+    )
 
 loop2-holds : tie.Need-loop2-holds Inv-loop μ-loop Inv-loop2 μ-loop2
 loop2-holds c = (omega arith, sym (at-start exp (λ x. x) _ ∙ map-same _), refl)
+
+mul-series : tie.Need-mul-series Inv-loop μ-loop Inv-loop2 μ-loop2
+mul-series c = search needs
+
+array-read-series : tie.Need-array-read-series Inv-loop μ-loop Inv-loop2 μ-loop2
+array-read-series c = search needs
+
+series-requires : tie.Need-series-requires Inv-loop μ-loop Inv-loop2 μ-loop2
+series-requires c κs = search needs
 
 mul-numbers : tie.Need-mul-numbers Inv-loop μ-loop Inv-loop2 μ-loop2
 mul-numbers c = search needs
@@ -125,12 +130,6 @@ array-read-numbers c = search needs
 
 mul-numbers-2 : tie.Need-mul-numbers-2 Inv-loop μ-loop Inv-loop2 μ-loop2
 mul-numbers-2 c = search needs
-
-array-read-numbers-2 : tie.Need-array-read-numbers-2 Inv-loop μ-loop Inv-loop2 μ-loop2
-array-read-numbers-2 c = search needs
-
-mul-numbers-3 : tie.Need-mul-numbers-3 Inv-loop μ-loop Inv-loop2 μ-loop2
-mul-numbers-3 c = search needs
 
 slice-write-numbers : tie.Need-slice-write-numbers Inv-loop μ-loop Inv-loop2 μ-loop2
 slice-write-numbers c = search needs
@@ -143,14 +142,14 @@ loop2-less c = search needs
 
 loop2-again : tie.Need-loop2-again Inv-loop μ-loop Inv-loop2 μ-loop2
 loop2-again c =
-    let at = c .before in
-    let done = at .before .before .before in
+    let at = c .before .before in
+    let done = at .before in
     let start = done .before .before .before .before .before .before in
     let xs = now (start .args .numbers) in
     let h : at .loop2 .i < length xs = omega (arith, start .pre) in (
       omega arith,
       one-further exp (λ x. x) (at .loop2 .i) xs (at .loop2 .numbers) _ h (at .loop2 .inv .1)
-          (lane xs _ _ (at .loop2 .i) h (inside (done .before) (at .loop2 .i) (omega arith)) (at .before .series-of-eight .ensures ∙ ap (map (λ x. horner inverseFactorial x 0 13)) (rests-are done)) (scales-are done)),
+          (lane xs _ _ (at .loop2 .i) _ h (inside (done .before) (at .loop2 .i) (omega arith)) (rests-are done) (c .series .ensures) (scales-are done)),
       simp length-set (at .loop2 .inv .2),
     )
 
@@ -161,7 +160,7 @@ same-length : tie.Need-same-length Inv-loop μ-loop Inv-loop2 μ-loop2
 same-length c = c .before .loop2 .inv .2
 
 returns : tie.Need-returns Inv-loop μ-loop Inv-loop2 μ-loop2
-returns c = let at = c .before in at .loop2 .inv .1 ∙ at-end exp (λ x. x) (at .loop2 .i) _ (omega (arith, at .before .before .before .before .before .before .before .before .before .pre))
+returns c = let at = c .before in at .loop2 .inv .1 ∙ at-end exp (λ x. x) (at .loop2 .i) _ (omega (arith, at .before .before .before .before .before .before .before .pre))
 
 same-length-2 : tie.Need-same-length-2 Inv-loop μ-loop Inv-loop2 μ-loop2
 same-length-2 c = search needs
@@ -169,8 +168,8 @@ same-length-2 c = search needs
 returns-2 : tie.Need-returns-2 Inv-loop μ-loop Inv-loop2 μ-loop2
 returns-2 c = c .before .before .exp-one-by-one .ensures
 
-pub exp-eight-spec : {M : Type 1} → statement M
-exp-eight-spec =
+pub exp-sixteen-spec : {M : Type 1} → statement M
+exp-sixteen-spec =
     tie.close
     (tie.spec
     Inv-loop
@@ -181,7 +180,8 @@ exp-eight-spec =
     loop-holds
     mul-x
     slice-read-x
-    rest-of-requires
+    multiple-of-requires
+    taken-off-requires
     mul-rests
     array-write-rests
     scale-of-requires
@@ -190,14 +190,13 @@ exp-eight-spec =
     add-j
     loop-less
     loop-again
-    slice-aggregate-series-of-eight
-    series-of-eight-requires
     loop2-holds
+    mul-series
+    array-read-series
+    series-requires
     mul-numbers
     array-read-numbers
     mul-numbers-2
-    array-read-numbers-2
-    mul-numbers-3
     slice-write-numbers
     add-i
     loop2-less
