@@ -15,6 +15,7 @@ pub mod Multiples
 pub mod ExpSteps
 pub mod ExpFinite
 pub mod PartWay
+pub mod InARow
 pub mod Leading
 pub mod LnSteps
 pub mod LnCases
