@@ -3,7 +3,6 @@ pub mod Turns
 pub mod Tables
 pub mod Horners
 pub mod Sizes
-pub mod Values
 pub mod Unrounded
 pub mod Patterns
 pub mod Roundings
