@@ -29,7 +29,7 @@ use Rattle.elementary.proofs.NearestSmall.{lift, goes-up, stays}
 use Rattle.elementary.proofs.Patterns.{field-is-no-nan, two-to-up, two-to-down}
 use Rattle.elementary.proofs.Roundings.{round-no-nan}
 use Rattle.elementary.proofs.Sizes.{size-above, size-shift}
-use Rattle.elementary.proofs.Values.{patternAt, pattern-of-value}
+use Rattle.numbers.proofs.Values.{patternAt, pattern-of-value}
 use Rattle.elementary.proofs.Wholes.{whole-value, whole-sum, whole-less}
 
 -- ---- the size of x / ln 2 is at most 1,024
