@@ -1,3 +1,6 @@
+pub mod Comparing
+pub mod Onward
+pub mod RunFactors
 pub mod PaymentSums
 pub mod Writing
 pub mod Values

@@ -7,4 +7,5 @@ pub mod Knots
 pub mod Swap
 pub mod Legs
 pub mod LegSums
+pub mod Runs
 pub mod Valuation
