@@ -4,7 +4,7 @@ use mathlib.Core.Path.{_≡_, sym, subst}
 use mathlib.Core.Bool.{Bool, true, false, _||_, Bool·beq}
 use mathlib.Core.Logic.{inl, inr}
 use Prim.Native.Nat.{ℕ, _+_, _*_, _≤_, _<_}
-use native.Mathlib.Nat.{le-of-eq, le-of-lt, eq-or-lt-of-le, mul-le-mul-right, le-of-mul-le-mul-right}
+use native.Mathlib.Nat.{le-refl, le-of-eq, le-of-lt, eq-or-lt-of-le, mul-le-mul-right, le-of-mul-le-mul-right}
 use native.Mathlib.Omega.{arith}
 use lib.Dec.{T, not-T, ltb, eqb, ltb→lt, lt→ltb, eqb→eq}
 use lib.Ieee.{Float, nan, inf, fin, up, down, below, level, lt, le, eq}
@@ -135,6 +135,15 @@ le-through (fin s m i) (fin t n j) (fin u o k) h g =
     shown s u _ _
     (through (m * up i) (n * up j) (o * up k) (down i) (down j) (down k) (down-pos i) (down-pos j) (down-pos k) s t u
     (told s t _ _ h) (told t u _ _ g))
+
+-- what is at or below anything is no NaN, and at or below itself
+pub le-itself : (a b : Float) → T (le a b) → T (le a a)
+unfolding le lt eq
+le-itself nan b h = absurd h
+le-itself (inf true) b h = tt
+le-itself (inf false) b h = tt
+le-itself (fin false m i) b h = shown false false _ _ (le-refl (m * up i * down i))
+le-itself (fin true m i) b h = shown true true _ _ (le-refl (m * up i * down i))
 
 -- later than a time that is beyond a knot
 pub still-beyond : (earlier later knot : Float) → le earlier later ≡ true → le earlier knot ≡ false → le later knot ≡ false

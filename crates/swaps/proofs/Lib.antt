@@ -1,5 +1,8 @@
 pub mod Comparing
 pub mod Onward
+pub mod Eights
+pub mod Thirds
+pub mod TriedCoupons
 pub mod RunFactors
 pub mod PaymentSums
 pub mod Writing

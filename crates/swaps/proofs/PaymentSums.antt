@@ -14,7 +14,8 @@ use Rattle.swaps.specs.declared.legs.PaymentSums.{PaymentSums}
 use Rattle.swaps.specs.Swap.{period, fraction, payDate}
 use Rattle.swaps.specs.Legs.{factorAt, fixedPayment, forward, floatingPayment}
 use Rattle.swaps.specs.LegSums.{fixedTerm, annuityTerm, timedTerm}
-use Rattle.swaps.specs.Runs.{Summed}
+use Rattle.swaps.specs.Discount.{discountOf}
+use Rattle.swaps.specs.Runs.{dateAfter, FactorsAfter, Summed}
 
 -- what a payment adds
 module _ (notional dt part payment date factor : Float) where
@@ -54,6 +55,16 @@ module _ (s : Swap) (tenors zeros : List Float) where
         of-timed = one-more (timedTerm s tenors zeros) k _ _ (h .of-timed) (rw (is-factor, is-payment, date-is));
         of-last = rw (add-one k) is-factor;
       }
+
+-- a factor of a run
+pub factor-is : (s : Swap) (tenors zeros : List Float) (k first j : ℕ) → k ≡ first + j → discountOf tenors zeros (dateAfter (period s) (first + j)) ≡ factorAt s tenors zeros (suc k)
+unfolding factorAt payDate
+factor-is s tenors zeros k first j e = rw e
+
+-- dates as far apart, in other words
+pub same-factors : (tenors zeros : List Float) (first count : ℕ) (factors : List Float) {dt other : Float} → dt ≡ other
+    → FactorsAfter dt tenors zeros first count factors → FactorsAfter other tenors zeros first count factors
+same-factors tenors zeros first count factors e h = subst (λ (t : Float). FactorsAfter t tenors zeros first count factors) e h
 
 -- the same count in other words
 pub so-many : (s : Swap) (tenors zeros : List Float) {k n : ℕ} (sums : PaymentSums) → k ≡ n → Summed s tenors zeros k sums → Summed s tenors zeros n sums

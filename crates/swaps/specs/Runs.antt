@@ -4,14 +4,15 @@ use mathlib.Core.Path.{_≡_}
 use mathlib.Core.Bool.{false, cond}
 use mathlib.Core.List.{List}
 use Prim.Native.Nat.{ℕ, suc, _+_, _-_, _<_, _≤_}
+use lib.IntN.{pos}
 use lib.ListN.{length}
-use lib.Ieee.{Float, binary64, neg, mul, le}
+use lib.Ieee.{Float, binary64, neg, mul, le, ofInt}
 use Rattle.numbers.specs.Clamps.{plusZero}
 use Rattle.numbers.specs.Sums.{addedUp}
 use Rattle.yield_curve.specs.Segments.{knot}
 use Rattle.swaps.specs.declared.Swap.{Swap}
 use Rattle.swaps.specs.declared.legs.PaymentSums.{PaymentSums}
-use Rattle.swaps.specs.Discount.{zeroRateOf}
+use Rattle.swaps.specs.Discount.{zeroRateOf, discountOf}
 use Rattle.swaps.specs.Legs.{factorAt, floatingPayment}
 use Rattle.swaps.specs.LegSums.{fixedTerm, annuityTerm, timedTerm}
 
@@ -26,11 +27,15 @@ exponentAt rate t = cond (le t plusZero) plusZero (mul binary64 (neg rate) t)
 abbrev pub exponentOf : List Float → List Float → Float → Float
 exponentOf tenors zeros t = exponentAt (zeroRateOf tenors zeros t) t
 
-module _ (s : Swap) (tenors zeros : List Float) (first : ℕ) where
-  -- the discount factors of the payments after the first ones
-  abbrev pub FactorsAfter : List Float → Type 0
-  FactorsAfter factors = (j : ℕ) → j < length factors → knot factors j ≡ factorAt s tenors zeros (suc (first + j))
+-- the date after the k-th of those that are dt apart
+abbrev pub dateAfter : Float → ℕ → Float
+dateAfter dt k = mul binary64 (ofInt binary64 (pos (suc k))) dt
 
+-- so many discount factors, of the dates after the first ones
+abbrev pub FactorsAfter : Float → List Float → List Float → ℕ → ℕ → List Float → Type 0
+FactorsAfter dt tenors zeros first count factors = (j : ℕ) → j < count → knot factors j ≡ discountOf tenors zeros (dateAfter dt (first + j))
+
+module _ (s : Swap) (tenors zeros : List Float) (first : ℕ) where
   -- after the first payments: the four sums, and the discount factor of the last of them
   pub record Summed (sums : PaymentSums) : Type 0 where
     pub of-fixed : sums .fixed ≡ addedUp (fixedTerm s tenors zeros) first

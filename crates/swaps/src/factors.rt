@@ -1,16 +1,13 @@
-// The discount factors of a swap's payments, a run of them at a time: their exps do not wait for one another.
+// The discount factors at dates that are equally far apart, a run of them at a time: their exps do not wait for one another.
 ghost use mathlib.Core.Path.{_≡_};
-ghost use Prim.Native.Nat.{ℕ, suc, _+_, _<_};
+ghost use Prim.Native.Nat.{ℕ, _+_, _<_, _≤_};
 ghost use lib.ListN.{length};
 ghost use Rattle.yield_curve.specs.Segments.{knot};
-ghost use Rattle.swaps.specs.Swap.{payDate};
-ghost use Rattle.swaps.specs.Runs.{Beyond, exponentAt, exponentOf, FactorsAfter};
-use crate::Swap;
+ghost use Rattle.swaps.specs.Runs.{Beyond, exponentAt, exponentOf, dateAfter, FactorsAfter};
 use crate::discount::rate_from;
-use crate::periods::period;
 
 // The exponent of the discount factor at a time, 0 at or before time 0.
-fn exponent_at(rate: f64, t: f64) -> f64
+pub(crate) fn exponent_at(rate: f64, t: f64) -> f64
     ensures { λ r. ⌜ r ≡ exponentAt rate t ⌝ }
 {
     if t <= 0.0 { 0.0 } else { -rate * t }
@@ -27,12 +24,11 @@ fn resumed(tenors: &[f64], segment: usize, before: f64, t: f64) -> usize
     0
 }
 
-// The exponents of the discount factors of the payments after the first ones.
-fn put_exponents(swap: Swap, tenors: &[f64], zeros: &[f64], first: u32, exponents: &mut [f64])
+// The exponents of the discount factors at dates that are dt apart, after the first ones.
+fn put_exponents(dt: f64, tenors: &[f64], zeros: &[f64], first: u32, exponents: &mut [f64])
     requires { ⌜ first + length (now exponents) < 4294967296 ⌝ }
-    ensures { λ _. ⌜ ((j : ℕ) → j < length (now (exponents .exit)) → knot (now (exponents .exit)) j ≡ exponentOf (now (tenors .entry)) (now (zeros .entry)) (payDate swap (suc (first + j)))) ⌝ }
+    ensures { λ _. ⌜ ((j : ℕ) → j < length (now (exponents .exit)) → knot (now (exponents .exit)) j ≡ exponentOf (now (tenors .entry)) (now (zeros .entry)) (dateAfter dt (first + j))) ⌝ }
 {
-    let dt = period(swap);
     let mut segment: usize = 0;
     let mut date = 0.0;
     let mut k = first;
@@ -48,17 +44,27 @@ fn put_exponents(swap: Swap, tenors: &[f64], zeros: &[f64], first: u32, exponent
     }
 }
 
-// The discount factors of the payments after the first ones.
-pub(crate) fn put_factors(
-    swap: Swap,
+// The discount factors there.
+fn put_factors(dt: f64, tenors: &[f64], zeros: &[f64], first: u32, factors: &mut [f64])
+    requires { ⌜ first + length (now factors) < 4294967296 ⌝ }
+    ensures { λ _. ⌜ FactorsAfter dt (now (tenors .entry)) (now (zeros .entry)) first (length (now (factors .exit))) (now (factors .exit)) ⌝ }
+{
+    put_exponents(dt, tenors, zeros, first, factors);
+    elementary::exp::exp_each(factors);
+}
+
+// At most 64 of them.
+pub(crate) fn factors_after(
+    dt: f64,
     tenors: &[f64],
     zeros: &[f64],
     first: u32,
-    factors: &mut [f64],
-)
-    requires { ⌜ first + length (now factors) < 4294967296 ⌝ }
-    ensures { λ _. ⌜ FactorsAfter swap (now (tenors .entry)) (now (zeros .entry)) first (now (factors .exit)) ⌝ }
+    count: usize,
+) -> [f64; 64]
+    requires { ⌜ (count ≤ 64) × (first + count < 4294967296) ⌝ }
+    ensures { λ r. ⌜ (length r ≡ 64) × FactorsAfter dt (now (tenors .entry)) (now (zeros .entry)) first count r ⌝ }
 {
-    put_exponents(swap, tenors, zeros, first, factors);
-    elementary::exp::exp_each(factors);
+    let mut factors = [0.0; 64];
+    put_factors(dt, tenors, zeros, first, &mut factors[..count]);
+    factors
 }

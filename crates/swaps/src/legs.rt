@@ -8,11 +8,11 @@ ghost use Rattle.refusals.specs.Answers.{numberOutcome};
 ghost use Rattle.swaps.specs.Legs.{lastFactor, fixedLeg, floatingLeg, weighted};
 ghost use Rattle.swaps.specs.LegSums.{annuity};
 ghost use Rattle.swaps.specs.Runs.{FactorsAfter, Summed};
-ghost use Rattle.swaps.specs.Swap.{payments};
+ghost use Rattle.swaps.specs.Swap.{payments, period};
 ghost use Rattle.swaps.specs.Valuation.{fixedLegPv, floatingLegPv};
 use crate::Swap;
 use crate::discount::discount_of;
-use crate::factors::put_factors;
+use crate::factors::factors_after;
 use crate::judging::judge_swap;
 use crate::periods::fixed_payment;
 use crate::periods::fraction;
@@ -31,11 +31,17 @@ pub struct PaymentSums {
     pub last: f64,
 }
 
-// The payments after the first ones, whose discount factors are at hand, added one by one.
-fn add_payments(swap: Swap, sums: PaymentSums, first: u32, factors: &[f64]) -> PaymentSums
-    requires { ⌜ first + length (now factors) < 4294967296 ⌝ }
-    ensures { λ r. ⌜ ((tenors zeros : List Float) → FactorsAfter swap tenors zeros first (now (factors .entry)) → Summed swap tenors zeros first sums
-        → Summed swap tenors zeros (first + length (now (factors .entry))) r) ⌝ }
+// So many payments after the first ones, whose discount factors are at hand, added one by one.
+fn add_payments(
+    swap: Swap,
+    sums: PaymentSums,
+    first: u32,
+    factors: &[f64],
+    count: usize,
+) -> PaymentSums
+    requires { ⌜ (count ≤ length (now factors)) × (first + count < 4294967296) ⌝ }
+    ensures { λ r. ⌜ ((tenors zeros : List Float) → FactorsAfter (period swap) tenors zeros first count (now (factors .entry)) → Summed swap tenors zeros first sums
+        → Summed swap tenors zeros (first + count) r) ⌝ }
 {
     let dt = period(swap);
     let part = fraction(swap);
@@ -43,7 +49,7 @@ fn add_payments(swap: Swap, sums: PaymentSums, first: u32, factors: &[f64]) -> P
     let mut added = sums;
     let mut k = first;
     let mut j: usize = 0;
-    while j < factors.len() {
+    while j < count {
         k += 1;
         let date = k as f64 * dt;
         let factor = factors[j];
@@ -72,9 +78,8 @@ fn add_run(
     requires { ⌜ (count ≤ 64) × (first + count < 4294967296) × Summed swap (now tenors) (now zeros) first sums ⌝ }
     ensures { λ r. ⌜ Summed swap (now (tenors .entry)) (now (zeros .entry)) (first + count) r ⌝ }
 {
-    let mut factors = [0.0; 64];
-    put_factors(swap, tenors, zeros, first, &mut factors[..count]);
-    add_payments(swap, sums, first, &factors[..count])
+    let factors = factors_after(period(swap), tenors, zeros, first, count);
+    add_payments(swap, sums, first, &factors, count)
 }
 
 // All payments, 64 at a time.

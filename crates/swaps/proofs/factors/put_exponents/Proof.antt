@@ -5,35 +5,32 @@ use native.Mathlib.Omega.{arith}
 use lib.ListN.{length, length-set}
 use borrow.Author.Count.{below-none}
 use Rattle.yield_curve.proofs.Filling.{Holds, placed}
-use Rattle.swaps.specs.Runs.{Beyond, exponentOf}
+use Rattle.swaps.specs.Runs.{Beyond, exponentOf, dateAfter}
 use Rattle.swaps.proofs.Onward.{none-passed}
-use Rattle.swaps.proofs.RunFactors.{dateAfter, next-exponent, exponent-is}
+use Rattle.swaps.proofs.RunFactors.{next-exponent}
 use borrow.Author.Needs.{needs}
 use Rattle.swaps.proofs.factors.put_exponents.Statement.{statement}
 use Rattle.swaps.proofs.factors.put_exponents.Tie as tie
 
 abbrev Inv-loop : tie.InvT-loop
-Inv-loop tenors zeros first exponents₀ dt segment₀ date₀ k₀ j₀ exponents segment date k j =
+Inv-loop dt tenors zeros first exponents₀ segment₀ date₀ k₀ j₀ exponents segment date k j =
     (j ≤ length exponents₀)
     × (length exponents ≡ length exponents₀)
     × (k ≡ first + j)
     × Beyond tenors date segment
-    × Holds exponents (λ (i : ℕ). exponentOf tenors zeros (dateAfter tenors zeros dt (first + i))) j
+    × Holds exponents (λ (i : ℕ). exponentOf tenors zeros (dateAfter dt (first + i))) j
 
 abbrev μ-loop : tie.MeasureT-loop
-μ-loop tenors zeros first exponents₀ dt segment₀ date₀ k₀ j₀ exponents segment date k j =
+μ-loop dt tenors zeros first exponents₀ segment₀ date₀ k₀ j₀ exponents segment date k j =
     length exponents₀ - j
-
-period-requires : tie.Need-period-requires Inv-loop μ-loop
-period-requires c κs = search needs
 
 loop-holds : tie.Need-loop-holds Inv-loop μ-loop
 loop-holds c =
-    let a = c .before .before .before .before .args in
+    let a = c .before .before .before .args in
     (omega arith, refl, omega arith, none-passed (a .tenors .now) _, below-none _)
 
 add-k : tie.Need-add-k Inv-loop μ-loop
-add-k c = omega (arith, c .before .before .before .before .before .before .pre)
+add-k c = omega (arith, c .before .before .before .before .before .pre)
 
 int-to-float-next : tie.Need-int-to-float-next Inv-loop μ-loop
 int-to-float-next c = search needs
@@ -64,24 +61,20 @@ loop-again c =
     let found = c .before in
     let head = found .before .before .before .before in
     let l = head .loop in
-    let a = head .before .before .before .before .before .args in
-    let dt = head .before .period .result in (
+    let a = head .before .before .before .before .args in (
       omega arith,
       simp length-set (l .inv .1),
       omega (arith, l .inv .2),
       found .rate-from .ensures .1,
-      placed (l .exponents) (λ (i : ℕ). exponentOf (a .tenors .now) (a .zeros .now) (dateAfter (a .tenors .now) (a .zeros .now) dt (a .first + i))) (l .j) _ (omega (arith, l .inv .1)) (l .inv .4)
-          (next-exponent (a .tenors .now) (a .zeros .now) dt (a .first) (l .j) (l .k) (l .inv .2) _ _ (found .rate-from .ensures .0) (c .exponent-at .ensures)),
+      placed (l .exponents) (λ (i : ℕ). exponentOf (a .tenors .now) (a .zeros .now) (dateAfter (a .dt) (a .first + i))) (l .j) _ (omega (arith, l .inv .1)) (l .inv .4)
+          (next-exponent (a .tenors .now) (a .zeros .now) (a .dt) (a .first) (l .j) (l .k) (l .inv .2) _ _ (found .rate-from .ensures .0) (c .exponent-at .ensures)),
     )
 
 same-length : tie.Need-same-length Inv-loop μ-loop
 same-length c = c .before .loop .inv .1
 
 returns : tie.Need-returns Inv-loop μ-loop
-returns c =
-    let head = c .before in
-    let a = head .before .before .before .before .before .args in
-    λ j h. exponent-is (a .tenors .now) (a .zeros .now) (a .swap) (a .first) _ (head .before .period .ensures) j _ (head .loop .inv .4 j (omega arith))
+returns c = λ j h. c .before .loop .inv .4 j (omega arith)
 
 pub put-exponents-spec : {M : Type 1} → statement M
 put-exponents-spec =
@@ -89,7 +82,6 @@ put-exponents-spec =
     (tie.spec
     Inv-loop
     μ-loop
-    period-requires
     loop-holds
     add-k
     int-to-float-next

@@ -18,7 +18,7 @@ returns c =
     let done = c .before .before in
     let put = done .before .before .before .before in
     let a = put .before .before .before .before .before .args in
-    factors-are (a .tenors .now) (a .zeros .now) (a .swap) (a .first) (put .put-exponents .last .1 .1 .1 .1 .0) _ (done .exp-each .ensures) (put .put-exponents .ensures)
+    factors-are (a .tenors .now) (a .zeros .now) (a .dt) (a .first) (put .put-exponents .last .1 .1 .1 .1 .0) _ (done .exp-each .ensures) (put .put-exponents .ensures)
 
 pub put-factors-spec : {M : Type 1} → statement M
 put-factors-spec =
