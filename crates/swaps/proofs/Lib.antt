@@ -1,3 +1,4 @@
+pub mod DiscountList
 pub mod PaymentSums
 pub mod Writing
 pub mod Values
