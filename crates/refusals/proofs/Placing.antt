@@ -50,3 +50,21 @@ module _ {Item : Type 0} (k : ℕ) (bad : Item → Bool) (items : List Item) (d 
   pub ended : (o : Outcome Unit) (i : ℕ) → o ≡ Rest i → length items ≤ i → accepted tt ≡ placed o
   unfolding firstOr placed
   ended o i e h = rw (e, drop-of-length-le items h)
+
+-- a line over a list whose items have no cause
+pub none-bad : {Item : Type 0} (k p : ℕ) (bad : Item → Bool) (items : List Item) (d : Item) → ((i : ℕ) → i < length items → bad (getD items i d) ≡ false)
+    → _≡_ {A = Outcome Unit} (accepted tt) (firstOr k p (map bad items) (accepted tt))
+unfolding firstOr
+none-bad k p bad [] d h = refl
+none-bad k p bad (x ∷ items) d h = rw (h 0 (omega arith)) (none-bad k (suc p) bad items d (λ i l. h (suc i) (omega arith)))
+
+-- what is accepted or refused so placed is so by the lines themselves
+pub accepted-itself : (o : Outcome Unit) → accepted tt ≡ placed o → accepted tt ≡ o
+unfolding placed
+accepted-itself (refused k p) e = let z : _≡_ {A = ℕ} 0 1 = cc in absurd (omega arith)
+accepted-itself (accepted u) e = refl
+
+pub refused-itself : (o : Outcome Unit) (n q : ℕ) → refused n q ≡ placed o → (k : ℕ) × (p : ℕ) × (refused k p ≡ o)
+unfolding placed
+refused-itself (refused k p) n q e = (k, p, refl)
+refused-itself (accepted u) n q e = let z : _≡_ {A = ℕ} 0 1 = cc in absurd (omega arith)

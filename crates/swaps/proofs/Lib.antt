@@ -4,6 +4,7 @@ pub mod Eights
 pub mod Thirds
 pub mod TriedCoupons
 pub mod RunFactors
+pub mod DiscountList
 pub mod PaymentSums
 pub mod Writing
 pub mod Values

@@ -1,6 +1,7 @@
 pub mod DayCounts
 pub mod Codes
 pub mod Discount
+pub mod DiscountEach
 pub mod Bootstrap
 pub mod Bootstrapped
 pub mod Knots

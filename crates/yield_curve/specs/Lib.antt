@@ -1,4 +1,5 @@
 pub mod Segments
+pub mod Halving
 pub mod Curve
 pub mod Lists
 pub mod Linear

@@ -59,7 +59,7 @@ pub fn bad_time(t: f64) -> bool
     !is_finite(t)
 }
 
-fn one_unless(good: bool) -> u64
+pub(crate) fn one_unless(good: bool) -> u64
     ensures { λ r. ⌜ (r ≤ 1) × (r ≡ 0 → good ≡ true) ⌝ }
 {
     if good { 0 } else { 1 }
