@@ -128,6 +128,13 @@ mul-one (fin s m e) t h =
     turn : (M d : ℕ) → M * (1 * 1) * d ≡ M * (d * 1)
     turn M d = omega arith
 
+-- the same of every number, NaN and the infinities among them
+pub times-one : (x : Float) → T (fits binary64 x) → mul binary64 x one ≡ x
+unfolding mul
+times-one nan t = refl
+times-one (inf s) t = ap (mul binary64 (inf s)) one-is ∙ ap inf (unlike-plus s)
+times-one (fin s m e) t = mul-one (fin s m e) t tt
+
 pub div-itself : (x : Float) → T (nonzero x) → div binary64 x x ≡ one
 unfolding div fits
 div-itself nan n = absurd n
