@@ -1,5 +1,5 @@
 -- Three halvings at a time, for any error: what is read from the errors of all that they may try is the error in the middle of each halving. Assumes nothing.
-use mathlib.Core.Path.{_≡_, refl, sym, ap, _∙_}
+use mathlib.Core.Path.{_≡_, refl, ap, _∙_}
 use mathlib.Core.Bool.{Bool, true, false, cond}
 use mathlib.Core.List.{List, map}
 use lib.ListN.{getD}

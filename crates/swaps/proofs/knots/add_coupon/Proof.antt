@@ -1,6 +1,5 @@
 -- `swaps::knots::add_coupon` meets its contract: the date is whole before the tenor, else it is the tenor, whose discount factors are at hand. Assumes nothing.
-use mathlib.Core.Path.{_≡_, refl, ap, _∙_}
-use mathlib.Core.List.{List}
+use mathlib.Core.Path.{refl, ap, _∙_}
 use native.Mathlib.Omega.{arith}
 use lib.ListN.{length, length-map}
 use lib.Ieee.{Float}

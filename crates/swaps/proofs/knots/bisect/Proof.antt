@@ -1,7 +1,7 @@
 -- `swaps::knots::bisect` meets its contract: the halvings that are left, from the bracket in hand, give the answer; three of them go by errors that were
 -- worked out together. Assumes nothing.
 use mathlib.Core.Path.{_≡_, refl, sym, ap, _∙_}
-use mathlib.Core.List.{List, map}
+use mathlib.Core.List.{map}
 use Prim.Native.Nat.{ℕ, _*_, _-_, _<_}
 use native.Mathlib.Omega.{arith}
 use lib.ListN.{length}

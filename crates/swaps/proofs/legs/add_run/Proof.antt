@@ -1,9 +1,6 @@
 -- `swaps::legs::add_run` meets its contract. Assumes nothing.
-use mathlib.Core.Path.{sym, ap}
-use mathlib.Core.List.{List}
+use mathlib.Core.Path.{sym}
 use native.Mathlib.Omega.{arith}
-use lib.Ieee.{Float}
-use Rattle.swaps.specs.Runs.{FactorsAfter}
 use Rattle.swaps.proofs.PaymentSums.{same-factors}
 use borrow.Author.Needs.{needs}
 use Rattle.swaps.proofs.legs.add_run.Statement.{statement}
