@@ -19,7 +19,7 @@ same-length-2 c = search needs
 returns : tie.Need-returns
 returns c =
     let d = c .before .before .before .before .before .before .before .before .draw-book in
-    (told-as _ _ _ _ _ (c .put-progress .ensures) (d .ensures .0), d .ensures .1 .0, d .ensures .1 .1)
+    (told-as _ _ _ _ _ (c .put-progress .ensures) (d .ensures .0), d .ensures .1)
 
 pub senyolanda-draw-book-spec : {M : Type 1} → statement M
 senyolanda-draw-book-spec =

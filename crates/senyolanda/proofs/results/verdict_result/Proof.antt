@@ -12,16 +12,15 @@ enum-known-verdict c = search needs
 refusal-result-requires : tie.Need-refusal-result-requires
 refusal-result-requires c κs = search needs
 
-enum-known-verdict-2 : tie.Need-enum-known-verdict-2
-enum-known-verdict-2 c = search needs
+enum-told : tie.Need-enum-told
+enum-told c = search needs
 
 returns : tie.Need-returns
 returns c = refused-so _ _ _ _ _ _ (sym (ap verdictOutcome (c .before .before .verdict .given .1))) (c .refusal-result .ensures)
 
 returns-2 : tie.Need-returns-2
-returns-2 c = accepted-so _ _ _ _ _ (sym (ap verdictOutcome (c .before .verdict2 .given .1))) refl
+returns-2 c = accepted-so _ _ _ _ _ (sym (ap verdictOutcome (c .enum-told .given .1))) refl
 
 pub verdict-result-spec : {M : Type 1} → statement M
 verdict-result-spec =
-    tie.close
-    (tie.spec enum-known-verdict refusal-result-requires enum-known-verdict-2 returns returns-2)
+    tie.close (tie.spec enum-known-verdict refusal-result-requires enum-told returns returns-2)
