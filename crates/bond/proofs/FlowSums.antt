@@ -1,26 +1,57 @@
 -- The sums over a bond's flows as a loop adds them, term by term left to right. Assumes nothing.
-use mathlib.Core.Path.{_≡_}
-use Prim.Native.Nat.{ℕ, suc, _+_}
-use native.Mathlib.Numerals.{add-one}
+use mathlib.Core.Path.{_≡_, sym, ap, _∙_}
+use mathlib.Core.List.{List}
+use mathlib.Core.Bool.{Bool, true, false, cond}
+use Prim.Native.Nat.{ℕ, zero, suc, _+_, _-_, _*_, _≤_, _<_}
+use native.Mathlib.Omega.{arith}
 use lib.IntN.{pos}
-use lib.Ieee.{Float, binary64, add, mul, div, ofInt}
+use lib.ListN.{getD}
+use lib.Ieee.{Float, nan, binary64, add, mul, div, ofInt}
+use borrow.Author.Tests.{ne-eqb}
 use Rattle.numbers.specs.Sums.{addedUp}
-use Rattle.elementary.specs.WholePower.{one}
+use Rattle.elementary.specs.WholePower.{one, wholePower}
+use Rattle.elementary.specs.Powers.{powersFrom}
+use Rattle.elementary.proofs.InARow.{power-at}
 use Rattle.bond.specs.declared.Bond.{Bond}
-use Rattle.bond.specs.Bonds.{couponsAYear}
-use Rattle.bond.specs.Durations.{worth, weightedTime, weightedSquare}
+use Rattle.bond.specs.Bonds.{couponsAYear, periodCoupon, periods}
+use Rattle.bond.specs.Durations.{flowOf, worth, weightedTime, weightedSquare}
+use Rattle.bond.specs.Weighted.{weighted}
 
--- one term more
-pub added-next : (f : ℕ → Float) (s v : Float) (t : ℕ) → s ≡ addedUp f t → v ≡ f t → add binary64 s v ≡ addedUp f (t + 1)
+-- the term of the period t more
+pub added-at : (f : ℕ → Float) (s v : Float) (t : ℕ) → 1 ≤ t → s ≡ addedUp (λ (i : ℕ). f (suc i)) (t - 1) → v ≡ f t → add binary64 s v ≡ addedUp (λ (i : ℕ). f (suc i)) (t + 1 - 1)
 unfolding addedUp
-added-next f s v t e h = rw (add-one t, e, h)
+added-at f s v zero h e g = absurd (omega arith)
+added-at f s v (suc k) h e g = rw (less k, e, g) (go (suc k - 1) (more k))
+  where
+    less : (k : ℕ) → suc k + 1 - 1 ≡ suc k
+    less k = omega arith
 
--- the terms of the two sums, as the loop works them out at the period t + 1
-module _ (b : Bond) (r w : Float) (t : ℕ) (e : w ≡ worth b r (t + 1)) where
-  pub time-term : (m : Float) → m ≡ couponsAYear b → mul binary64 (div binary64 (ofInt binary64 (pos (t + 1))) m) w ≡ weightedTime b r (suc t)
-  unfolding weightedTime
-  time-term m h = rw (e, h, add-one t)
+    more : (k : ℕ) → k ≡ suc k - 1
+    more k = omega arith
 
-  pub square-term : mul binary64 (mul binary64 (ofInt binary64 (pos (t + 1))) (add binary64 (ofInt binary64 (pos (t + 1))) one)) w ≡ weightedSquare b r (suc t)
-  unfolding weightedSquare
-  square-term = rw (e, add-one t)
+    go : (j : ℕ) → k ≡ j → add binary64 (addedUp (λ (i : ℕ). f (suc i)) j) (f (suc k)) ≡ addedUp (λ (i : ℕ). f (suc i)) (suc k)
+    go j e = rw e
+
+module _ (b : Bond) (r : Float) (t : ℕ) where
+  -- before the last period a coupon is paid
+  pub coupon-worth : (c p : Float) (n : ℕ) → c ≡ periodCoupon b → n ≡ periods b → t < n → p ≡ wholePower (add binary64 one r) t → div binary64 c p ≡ worth b r t
+  unfolding worth flowOf
+  coupon-worth c p n paid counted h e = rw (e, paid, sym counted, ne-eqb t n (λ z. omega arith))
+
+  -- its weight times its worth
+  pub term : (squares : Bool) (m w v : Float) → m ≡ couponsAYear b
+      → w ≡ cond squares (mul binary64 (ofInt binary64 (pos t)) (add binary64 (ofInt binary64 (pos t)) one)) (div binary64 (ofInt binary64 (pos t)) m) → v ≡ worth b r t
+      → mul binary64 w v ≡ weighted b r squares t
+  unfolding weightedTime weightedSquare
+  term true m w v h e g = rw (e, g)
+  term false m w v h e g = rw (e, g, h)
+
+-- a power out of its block
+pub power-of : (base : Float) (xs : List Float) (q t : ℕ) → xs ≡ powersFrom base (16 * q) 16 → 16 * q ≤ t → t < 16 * q + 16 → getD xs (t - 16 * q) nan ≡ wholePower base t
+power-of base xs q t e low high = ap (λ (l : List Float). getD l (t - 16 * q) nan) e ∙ power-at base (16 * q) 16 (t - 16 * q) (under (16 * q) high) ∙ ap (wholePower base) (back (16 * q) low)
+  where
+    under : (a : ℕ) → t < a + 16 → t - a < 16
+    under a h = omega arith
+
+    back : (a : ℕ) → a ≤ t → a + (t - a) ≡ t
+    back a h = omega arith

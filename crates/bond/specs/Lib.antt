@@ -4,4 +4,5 @@ pub mod Price
 pub mod Brent
 pub mod Yield
 pub mod Durations
+pub mod Weighted
 pub mod Codes

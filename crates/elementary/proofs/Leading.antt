@@ -17,7 +17,7 @@ use lib.Ieee.Fits.{kept-lt, round-fits}
 use lib.Ieee.Scale.{round-same}
 use Rattle.numbers.proofs.Amounts.{Held}
 use Rattle.elementary.specs.Ln.{leading, exponent}
-use Rattle.elementary.proofs.Values.{patternAt, same-value}
+use Rattle.numbers.proofs.Values.{patternAt, same-value}
 use Rattle.elementary.proofs.Patterns.{pattern-value, pattern-is-no-nan}
 use Rattle.elementary.proofs.Sizes.{size-above, size-pos, sizes-agree, leads-agree, upBy, downBy, up-is, down-is, same-difference, sum-is-difference}
 

@@ -3,7 +3,6 @@ pub mod Turns
 pub mod Tables
 pub mod Horners
 pub mod Sizes
-pub mod Values
 pub mod Unrounded
 pub mod Patterns
 pub mod Roundings
@@ -15,6 +14,7 @@ pub mod Multiples
 pub mod ExpSteps
 pub mod ExpFinite
 pub mod PartWay
+pub mod InARow
 pub mod Leading
 pub mod LnSteps
 pub mod LnCases

@@ -17,7 +17,7 @@ use Rattle.numbers.specs.Units.{count, units}
 use Rattle.numbers.proofs.Amounts.{passes, amount, Held, counts, held}
 use Rattle.numbers.proofs.Order.{lt-amount}
 use Rattle.elementary.specs.Ln.{rootTwo, lnBy, ln}
-use Rattle.elementary.proofs.Values.{pattern-by-count, pattern-of-value}
+use Rattle.numbers.proofs.Values.{pattern-by-count, pattern-of-value}
 use Rattle.elementary.proofs.Leading.{ReadOff, read-off}
 
 -- ---- the smallest normal number and the factor of the subnormals, 2 ^ -1022 and 2 ^ 54

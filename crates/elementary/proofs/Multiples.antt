@@ -2,20 +2,24 @@
 -- Assumes nothing.
 use mathlib.Core.Path.{_≡_, refl, sym, ap, _∙_, subst}
 use mathlib.Core.Bool.{Bool, true, false, not, cond}
+use mathlib.Core.Logic.{_⊎_, inl, inr, ⊎-elim}
 use Prim.Native.Nat.{ℕ, _+_, _-_, _*_, _/_, _%_, _^_, _≤_, _<_}
 use native.Mathlib.Nat.{le-trans, mul-pos, mul-le-mul-right, le-of-mul-le-mul-right, mul-div-cancel, zero-lt-suc, div-one}
 use native.Mathlib.Omega.{arith}
+use borrow.Author.Tests.{ltb-true, ltb-false}
 use lib.IntN.{pos}
 use lib.Dec.{T, lit≤}
 use lib.Pow.{pow-pos}
-use lib.Ieee.{Float, nan, inf, fin, binary64, up, down, fits, isNan, nanBits, size, round, add, sub, mul, neg, lt, le, ne, ofInt, ofBits, toBits}
+use lib.Ieee.{Float, nan, inf, fin, binary64, up, down, fits, isNan, nanBits, size, round, add, sub, mul, neg, lt, le, eq, ne, ofInt, ofBits, toBits}
 use lib.Ieee.Compare.{nan-differs}
 use lib.Ieee.Digits.{size-le}
-use lib.Ieee.Fits.{down-pos, round-fits}
+use lib.Ieee.Fits.{down-pos, round-fits, mul-fits}
+use lib.Ieee.Back.{whole-unique}
+use Rattle.numbers.specs.Clamps.{plusZero}
 use Rattle.numbers.specs.Sizes.{absolute}
 use Rattle.numbers.specs.Units.{units}
 use Rattle.numbers.specs.Whole.{nearestWhole}
-use Rattle.numbers.proofs.Amounts.{amount, counts}
+use Rattle.numbers.proofs.Amounts.{passes, amount, counts}
 use Rattle.elementary.specs.WholePower.{one}
 use Rattle.elementary.specs.Exp.{inverseLn2, highest, lowest, below, halvings, signed, twoTo}
 use Rattle.elementary.specs.Ln.{half}
@@ -25,7 +29,7 @@ use Rattle.elementary.proofs.NearestSmall.{lift, goes-up, stays}
 use Rattle.elementary.proofs.Patterns.{field-is-no-nan, two-to-up, two-to-down}
 use Rattle.elementary.proofs.Roundings.{round-no-nan}
 use Rattle.elementary.proofs.Sizes.{size-above, size-shift}
-use Rattle.elementary.proofs.Values.{patternAt, pattern-of-value}
+use Rattle.numbers.proofs.Values.{patternAt, pattern-of-value}
 use Rattle.elementary.proofs.Wholes.{whole-value, whole-sum, whole-less}
 
 -- ---- the size of x / ln 2 is at most 1,024
@@ -75,14 +79,69 @@ as-it-is nan p h = absurd (p .0)
 as-it-is (inf s) p h = absurd (p .0)
 as-it-is (fin s m e) p h = stays m e (p .0) (p .1) h
 
-module _ (x : Float) (number : ne x x ≡ false) (not-above : lt highest x ≡ false) (not-beneath : lt x lowest ≡ false) (a : Float) (is : a ≡ absolute (mul binary64 x inverseLn2)) where
+-- the size as the program has it: below zero the number turned round, else the number itself, which may be -0
+abbrev pub Sized : Float → Float → Type 0
+Sized y a = ((lt y plusZero ≡ true) × (a ≡ neg y)) ⊎ ((lt y plusZero ≡ false) × (a ≡ y))
+
+minusZero : Float
+minusZero = fin true 0 (pos 0)
+
+turned : (y : Float) → lt y plusZero ≡ true → neg y ≡ absolute y
+unfolding lt neg absolute ofBits
+turned nan h = absurd (passes h)
+turned (inf true) h = refl
+turned (inf false) h = absurd (passes h)
+turned (fin true m e) h = refl
+turned (fin false m e) h = absurd (no (m * up e * 1) (down e) (ltb-true (m * up e * 1) (0 * 1 * down e) h))
+  where
+    no : (a d : ℕ) → a < 0 * 1 * d → ⊥
+    no a d g = omega arith
+
+kept : (y : Float) → T (fits binary64 y) → lt y plusZero ≡ false → (y ≡ absolute y) ⊎ (y ≡ minusZero)
+unfolding lt absolute ofBits fits minusZero
+kept nan f h = inl refl
+kept (inf true) f h = absurd (subst T h tt)
+kept (inf false) f h = inl refl
+kept (fin false m e) f h = inl refl
+kept (fin true m e) f h = inr (whole-unique binary64 (fin true m e) (fin true 0 (pos 0)) true 0 f tt (refl, none (m * up e * 1) (down e) (ltb-false 0 (m * up e * 1 + 0 * 1 * down e) h)) (refl, refl))
+  where
+    none : (a d : ℕ) → a + 0 * 1 * d ≤ 0 → a ≡ 0 * d
+    none a d h = omega arith
+
+sized : (y a : Float) → T (fits binary64 y) → Sized y a → (a ≡ absolute y) ⊎ ((a ≡ minusZero) × (y ≡ minusZero))
+sized y a f (inl w) = inl (w .1 ∙ turned y (w .0))
+sized y a f (inr w) = ⊎-elim (λ h. inl (w .1 ∙ h)) (λ h. inr (w .1 ∙ h, h)) (kept y f (w .0))
+
+zero-stays : le (add binary64 (nearby minusZero) half) minusZero ≡ false
+unfolding le lt eq add sub ofBits minusZero
+zero-stays = refl
+
+zero-as-it-is : nearby minusZero ≡ ofInt binary64 (pos (nearestWhole (absolute minusZero)))
+unfolding add sub ofBits ofInt nearestWhole absolute minusZero
+zero-as-it-is = refl
+
+module _ (x : Float) (number : ne x x ≡ false) (not-above : lt highest x ≡ false) (not-beneath : lt x lowest ≡ false) (a : Float) (is : Sized (mul binary64 x inverseLn2) a) where
+  abbrev y : Float
+  y = mul binary64 x inverseLn2
+
+  cases : (a ≡ absolute y) ⊎ ((a ≡ minusZero) × (y ≡ minusZero))
+  cases = sized y a (mul-fits binary64 x inverseLn2) is
+
   pub size-up : le (add binary64 (nearby a) half) a ≡ true → add binary64 (nearby a) one ≡ ofInt binary64 (pos (halvings x))
   unfolding halvings
-  size-up h = rw is (up-by-one (mul binary64 x inverseLn2) (small-size x number not-above not-beneath) (rw is at h))
+  size-up h =
+      ⊎-elim
+      (λ w. rw w (up-by-one y (small-size x number not-above not-beneath) (rw w at h)))
+      (λ w. absurd (subst T (sym (rw (w .0) at h) ∙ zero-stays) tt))
+      cases
 
   pub size-as-it-is : le (add binary64 (nearby a) half) a ≡ false → nearby a ≡ ofInt binary64 (pos (halvings x))
   unfolding halvings
-  size-as-it-is h = rw is (as-it-is (mul binary64 x inverseLn2) (small-size x number not-above not-beneath) (rw is at h))
+  size-as-it-is h =
+      ⊎-elim
+      (λ w. rw w (as-it-is y (small-size x number not-above not-beneath) (rw w at h)))
+      (λ w. ap nearby (w .0) ∙ zero-as-it-is ∙ ap (λ (z : Float). ofInt binary64 (pos (nearestWhole (absolute z)))) (sym (w .1)))
+      cases
 
 -- ---- 2 to the power k: 2 ^ 52 + 1023 is added, and the exponent's field 1023 + k stands in the last digits
 abbrev pub fieldLift : Float
@@ -176,5 +235,5 @@ scales true n h =
     turn : (n : ℕ) → n ≤ 1022 → 2 ^ 52 + 1023 - n ≡ 2 ^ 52 + (1023 - n)
     turn n h = omega arith
 
-pub scales-of : (x : Float) → lt highest x ≡ false → lt x lowest ≡ false → Scales (signed (below x) (halvings x)) (below x) (halvings x)
-scales-of x a b = scales (below x) (halvings x) (few-halvings x a b)
+pub scales-of : (x k : Float) → lt highest x ≡ false → lt x lowest ≡ false → k ≡ signed (below x) (halvings x) → Scales k (below x) (halvings x)
+scales-of x k a b e = rw e (scales (below x) (halvings x) (few-halvings x a b))

@@ -23,7 +23,7 @@ use Rattle.numbers.proofs.Ratios.{nearest-of-ratio, nearest-is, by-count}
 use Rattle.numbers.proofs.Snap.{snap, closest-within-half, WithinHalf, grid-is-snap}
 use Rattle.elementary.specs.WholePower.{one}
 use Rattle.elementary.specs.Ln.{half}
-use Rattle.elementary.proofs.Values.{same-value, count-of-value}
+use Rattle.numbers.proofs.Values.{same-value, count-of-value}
 use Rattle.elementary.proofs.Sizes.{size-above, same-difference, plain-difference}
 use Rattle.elementary.proofs.Wholes.{whole-value, whole-difference, whole-sum}
 

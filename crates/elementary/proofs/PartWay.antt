@@ -1,11 +1,13 @@
 -- Lists that a loop changes place by place: f of the first j numbers, and g of the others. Assumes nothing.
-use mathlib.Core.Path.{_≡_, refl, sym, ap, ap₂}
+use mathlib.Core.Path.{_≡_, refl, sym, ap, ap₂, _∙_}
 use mathlib.Core.List.{List, [], _∷_, _++_, map}
 use Prim.Native.Nat.{ℕ, zero, suc, _+_, _≤_, _<_}
 use native.Mathlib.Nat.{zero-add, suc-add, not-suc-le-zero, le-of-suc-le-suc}
 use native.Mathlib.Numerals.{add-one}
 use native.Mathlib.Omega.{arith}
+use borrow.Author.Count.{below-more}
 use lib.ListN.{length, length-map, getD, set, take, drop, replicate}
+use lib.Seq.{getD-set-same, getD-set-other}
 use lib.Ieee.{Float, nan}
 
 unfoldable pub partWay : (Float → Float) → (Float → Float) → ℕ → List Float → List Float
@@ -79,6 +81,15 @@ copies (suc n) v (x ∷ xs) e = ap (λ (r : List Float). v ∷ r) (copies n v xs
   where
     less : (a b : ℕ) → suc a ≡ suc b → a ≡ b
     less a b e = omega arith
+
+-- ---- places copied one by one
+pub copied-further : (xs ys : List Float) (j : ℕ) → j < length ys → ((k : ℕ) → k < j → getD ys k nan ≡ getD xs k nan)
+    → (k : ℕ) → k < j + 1 → getD (set ys j (getD xs j nan)) k nan ≡ getD xs k nan
+copied-further xs ys j h all =
+    below-more (λ (k : ℕ). getD (set ys j (getD xs j nan)) k nan ≡ getD xs k nan) j (λ k l. getD-set-other ys j k (getD xs j nan) nan (apart k l) ∙ all k l) (getD-set-same ys j (getD xs j nan) nan h)
+  where
+    apart : (k : ℕ) → k < j → k ≡ j → ⊥
+    apart k l e = omega (arith, e)
 
 -- ---- a part of the list, done at once
 front : (f : Float → Float) (n : ℕ) (xs : List Float) → map f (take n xs) ++ drop n xs ≡ partWay f (λ x. x) n xs

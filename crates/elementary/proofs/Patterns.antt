@@ -12,7 +12,7 @@ use lib.Ieee.Bits.{is-false, ofBits-fits, nanBits-is}
 use lib.Ieee.Exact.{HasValue, odd-sign, round-exact}
 use lib.Ieee.Fits.{round-fits}
 use Rattle.elementary.specs.Exp.{twoTo}
-use Rattle.elementary.proofs.Values.{same-value}
+use Rattle.numbers.proofs.Values.{same-value}
 
 opened : (f : Format) (b : ℕ) → ofBits f b ≡ ofFields f (leb (top f) b) (b % top f / hid f) (b % hid f)
 unfolding ofBits

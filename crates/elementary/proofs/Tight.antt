@@ -11,6 +11,8 @@ use Rattle.elementary.proofs.ln.ln.Kinds as ln-kinds
 use Rattle.elementary.proofs.ln.ln.Reads as ln
 use Rattle.elementary.proofs.power.power.Kinds as power-kinds
 use Rattle.elementary.proofs.power.power.Reads as power
+use Rattle.elementary.proofs.powers.sixteen_powers.Kinds as sixteen-powers-kinds
+use Rattle.elementary.proofs.powers.sixteen_powers.Reads as sixteen-powers
 use Rattle.elementary.proofs.whole_power.whole_power.Kinds as whole-power-kinds
 use Rattle.elementary.proofs.whole_power.whole_power.Reads as whole-power
 use Rattle.elementary.proofs.whole_power.negative_power.Kinds as negative-power-kinds
@@ -33,3 +35,6 @@ whole-power-determined κs a x y e e′ p q = p ∙ sym q
 
 pub negative-power-determined : Determined 0 negative-power-kinds.ps negative-power-kinds.r negative-power.Post
 negative-power-determined κs a x y e e′ p q = p ∙ sym q
+
+pub sixteen-powers-determined : Determined 0 sixteen-powers-kinds.ps sixteen-powers-kinds.r sixteen-powers.Post
+sixteen-powers-determined κs a x y e e′ p q = p ∙ sym q

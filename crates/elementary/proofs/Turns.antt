@@ -1,12 +1,14 @@
--- Repeated squaring turn by turn: how many turns are allowed does not matter once the exponent's halvings are done. Assumes nothing.
-use mathlib.Core.Path.{_≡_, refl, _∙_}
+-- Repeated squaring turn by turn: how many turns are allowed does not matter once the exponent's halvings are done, and an even exponent may multiply by 1.
+-- Assumes nothing.
+use mathlib.Core.Path.{_≡_, refl, ap, _∙_}
 use Prim.Native.Nat.{ℕ, zero, suc, _/_, _%_, _≤_}
 use native.Mathlib.Omega.{arith}
-use mathlib.Core.Bool.{cond}
-use lib.Dec.{eqb}
-use lib.Ieee.{Float, binary64, mul}
+use mathlib.Core.Bool.{Bool, true, false, cond}
+use lib.Dec.{T, eqb}
+use lib.Ieee.{Float, binary64, mul, fits}
 use borrow.Author.Tests.{eq-eqb, ne-eqb}
-use Rattle.elementary.specs.WholePower.{turns}
+use Rattle.elementary.specs.WholePower.{one, turns}
+use Rattle.elementary.proofs.Unrounded.{times-one}
 
 half-fits : (m k : ℕ) → suc m ≤ suc k → suc m / 2 ≤ k
 half-fits m k h = omega arith
@@ -28,6 +30,11 @@ pub turn : (n : ℕ) (p b : Float) → (n ≡ 0 → ⊥)
 unfolding turns
 turn zero p b h = absurd (h refl)
 turn (suc m) p b h = enough m (suc m / 2) (suc m / 2) _ _ (half-fits m m (omega arith)) (omega arith)
+
+-- the product times the square or times 1
+pub chosen : (odd : Bool) (p b factor : Float) → T (fits binary64 p) → factor ≡ cond odd b one → mul binary64 p factor ≡ cond odd (mul binary64 p b) p
+chosen true p b factor t e = ap (mul binary64 p) e
+chosen false p b factor t e = ap (mul binary64 p) e ∙ times-one p t
 
 -- the loop's turn, where some is left and where none is
 pub turn-on : (n : ℕ) (p q b : Float) → (n ≡ 0 → ⊥) → q ≡ cond (eqb (n % 2) 1) (mul binary64 p b) p → (n / 2 ≡ 0 → ⊥)

@@ -3,44 +3,22 @@
 use mathlib.Core.Path.{_≡_, refl, sym, ap, _∙_, subst}
 use mathlib.Core.Bool.{Bool, true, false}
 use Prim.Native.Nat.{ℕ, zero, suc, _+_, _-_, _*_, _^_, _<_}
-use native.Mathlib.Nat.{mul-pos, zero-lt-suc, le-of-lt, eq-of-mul-eq-mul-right}
+use native.Mathlib.Nat.{mul-pos, zero-lt-suc, le-of-lt}
 use native.Mathlib.Omega.{arith}
 use lib.IntN.{ℤ, pos}
 use lib.Dec.{T, eqb}
 use lib.Ieee.{Float, nan, inf, fin, Format, binary64, low, up, down, fits, unlike, round, sum, add, mul, div, lt, sub, ofBits}
-use lib.Ieee.Exact.{round-exact}
-use lib.Ieee.Fits.{up-pos, down-pos, round-fits}
-use lib.Ieee.Scale.{finite, overflow}
+use lib.Ieee.Fits.{up-pos, down-pos}
+use lib.Ieee.Scale.{finite}
 use borrow.Author.Tests.{le-ltb, lt-ltb, ne-eqb}
 use Rattle.numbers.specs.Clamps.{plusZero}
 use Rattle.numbers.specs.Units.{count}
 use Rattle.numbers.proofs.Zeros.{round-nothing}
-use Rattle.numbers.proofs.Amounts.{amount, counts, held, one-count}
+use Rattle.numbers.proofs.Amounts.{amount, one-count}
 use Rattle.numbers.proofs.Order.{zero-amount, lt-amount}
 use Rattle.numbers.proofs.Differences.{difference, left-above-amounts}
+use Rattle.numbers.proofs.Values.{round-itself}
 use Rattle.elementary.specs.WholePower.{one}
-use Rattle.elementary.proofs.Values.{same-value}
-
-unsigned : (f : Format) (s : Bool) (m : ℕ) (e : ℤ) → T (fits f (fin s m e)) → T (amount f (fin false m e))
-unfolding fits amount
-unsigned f s zero e t = t
-unsigned f s (suc m) e t = t
-
--- a fraction of the size of a value that the format holds rounds to that value
-pub round-itself : (f : Format) (s : Bool) (m : ℕ) (e : ℤ) (num den : ℕ) → T (fits f (fin s m e)) → 0 < den → num * down e ≡ m * up e * den → round f s num den ≡ fin s m e
-round-itself f s m e num den t D h =
-    let a = unsigned f s m e t in
-    let k = held f (fin false m e) a in
-    let n = count f (fin false m e) in
-    let c : m * up e * 2 ^ low f ≡ n * down e = counts f (fin false m e) a .1 in
-    same-value f (round f s num den) (fin s m e) s num den (m * up e) (down e) D (down-pos e) (round-fits f s num den) t
-    (round-exact f s num den (k .digits) (k .shift) D (k .small) (subst (λ (z : ℕ). z < overflow f) (k .is) (k .below))
-    (subst (λ (z : ℕ). num * 2 ^ low f ≡ z * den) (k .is) (eq-of-mul-eq-mul-right (down e) (down-pos e) (num * 2 ^ low f) (n * den) (turn (down e) (m * up e) (2 ^ low f) n h c))))
-    (refl, refl)
-    h
-  where
-    turn : (d M L n : ℕ) → num * d ≡ M * den → M * L ≡ n * d → num * L * d ≡ n * den * d
-    turn d M L n h c = omega (arith, ap (λ (z : ℕ). z * L) h, ap (λ (z : ℕ). z * den) c)
 
 -- ---- the zeros, and values other than 0
 abbrev pub nought : Bool → Float
@@ -149,6 +127,13 @@ mul-one (fin s m e) t h =
   where
     turn : (M d : ℕ) → M * (1 * 1) * d ≡ M * (d * 1)
     turn M d = omega arith
+
+-- the same of every number, NaN and the infinities among them
+pub times-one : (x : Float) → T (fits binary64 x) → mul binary64 x one ≡ x
+unfolding mul
+times-one nan t = refl
+times-one (inf s) t = ap (mul binary64 (inf s)) one-is ∙ ap inf (unlike-plus s)
+times-one (fin s m e) t = mul-one (fin s m e) t tt
 
 pub div-itself : (x : Float) → T (nonzero x) → div binary64 x x ≡ one
 unfolding div fits

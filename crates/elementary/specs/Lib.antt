@@ -1,4 +1,5 @@
 pub mod WholePower
+pub mod Powers
 pub mod Horner
 pub mod Exp
 pub mod Ln

@@ -2,13 +2,12 @@
 ghost use mathlib.Core.Path.{_≡_};
 ghost use mathlib.Core.Bool.{true, false};
 ghost use mathlib.Core.List.{map};
-ghost use Prim.Native.Nat.{ℕ, _<_};
+ghost use Prim.Native.Nat.{ℕ, _<_, _≤_, _%_};
 ghost use lib.ListN.{length, getD};
 ghost use lib.IntN.{pos};
 ghost use lib.Ieee.{nan, binary64, lt, ne, ofInt};
 ghost use Rattle.elementary.specs.Horner.{horner};
 ghost use Rattle.elementary.specs.Exp.{inverseFactorial, signed, twoTo, reduced, highest, lowest, below, halvings, exp};
-use numbers::sizes::absolute_value;
 use numbers::sizes::infinity;
 
 // 1/k! for k from 0 to 13, each rounded once.
@@ -62,7 +61,8 @@ fn size_of(x: f64) -> f64
     requires { ⌜ (ne x x ≡ false) × (lt highest x ≡ false) × (lt x lowest ≡ false) ⌝ }
     ensures { λ r. ⌜ r ≡ ofInt binary64 (pos (halvings x)) ⌝ }
 {
-    let a = absolute_value(x * 1.4426950408889634);
+    let y = x * 1.4426950408889634;
+    let a = if y < 0.0 { -y } else { y };
     let n = (a + 4503599627370496.0) - 4503599627370496.0;
     if a >= n + 0.5 { n + 1.0 } else { n }
 }
@@ -80,20 +80,52 @@ fn multiple_of(x: f64) -> f64
     }
 }
 
-// x less k times ln 2.
-fn rest_of(x: f64) -> f64
-    requires { ⌜ (ne x x ≡ false) × (lt highest x ≡ false) × (lt x lowest ≡ false) ⌝ }
-    ensures { λ r. ⌜ r ≡ reduced x (signed (below x) (halvings x)) ⌝ }
-{
-    taken_off(x, multiple_of(x))
-}
-
 // 2 to the power k: over 2^52 the last digits of a float are a whole number, here the exponent's field.
-fn scale_of(x: f64) -> f64
-    requires { ⌜ (ne x x ≡ false) × (lt highest x ≡ false) × (lt x lowest ≡ false) ⌝ }
+fn scale_of(x: f64, k: f64) -> f64
+    requires { ⌜ (lt highest x ≡ false) × (lt x lowest ≡ false) × (k ≡ signed (below x) (halvings x)) ⌝ }
     ensures { λ r. ⌜ r ≡ twoTo (below x) (halvings x) ⌝ }
 {
-    f64::from_bits(f64::to_bits(multiple_of(x) + 4503599627371519.0) << 52)
+    f64::from_bits(f64::to_bits(k + 4503599627371519.0) << 52)
+}
+
+// The steps that follow from k.
+fn by_multiple(x: f64, k: f64) -> f64
+    requires { ⌜ (ne x x ≡ false) × (lt highest x ≡ false) × (lt x lowest ≡ false) × (k ≡ signed (below x) (halvings x)) ⌝ }
+    ensures { λ r. ⌜ r ≡ exp x ⌝ }
+{
+    series(taken_off(x, k)) * scale_of(x, k)
+}
+
+fn between_ends(x: f64) -> f64
+    requires { ⌜ (ne x x ≡ false) × (lt highest x ≡ false) × (lt x lowest ≡ false) ⌝ }
+    ensures { λ r. ⌜ r ≡ exp x ⌝ }
+{
+    by_multiple(x, multiple_of(x))
+}
+
+// The same where x / ln 2 is below zero: nothing waits for the test for a half, which is rare.
+fn below_zero(x: f64) -> f64
+    requires { ⌜ (ne x x ≡ false) × (lt highest x ≡ false) × (lt x lowest ≡ false) × (below x ≡ true) ⌝ }
+    ensures { λ r. ⌜ r ≡ exp x ⌝ }
+{
+    let a = -(x * 1.4426950408889634);
+    let n = (a + 4503599627370496.0) - 4503599627370496.0;
+    if a >= n + 0.5 {
+        return between_ends(x);
+    }
+    by_multiple(x, -n)
+}
+
+fn not_below_zero(x: f64) -> f64
+    requires { ⌜ (ne x x ≡ false) × (lt highest x ≡ false) × (lt x lowest ≡ false) × (below x ≡ false) ⌝ }
+    ensures { λ r. ⌜ r ≡ exp x ⌝ }
+{
+    let a = x * 1.4426950408889634;
+    let n = (a + 4503599627370496.0) - 4503599627370496.0;
+    if a >= n + 0.5 {
+        return between_ends(x);
+    }
+    by_multiple(x, n)
 }
 
 pub fn exp(x: f64) -> f64
@@ -108,50 +140,28 @@ pub fn exp(x: f64) -> f64
     if x < -708.0 {
         return 0.0;
     }
-    series(rest_of(x)) * scale_of(x)
+    if x * 1.4426950408889634 < 0.0 {
+        return below_zero(x);
+    }
+    not_below_zero(x)
 }
 
-// Whether each is a number between the ends.
+// Whether each of sixteen is a number between the ends.
 fn all_inside(numbers: &[f64]) -> bool
+    requires { ⌜ length (now numbers) ≡ 16 ⌝ }
     ensures { λ r. ⌜ (r ≡ true → (k : ℕ) → k < length (now (numbers .entry))
         → (ne (getD (now (numbers .entry)) k nan) (getD (now (numbers .entry)) k nan) ≡ false)
         × (lt highest (getD (now (numbers .entry)) k nan) ≡ false)
         × (lt (getD (now (numbers .entry)) k nan) lowest ≡ false)) ⌝ }
 {
+    let mut inside = true;
     let mut j: usize = 0;
-    while j < numbers.len() {
+    while j < 16 {
         let x = numbers[j];
-        if x != x {
-            return false;
-        }
-        if x > 709.0 {
-            return false;
-        }
-        if x < -708.0 {
-            return false;
-        }
+        inside = inside & (x <= 709.0) & (x >= -708.0);
         j += 1;
     }
-    true
-}
-
-// Eight sums of the series at once.
-fn series_of_eight(rests: &[f64]) -> [f64; 8]
-    requires { ⌜ length (now rests) ≡ 8 ⌝ }
-    ensures { λ r. ⌜ r ≡ map (λ x. horner inverseFactorial x 0 13) (now (rests .entry)) ⌝ }
-{
-    let mut sums = [inverse_factorial(13); 8];
-    let mut k: usize = 13;
-    while k > 0 {
-        k -= 1;
-        let c = inverse_factorial(k);
-        let mut j: usize = 0;
-        while j < 8 {
-            sums[j] = sums[j] * rests[j] + c;
-            j += 1;
-        }
-    }
-    sums
+    inside
 }
 
 // Each number's exp in its place, one at a time.
@@ -165,25 +175,25 @@ fn exp_one_by_one(numbers: &mut [f64])
     }
 }
 
-// Eight at once, where each is a number between the ends.
-fn exp_eight(numbers: &mut [f64])
-    requires { ⌜ length (now numbers) ≡ 8 ⌝ }
+// Sixteen at once, where each is a number between the ends.
+fn exp_sixteen(numbers: &mut [f64])
+    requires { ⌜ length (now numbers) ≡ 16 ⌝ }
     ensures { λ _. ⌜ now (numbers .exit) ≡ map exp (now (numbers .entry)) ⌝ }
 {
     if all_inside(numbers) {
-        let mut rests = [0.0; 8];
-        let mut scales = [0.0; 8];
+        let mut rests = [0.0; 16];
+        let mut scales = [0.0; 16];
         let mut j: usize = 0;
-        while j < 8 {
+        while j < 16 {
             let x = numbers[j];
-            rests[j] = rest_of(x);
-            scales[j] = scale_of(x);
+            let k = multiple_of(x);
+            rests[j] = taken_off(x, k);
+            scales[j] = scale_of(x, k);
             j += 1;
         }
-        let sums = series_of_eight(&rests);
         let mut i: usize = 0;
-        while i < 8 {
-            numbers[i] = sums[i] * scales[i];
+        while i < 16 {
+            numbers[i] = series(rests[i]) * scales[i];
             i += 1;
         }
     } else {
@@ -191,15 +201,65 @@ fn exp_eight(numbers: &mut [f64])
     }
 }
 
-// Each number's exp in its place, eight at a time.
-pub fn exp_each(numbers: &mut [f64])
+// The numbers, and zeros behind them.
+fn filled_up(numbers: &[f64]) -> [f64; 16]
+    requires { ⌜ length (now numbers) ≤ 16 ⌝ }
+    ensures { λ r. ⌜ (length r ≡ 16) × ((k : ℕ) → k < length (now (numbers .entry)) → getD r k nan ≡ getD (now (numbers .entry)) k nan) ⌝ }
+{
+    let mut room = [0.0; 16];
+    let mut j: usize = 0;
+    while j < numbers.len() {
+        room[j] = numbers[j];
+        j += 1;
+    }
+    room
+}
+
+// Whole blocks of sixteen.
+fn exp_blocks(numbers: &mut [f64])
+    requires { ⌜ length (now numbers) % 16 ≡ 0 ⌝ }
     ensures { λ _. ⌜ now (numbers .exit) ≡ map exp (now (numbers .entry)) ⌝ }
 {
     let mut at: usize = 0;
-    while numbers.len() - at >= 8 {
-        let end = at + 8;
-        exp_eight(&mut numbers[at..end]);
+    while at < numbers.len() {
+        let end = at + 16;
+        exp_sixteen(&mut numbers[at..end]);
         at = end;
     }
-    exp_one_by_one(&mut numbers[at..]);
+}
+
+// Up to sixteen at once, in room for sixteen.
+fn exp_few(numbers: &mut [f64])
+    requires { ⌜ length (now numbers) ≤ 16 ⌝ }
+    ensures { λ _. ⌜ now (numbers .exit) ≡ map exp (now (numbers .entry)) ⌝ }
+{
+    let mut room = filled_up(numbers);
+    exp_blocks(&mut room);
+    let mut j: usize = 0;
+    while j < numbers.len() {
+        numbers[j] = room[j];
+        j += 1;
+    }
+}
+
+// Fewer than sixteen: up to four are quicker one by one.
+fn exp_last(numbers: &mut [f64])
+    requires { ⌜ length (now numbers) ≤ 16 ⌝ }
+    ensures { λ _. ⌜ now (numbers .exit) ≡ map exp (now (numbers .entry)) ⌝ }
+{
+    if numbers.len() <= 4 {
+        exp_one_by_one(numbers);
+    } else {
+        exp_few(numbers);
+    }
+}
+
+// Each number's exp in its place, sixteen at a time.
+pub fn exp_each(numbers: &mut [f64])
+    ensures { λ _. ⌜ now (numbers .exit) ≡ map exp (now (numbers .entry)) ⌝ }
+{
+    let start: usize = 0;
+    let end = numbers.len() - numbers.len() % 16;
+    exp_blocks(&mut numbers[start..end]);
+    exp_last(&mut numbers[end..]);
 }

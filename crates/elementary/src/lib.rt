@@ -2,4 +2,5 @@
 pub mod exp;
 pub mod ln;
 pub mod power;
+pub mod powers;
 pub mod whole_power;

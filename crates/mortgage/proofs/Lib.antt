@@ -2,6 +2,8 @@ pub mod Portions
 pub mod Columns
 pub mod RowLaws
 pub mod DrawCases
+pub mod Apart
+pub mod PairLaws
 pub mod DrawLaws
 pub mod Sequences
 pub mod RowsRepay

@@ -10,14 +10,14 @@ use lib.Seq.{sets, sets-eq, take-append-seam, drop-append-add, drop-drop, take-a
 use Rattle.mortgage.specs.Steps.{stepped, written, laid}
 
 -- stores behind a list that stands at the front of a room
-behind : {A : Type 0} (p vs o : List A) → length p + length vs ≤ length o
+pub behind : {A : Type 0} (p vs o : List A) → length p + length vs ≤ length o
     → sets (p ++ drop (length p) o) (length p) vs ≡ (p ++ vs) ++ drop (length p + length vs) o
 behind p vs o h =
     let b : length p + length vs ≤ length (p ++ drop (length p) o) = simp (length-append, length-drop) (omega arith) in
     sets-eq vs (p ++ drop (length p) o) (length p) b ∙ simp (take-append-seam, drop-append-add, drop-drop, append-assoc)
 
 -- a list laid into the rest of a room, behind a list that stands at its front
-beyond : {A : Type 0} (p r o o₁ : List A) (i j : ℕ) → length p ≡ i → i + j ≤ length o → o₁ ≡ p ++ drop i o
+pub beyond : {A : Type 0} (p r o o₁ : List A) (i j : ℕ) → length p ≡ i → i + j ≤ length o → o₁ ≡ p ++ drop i o
     → take i o₁ ++ ((r ++ drop j (take (length o₁ - i) (drop i o₁))) ++ drop (length o₁ - i) (drop i o₁)) ≡ (p ++ r) ++ drop (i + j) o
 beyond p r o o₁ i j h b e =
     let t : take i o₁ ≡ p = rw e (take-at p (drop i o) i h) in

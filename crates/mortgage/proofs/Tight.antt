@@ -1,10 +1,11 @@
--- How tight the promises of payments, openings, rows and draws are: whatever a public function is given, any two results that its contract allows are equal, and for a draw so are
--- any two rooms that it may leave. Assumes nothing.
+-- How tight the promises of payments, verdicts on terms, openings, rows and draws are: whatever a public function is given, any two results that its contract allows are equal, and for a draw, and for rows laid at
+-- places of a room, so are any two rooms that it may leave. Assumes nothing.
 use mathlib.Core.Path.{_≡_, refl, sym, ap, _∙_}
 use mathlib.Core.List.{List}
 use lib.Ieee.{Float}
 use Rattle.numbers.proofs.Determined.{Determined, Settled}
-use Rattle.refusals.proofs.OneToOne.{same-refusal, number-one-to-one}
+use Rattle.refusals.proofs.OneToOne.{same-refusal, verdict-one-to-one, number-one-to-one}
+use Rattle.mortgage.specs.declared.Loan.{Loan}
 use Rattle.mortgage.specs.declared.opening.Opening.{Opening}
 use Rattle.mortgage.specs.declared.opening.Opening.the-variants as opening-is
 use Rattle.mortgage.specs.declared.rows.Next.{Next}
@@ -26,6 +27,12 @@ use Rattle.mortgage.proofs.rows.next_row.Kinds as next-row-kinds
 use Rattle.mortgage.proofs.rows.next_row.Reads as next-row
 use Rattle.mortgage.proofs.draws.draw.Kinds as draw-kinds
 use Rattle.mortgage.proofs.draws.draw.Reads as draw
+use Rattle.mortgage.proofs.terms.judge_terms.Kinds as judge-terms-kinds
+use Rattle.mortgage.proofs.terms.judge_terms.Reads as judge-terms
+use Rattle.mortgage.proofs.pairs.lay_at.Kinds as lay-at-kinds
+use Rattle.mortgage.proofs.pairs.lay_at.Reads as lay-at
+use Rattle.mortgage.proofs.pairs.lay_both.Kinds as lay-both-kinds
+use Rattle.mortgage.proofs.pairs.lay_both.Reads as lay-both
 
 -- ---- each answer has its own outcome
 pub opening-one-to-one : (x y : Opening) → openingOutcome x ≡ openingOutcome y → x ≡ y
@@ -73,3 +80,20 @@ draw-room-settled κs a x y w w′ p q = ap (λ (l : List Float). (tt, (l, tt)))
 
 pub rows-due-determined : Determined 0 rows-due-kinds.ps rows-due-kinds.r rows-due.Post
 rows-due-determined κs a x y e e′ p q = p ∙ sym q
+
+pub judge-terms-determined : Determined 0 judge-terms-kinds.ps judge-terms-kinds.r judge-terms.Post
+judge-terms-determined κs a x y e e′ p q = verdict-one-to-one x y (p ∙ sym q)
+
+-- ---- rows at places of a room, the second parameter of one loan's and the third of two loans'
+pub lay-at-determined : Determined 1 lay-at-kinds.ps lay-at-kinds.r lay-at.Post
+lay-at-determined κs a x y e e′ p q = p .0 ∙ sym (q .0)
+
+pub lay-at-room-settled : Settled 1 lay-at-kinds.ps lay-at-kinds.r lay-at.Post
+lay-at-room-settled κs a x y w w′ p q = ap (λ (l : List Float). (tt, (l, (tt, (tt, tt))))) (p .1 ∙ sym (q .1))
+
+pub lay-both-determined : Determined 1 lay-both-kinds.ps lay-both-kinds.r lay-both.Post
+lay-both-determined κs a x y e e′ p q =
+    ap (λ (l : Loan). record { first = l; second = x .second }) (p .0 .0 ∙ sym (q .0 .0)) ∙ ap (λ (l : Loan). record { first = y .first; second = l }) (p .0 .1 ∙ sym (q .0 .1))
+
+pub lay-both-room-settled : Settled 1 lay-both-kinds.ps lay-both-kinds.r lay-both.Post
+lay-both-room-settled κs a x y w w′ p q = ap (λ (l : List Float). (tt, (tt, (l, (tt, (tt, (tt, tt))))))) (p .1 ∙ sym (q .1))

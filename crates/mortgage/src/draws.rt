@@ -44,7 +44,7 @@ fn fewer(due: u32, room: usize) -> u32
 }
 
 // The numbers of a row, from a place of the room.
-fn put_row(room: &mut [f64], at: usize, row: Row)
+pub(crate) fn put_row(room: &mut [f64], at: usize, row: Row)
     requires { ⌜ at + width ≤ length (now room) ⌝ }
     ensures { λ _. ⌜ now (room .exit) ≡ sets (now (room .entry)) at (places row) ⌝ }
 {
@@ -108,7 +108,7 @@ fn any_rows(loan: Loan, room: &mut [f64], count: u32) -> Loan
 }
 
 // The next rows: ordinary months in a loop of their own, then what is left. The last month of a loan is no ordinary one.
-fn lay_rows(loan: Loan, room: &mut [f64], count: u32, most: u32) -> Loan
+pub(crate) fn lay_rows(loan: Loan, room: &mut [f64], count: u32, most: u32) -> Loan
     requires { ⌜ (count * width ≤ length (now room)) × (loan .done + count ≤ endMonth loan) ⌝ }
     requires { ⌜ (most ≤ count) × (loan .done + most < endMonth loan) ⌝ }
     ensures { λ r. ⌜ r ≡ after count loan ⌝ }

@@ -2,6 +2,7 @@
 pub mod breakeven;
 pub mod draws;
 pub mod opening;
+pub mod pairs;
 pub mod payment;
 pub mod rows;
 pub mod savings;

@@ -6,7 +6,7 @@ ghost use Rattle.mortgage.specs.Terms.{termsLines};
 use records::Terms;
 use refusals::Verdict;
 
-pub(crate) fn judge_terms(terms: Terms) -> Verdict
+pub fn judge_terms(terms: Terms) -> Verdict
     ensures { λ r. ⌜ verdictOutcome r ≡ judged (termsLines terms) tt ⌝ }
 {
     if refusals::bad_amount(terms.principal) {

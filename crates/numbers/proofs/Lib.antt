@@ -5,6 +5,7 @@ pub mod Zeros
 pub mod Amounts
 pub mod Order
 pub mod Snap
+pub mod Values
 pub mod Ratios
 pub mod Truncation
 pub mod WholeNumbers

@@ -5,6 +5,8 @@ use Rattle.numbers.proofs.clamps.raise_to_zero.Kinds as raise-to-zero-k
 use Rattle.numbers.proofs.clamps.raise_to_zero.Reads as raise-to-zero
 use Rattle.numbers.proofs.clamps.lower_to.Kinds as lower-to-kinds
 use Rattle.numbers.proofs.clamps.lower_to.Reads as lower-to
+use Rattle.numbers.proofs.patterns.is_nan.Kinds as is-nan-kinds
+use Rattle.numbers.proofs.patterns.is_nan.Reads as is-nan
 use Rattle.numbers.proofs.patterns.float_of.Kinds as float-of-kinds
 use Rattle.numbers.proofs.patterns.float_of.Reads as float-of
 use Rattle.numbers.proofs.patterns.pattern_of.Kinds as pattern-of-kinds
@@ -25,6 +27,9 @@ raise-to-zero-determined κs a x y e e′ p q = p ∙ sym q
 
 pub lower-to-determined : Determined 0 lower-to-kinds.ps lower-to-kinds.r lower-to.Post
 lower-to-determined κs a x y e e′ p q = p ∙ sym q
+
+pub is-nan-determined : Determined 0 is-nan-kinds.ps is-nan-kinds.r is-nan.Post
+is-nan-determined κs a x y e e′ p q = p ∙ sym q
 
 pub float-of-determined : Determined 0 float-of-kinds.ps float-of-kinds.r float-of.Post
 float-of-determined κs a x y e e′ p q = p ∙ sym q

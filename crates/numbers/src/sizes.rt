@@ -18,15 +18,9 @@ pub fn infinity() -> f64
     1.0 / 0.0
 }
 
-// The size of x: a zero of either sign gives +0, a NaN stays.
+// The size of x: a zero of either sign gives +0, a NaN stays. Taken from 0 so that the compiler knows it for one instruction.
 pub fn absolute_value(x: f64) -> f64
     ensures { λ r. ⌜ r ≡ absolute x ⌝ }
 {
-    if x < 0.0 {
-        return -x;
-    }
-    if x == 0.0 {
-        return 0.0;
-    }
-    x
+    if x > 0.0 { x } else { 0.0 - x }
 }

@@ -10,7 +10,7 @@ use Rattle.refusals.specs.Table.{badAmount, badTerm}
 use Rattle.refusals.proofs.Verdicts.{verdict}
 use Rattle.records.specs.declared.Terms.{Terms}
 use Rattle.pool.specs.Loans.{loanCount, badRecords, anyOf, loansIn, poolLines}
-use Rattle.pool.specs.Places.{placed}
+use Rattle.refusals.specs.Places.{placed}
 use Rattle.pool.proofs.Placing.{byLine, none-caused, some-caused, past, stopped}
 
 abbrev pub principals : List ℕ → List Bool

@@ -11,7 +11,7 @@ use Rattle.refusals.specs.Answers.{verdictOutcome}
 use Rattle.refusals.specs.Outcome.{Outcome, refused, accepted, Line, firstOr, judged}
 use Rattle.refusals.proofs.Verdicts.{verdict, refused-alike, accepted-alike}
 use Rattle.pool.specs.Loans.{anyOf}
-use Rattle.pool.specs.Places.{placed}
+use Rattle.refusals.specs.Places.{placed}
 
 -- what line k says of a list of causes, from place p on
 abbrev pub byLine : ℕ → ℕ → List Bool → Outcome Unit

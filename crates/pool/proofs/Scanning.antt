@@ -9,7 +9,7 @@ use Rattle.numbers.specs.Whole.{largest}
 use Rattle.refusals.specs.declared.Refusal.{Refusal}
 use Rattle.refusals.specs.Outcome.{Outcome, refused, accepted, firstOr}
 use Rattle.pool.specs.Loans.{ofEach}
-use Rattle.pool.specs.Places.{placed}
+use Rattle.refusals.specs.Places.{placed}
 use Rattle.pool.proofs.Placing.{byLine}
 use Rattle.pool.proofs.Each.{from, from-start, map-each}
 

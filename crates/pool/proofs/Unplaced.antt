@@ -10,7 +10,7 @@ use Rattle.numbers.specs.Whole.{largest}
 use Rattle.refusals.specs.Outcome.{Outcome, refused, accepted, alone, firstOr, judged}
 use Rattle.records.specs.declared.Terms.{Terms}
 use Rattle.pool.specs.Loans.{loanCount, loanAt, ofEach, otherKind, badRecords, anyOf, unlessBad, loansIn, poolLines}
-use Rattle.pool.specs.Places.{placed}
+use Rattle.refusals.specs.Places.{placed}
 use Rattle.pool.proofs.Lines.{principals, terms}
 
 as-it-is : {Value : Type 0} (k p : ℕ) (bs : List Bool) (rest : Outcome Value) → p + length bs ≤ 4294967295 → placed rest ≡ rest → placed (firstOr k p bs rest) ≡ firstOr k p bs rest

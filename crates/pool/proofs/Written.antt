@@ -13,7 +13,7 @@ use Rattle.refusals.specs.Outcome.{Outcome, refused, accepted, Line, judged}
 use Rattle.refusals.proofs.Verdicts.{verdict, refused-alike, accepted-alike}
 use Rattle.records.specs.declared.Terms.{Terms}
 use Rattle.pool.specs.declared.speed.Speed.{Speed}
-use Rattle.pool.specs.Places.{placed}
+use Rattle.refusals.specs.Places.{placed}
 use Rattle.pool.specs.Flows.{width, firstMonths, flowsIntoBy}
 
 module _ (ls : List Line) (v : ℕ) (loans : List Terms) (speed : Speed) (history room : List Float) where

@@ -1,6 +1,5 @@
 pub mod Speed
 pub mod Loans
-pub mod Places
 pub mod Months
 pub mod Totals
 pub mod Flows

@@ -9,7 +9,7 @@ ghost use Rattle.refusals.specs.Answers.{countOutcome};
 ghost use Rattle.refusals.specs.Table.{badAmount, badTerm};
 ghost use Rattle.pool.specs.Speed.{smm};
 ghost use Rattle.pool.specs.Loans.{badRecords, anyOf, longest, loansIn};
-ghost use Rattle.pool.specs.Places.{placed};
+ghost use Rattle.refusals.specs.Places.{placed};
 ghost use Rattle.pool.specs.Flows.{width, firstMonths, cashFlows, flowsInto};
 ghost use Rattle.pool.specs.Walk.{loansAdded};
 use crate::loans::judge_pool;

@@ -2,38 +2,20 @@
 ghost use mathlib.Core.Path.{_≡_};
 ghost use mathlib.Core.Bool.{false, _&&_};
 ghost use mathlib.Core.List.{[], _∷_, map};
-ghost use Prim.Native.Nat.{_<_, min, max};
+ghost use Prim.Native.Nat.{_<_, max};
 ghost use lib.Dec.{ltb};
-ghost use Rattle.numbers.specs.Whole.{largest};
 ghost use Rattle.refusals.specs.Outcome.{accepted, line, firstOr, judged};
 ghost use Rattle.refusals.specs.Answers.{verdictOutcome};
 ghost use Rattle.refusals.specs.Table.{badAmount, badTerm};
 ghost use Rattle.pool.specs.Loans.{loanCount, loanAt, ofEach, otherKind, badRecords, anyOf, longest, loansIn, poolLines};
-ghost use Rattle.pool.specs.Places.{placed};
+ghost use Rattle.refusals.specs.Places.{placed};
 ghost use Rattle.pool.specs.Flows.{tooLittle};
 use records::Terms;
 use records::TermsRead;
 use records::terms_record::TERMS_KIND;
 use records::terms_record::TERMS_SIZE;
-use refusals::Refusal;
 use refusals::Verdict;
-
-// The refusal of a line at an index.
-fn refuse_at(number: u32, i: usize) -> Refusal
-    ensures { λ r. ⌜ (r .number ≡ number) × (r .place ≡ min i largest) ⌝ }
-{
-    if i < 4294967295 {
-        Refusal {
-            number,
-            place: i as u32,
-        }
-    } else {
-        Refusal {
-            number,
-            place: 4294967295,
-        }
-    }
-}
+use refusals::refuse_at;
 
 // How many records the bytes hold.
 pub(crate) fn loan_count(bytes: &[u8]) -> usize

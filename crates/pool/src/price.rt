@@ -10,7 +10,7 @@ ghost use Rattle.refusals.specs.Answers.{numberOutcome};
 ghost use Rattle.refusals.specs.Table.{badAmount, badTerm};
 ghost use Rattle.mortgage.specs.Payment.{monthlyRate};
 ghost use Rattle.pool.specs.Loans.{badRecords, anyOf, longest, loansIn};
-ghost use Rattle.pool.specs.Places.{placed};
+ghost use Rattle.refusals.specs.Places.{placed};
 ghost use Rattle.pool.specs.Flows.{width};
 ghost use Rattle.pool.specs.Price.{priceAt, durationFor, convexityFor, poolPrice, poolDuration, poolConvexity};
 ghost use Rattle.pool.specs.Walk.{worthIn};

@@ -4,7 +4,7 @@ ghost use mathlib.Core.Bool.{false};
 ghost use lib.IntN.{pos};
 ghost use lib.Ieee.{binary64, mul, ofInt};
 ghost use Rattle.pool.specs.Loans.{badRecords, anyOf, loansIn};
-ghost use Rattle.pool.specs.Places.{placed};
+ghost use Rattle.refusals.specs.Places.{placed};
 ghost use Rattle.pool.specs.Totals.{sumOf, balanceOf, totalsOf, poolTotals, totalsOutcome};
 use crate::loans::judge_pool;
 use crate::loans::loan_at;

@@ -6,6 +6,7 @@ use crate::BondRead;
 use crate::BondRecord;
 use crate::bad_record;
 use crate::fields;
+use numbers::patterns::is_nan;
 
 pub const BOND_KIND: u8 = 2;
 
@@ -35,7 +36,32 @@ pub fn bond_fields(bytes: &[u8]) -> BondRead
     BondRead::Given(bond_in(bytes))
 }
 
+// Where no number is a NaN the patterns are the numbers, and the three tests come before anything is done with one.
 fn bond_in(bytes: &[u8]) -> BondRecord
+    requires { ⌜ length (now bytes) ≡ 26 ⌝ }
+    ensures { λ r. ⌜ r ≡ bondIn (now (bytes .entry)) ⌝ }
+{
+    let face = fields::pattern_at(bytes, 1);
+    let coupon = fields::pattern_at(bytes, 9);
+    let maturity = fields::pattern_at(bytes, 17);
+    if is_nan(face) {
+        return any_bond_in(bytes);
+    }
+    if is_nan(coupon) {
+        return any_bond_in(bytes);
+    }
+    if is_nan(maturity) {
+        return any_bond_in(bytes);
+    }
+    BondRecord {
+        face: f64::from_bits(face),
+        coupon: f64::from_bits(coupon),
+        maturity: f64::from_bits(maturity),
+        frequency: bytes[25],
+    }
+}
+
+fn any_bond_in(bytes: &[u8]) -> BondRecord
     requires { ⌜ length (now bytes) ≡ 26 ⌝ }
     ensures { λ r. ⌜ r ≡ bondIn (now (bytes .entry)) ⌝ }
 {

@@ -26,7 +26,7 @@ pub(crate) fn whole_at(bytes: &[u8], at: usize) -> u32
 }
 
 // A float's pattern, as a number.
-fn pattern_at(bytes: &[u8], at: usize) -> u64
+pub(crate) fn pattern_at(bytes: &[u8], at: usize) -> u64
     requires { ⌜ at + 8 ≤ length (now bytes) ⌝ }
     ensures { λ r. ⌜ r ≡ valueOf (field at 8 (now (bytes .entry))) ⌝ }
 {

@@ -1,5 +1,6 @@
 pub mod Judging
 pub mod Verdicts
+pub mod Placing
 pub mod LaterLines
 pub mod OneToOne
 pub mod Tight

@@ -1,5 +1,7 @@
 // Refusals: document 01's table, the number and place that a call is refused with, and the answers that many functions share.
 ghost use mathlib.Core.Path.{_≡_};
+ghost use Prim.Native.Nat.{min};
+ghost use Rattle.numbers.specs.Whole.{largest};
 ghost use Rattle.refusals.specs.Table.{badAmount, badTerm, badNumber};
 
 pub struct Refusal {
@@ -30,6 +32,23 @@ pub fn refuse(number: u32) -> Refusal
     ensures { λ r. ⌜ (r .number ≡ number) × (r .place ≡ 0) ⌝ }
 {
     Refusal { number, place: 0 }
+}
+
+// The refusal of a line at an index; one that no u32 holds is given as the largest.
+pub fn refuse_at(number: u32, i: usize) -> Refusal
+    ensures { λ r. ⌜ (r .number ≡ number) × (r .place ≡ min i largest) ⌝ }
+{
+    if i < 4294967295 {
+        Refusal {
+            number,
+            place: i as u32,
+        }
+    } else {
+        Refusal {
+            number,
+            place: 4294967295,
+        }
+    }
 }
 
 // Line 1: an amount that is not finite or is below zero.

@@ -6,3 +6,4 @@ pub mod DatedAmounts
 pub mod Handed
 pub mod ResultSays
 pub mod Tight
+pub mod TightLists

@@ -6,3 +6,4 @@ pub mod Swaps
 pub mod Pools
 pub mod Spreads
 pub mod Dated
+pub mod Books

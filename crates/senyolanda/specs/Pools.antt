@@ -10,7 +10,7 @@ use Rattle.pool.specs.declared.speed.Speed.{Speed}
 use Rattle.pool.specs.declared.speed.Speed.the-variants.{Cpr, Psa, History}
 use Rattle.pool.specs.declared.totals.Totals.{Totals}
 use Rattle.pool.specs.Loans.{poolLines}
-use Rattle.pool.specs.Places.{placed}
+use Rattle.refusals.specs.Places.{placed}
 use Rattle.pool.specs.Speed.{smm}
 use Rattle.pool.specs.Flows.{tooLittle, cashFlows, flowsInto}
 use Rattle.senyolanda.specs.declared.pools.SpeedIn.{SpeedIn}

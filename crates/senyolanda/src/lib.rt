@@ -2,8 +2,10 @@
 // The result of each function is 0 where it was accepted, else it says the refusal's number and place. What it answers goes into
 // lent memory, which a refusal leaves as it was. include/senyolanda.h declares each.
 mod bonds;
+mod books;
 mod curves;
 mod dated;
+mod lists;
 mod loans;
 mod models;
 mod plain;

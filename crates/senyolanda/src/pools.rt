@@ -4,7 +4,7 @@ ghost use mathlib.Core.Bool.{false, _&&_};
 ghost use lib.ListN.{length};
 ghost use Rattle.refusals.specs.Outcome.{andThen};
 ghost use Rattle.pool.specs.declared.speed.Speed.{Speed};
-ghost use Rattle.pool.specs.Places.{placed};
+ghost use Rattle.refusals.specs.Places.{placed};
 ghost use Rattle.pool.specs.Flows.{tooLittle};
 ghost use Rattle.pool.specs.Price.{poolPrice, poolDuration, poolConvexity};
 ghost use Rattle.pool.specs.Totals.{poolTotals};

@@ -1,10 +1,11 @@
 // The result of a call, and answers put into their lent places.
 ghost use mathlib.Core.Path.{_≡_};
-ghost use Rattle.refusals.specs.Answers.{numberOutcome, countOutcome};
+ghost use Rattle.refusals.specs.Answers.{numberOutcome, countOutcome, verdictOutcome};
 ghost use Rattle.senyolanda.specs.Told.{refusalResult, toldNumber};
 use refusals::Count;
 use refusals::Number;
 use refusals::Refusal;
+use refusals::Verdict;
 
 // What a call that was accepted gives.
 pub(crate) const ACCEPTED: u64 = 0;
@@ -37,5 +38,15 @@ pub(crate) fn put_count(answer: Count, place: &mut u32) -> u64
             *place = n;
             ACCEPTED
         }
+    }
+}
+
+// The result of a call that answers in place.
+pub(crate) fn verdict_result(verdict: Verdict) -> u64
+    ensures { λ r. ⌜ (r, tt) ≡ toldNumber (verdictOutcome verdict) tt ⌝ }
+{
+    match verdict {
+        Verdict::Refused(refusal) => refusal_result(refusal),
+        Verdict::Accepted => ACCEPTED,
     }
 }

@@ -50,25 +50,15 @@ module _ (times amounts tenors rates kept factors : List Float) (points s : Floa
   unfolding worthOf
   worth-is n e = discounted-is (knot amounts) n e
 
-  -- duration and convexity, where the worth is next to nothing and where it is not
-  module _ (worth size : Float) (w : worth ≡ addedUp (λ (i : ℕ). mul binary64 (knot amounts i) (knot factors i)) (length times)) (a : size ≡ absolute worth) where
-    is-worth : worth ≡ worthOf times amounts tenors rates points
-    is-worth = w ∙ worth-is (length times) refl
+-- ---- duration and convexity, where the worth is next to nothing and where it is not
+module _ (times amounts tenors rates : List Float) (points worth size : Float) (w : worth ≡ worthOf times amounts tenors rates points) (a : size ≡ absolute worth) where
+  pub no-sensitivity : lt size tiny ≡ true → record { duration = plusZero; convexity = plusZero } ≡ sensitivityOf times amounts tenors rates points
+  unfolding sensitivityOf
+  no-sensitivity h = rw (sym w, sym a, h)
 
-    pub no-sensitivity : lt size tiny ≡ true → record { duration = plusZero; convexity = plusZero } ≡ sensitivityOf times amounts tenors rates points
-    unfolding sensitivityOf
-    no-sensitivity h = rw (sym is-worth, sym a, h)
-
-    pub sensitivity-is : lt size tiny ≡ false → (timed squared : Float)
-        → timed ≡ addedUp (λ (i : ℕ). mul binary64 (mul binary64 (knot times i) (knot amounts i)) (knot factors i)) (length times)
-        → squared ≡ addedUp (λ (i : ℕ). mul binary64 (mul binary64 (mul binary64 (knot times i) (knot times i)) (knot amounts i)) (knot factors i)) (length times)
-        → record { duration = div binary64 timed worth; convexity = div binary64 squared worth } ≡ sensitivityOf times amounts tenors rates points
-    unfolding sensitivityOf durationOf convexityOf
-    sensitivity-is h timed squared t q =
-        rw (
-          sym is-worth,
-          sym a,
-          h,
-          t ∙ discounted-is (λ (i : ℕ). mul binary64 (knot times i) (knot amounts i)) (length times) refl,
-          q ∙ discounted-is (λ (i : ℕ). mul binary64 (mul binary64 (knot times i) (knot times i)) (knot amounts i)) (length times) refl,
-        )
+  pub sensitivity-is : lt size tiny ≡ false → (timed squared : Float)
+      → timed ≡ addedUp (λ (i : ℕ). mul binary64 (mul binary64 (knot times i) (knot amounts i)) (factorOf times amounts tenors rates (decimal points) i)) (length times)
+      → squared ≡ addedUp (λ (i : ℕ). mul binary64 (mul binary64 (mul binary64 (knot times i) (knot times i)) (knot amounts i)) (factorOf times amounts tenors rates (decimal points) i)) (length times)
+      → record { duration = div binary64 timed worth; convexity = div binary64 squared worth } ≡ sensitivityOf times amounts tenors rates points
+  unfolding sensitivityOf durationOf convexityOf
+  sensitivity-is h timed squared t q = rw (sym w, sym a, h, t, q)

@@ -6,6 +6,7 @@ pub mod BondFlows
 pub mod ItemLine
 pub mod SpreadVerdict
 pub mod KeptRates
+pub mod CarriedOn
 pub mod Halvings
 pub mod Gathering
 pub mod LocalArrays

@@ -6,7 +6,7 @@ use lib.Ieee.{Float}
 use Rattle.numbers.proofs.Determined.{Determined, Settled}
 use Rattle.refusals.specs.declared.Number.{Number}
 use Rattle.refusals.specs.Answers.{numberOutcome}
-use Rattle.refusals.proofs.OneToOne.{same-refusal, number-one-to-one, count-one-to-one}
+use Rattle.refusals.proofs.OneToOne.{same-refusal, verdict-one-to-one, number-one-to-one, count-one-to-one}
 use Rattle.spread_analytics.specs.declared.units.BasisPoints.{BasisPoints}
 use Rattle.spread_analytics.specs.declared.units.DecimalRate.{DecimalRate}
 use Rattle.spread_analytics.specs.declared.spread.SpreadAnswer.{SpreadAnswer}
@@ -34,6 +34,10 @@ use Rattle.spread_analytics.proofs.spread.duration_convexity.Kinds as d
 use Rattle.spread_analytics.proofs.spread.duration_convexity.Reads as duration-convexity
 use Rattle.spread_analytics.proofs.flows.bond_cash_flows.Kinds as bond-cash-flows-kinds
 use Rattle.spread_analytics.proofs.flows.bond_cash_flows.Reads as bond-cash-flows
+use Rattle.spread_analytics.proofs.curves_each.rate_at_each.Kinds as rate-at-each-kinds
+use Rattle.spread_analytics.proofs.curves_each.rate_at_each.Reads as rate-at-each
+use Rattle.spread_analytics.proofs.curves_each.discount_factor_at_each.Kinds as discount-factor-at-each-kinds
+use Rattle.spread_analytics.proofs.curves_each.discount_factor_at_each.Reads as discount-factor-at-each
 
 -- ---- each answer has its own outcome
 same-points : (s t : BasisPoints) → s .0 ≡ t .0 → s ≡ t
@@ -106,3 +110,16 @@ module _ (flows : List CashFlow) (tenors rates : List Float) (s : Float) where
   pub duration-convexity-of-determined : (x y : SensitivityAnswer) → sensitivityOutcome x ≡ durationConvexity (timesOf flows) (amountsOf flows) tenors rates s
       → sensitivityOutcome y ≡ durationConvexity (timesOf flows) (amountsOf flows) tenors rates s → x ≡ y
   duration-convexity-of-determined x y p q = sensitivity-one-to-one x y (p ∙ sym q)
+
+-- ---- lists of lookups: one verdict, and one list after the call
+pub rate-at-each-determined : Determined 3 rate-at-each-kinds.ps rate-at-each-kinds.r rate-at-each.Post
+rate-at-each-determined κs a x y e e′ p q = verdict-one-to-one x y (p .0 ∙ sym (q .0))
+
+pub rate-at-each-settled : Settled 3 rate-at-each-kinds.ps rate-at-each-kinds.r rate-at-each.Post
+rate-at-each-settled κs a x y w w′ p q = ap (λ (l : List Float). (tt, (tt, (l, tt)))) (p .1 ∙ sym (q .1))
+
+pub discount-factor-at-each-determined : Determined 3 discount-factor-at-each-kinds.ps discount-factor-at-each-kinds.r discount-factor-at-each.Post
+discount-factor-at-each-determined κs a x y e e′ p q = verdict-one-to-one x y (p .0 ∙ sym (q .0))
+
+pub discount-factor-at-each-settled : Settled 3 discount-factor-at-each-kinds.ps discount-factor-at-each-kinds.r discount-factor-at-each.Post
+discount-factor-at-each-settled κs a x y w w′ p q = ap (λ (l : List Float). (tt, (tt, (l, tt)))) (p .1 ∙ sym (q .1))

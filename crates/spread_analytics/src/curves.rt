@@ -18,7 +18,7 @@ use yield_curve::segments::last_knot;
 use yield_curve::segments::segment_starting;
 
 // Along a segment, left to right.
-fn along_rates(e: Ends, t: f64) -> f64
+pub(crate) fn along_rates(e: Ends, t: f64) -> f64
     ensures { λ r. ⌜ r ≡ alongRates (record { t0 = e .t0; t1 = e .t1; r0 = e .r0; r1 = e .r1 }) t ⌝ }
 {
     e.r0 + (e.r1 - e.r0) * (t - e.t0) / (e.t1 - e.t0)

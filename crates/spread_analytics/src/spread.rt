@@ -2,22 +2,26 @@
 ghost use mathlib.Core.Path.{_≡_};
 ghost use mathlib.Core.Bool.{cond};
 ghost use mathlib.Core.List.{List};
-ghost use Prim.Native.Nat.{ℕ, _<_, _≤_};
+ghost use Prim.Native.Nat.{ℕ, _+_, _<_, _≤_};
 ghost use lib.ListN.{length};
-ghost use lib.Ieee.{Float, lt};
+ghost use lib.Ieee.{Float, binary64, mul, lt};
 ghost use Rattle.numbers.specs.Sizes.{absolute};
+ghost use Rattle.numbers.specs.Sums.{addedUp};
 ghost use Rattle.refusals.specs.Outcome.{accepted};
 ghost use Rattle.refusals.specs.Answers.{numberOutcome};
 ghost use Rattle.yield_curve.specs.Segments.{knot};
+ghost use Rattle.spread_analytics.specs.Units.{decimal};
 ghost use Rattle.spread_analytics.specs.Curves.{rateOf};
 ghost use Rattle.spread_analytics.specs.Spread.{lowest, highest, worthOf, pvCashFlows, miss, halved, spreadOf, zSpread, spreadOutcome};
-ghost use Rattle.spread_analytics.specs.Spread.{sensitivityOf, durationConvexity, sensitivityOutcome};
+ghost use Rattle.spread_analytics.specs.Spread.{factorOf, sensitivityOf, durationConvexity, sensitivityOutcome};
 use crate::judging::judge_spread;
 use crate::units::BasisPoints;
 use crate::units::to_decimal;
+use crate::worth::Sums;
+use crate::worth::discounted_on;
+use crate::worth::factors_of;
 use crate::worth::keep_rates;
-use crate::worth::put_factors;
-use crate::worth::sums_of;
+use crate::worth::sums_on;
 use crate::worth::worth_at;
 use numbers::sizes::absolute_value;
 use refusals::Number;
@@ -43,7 +47,15 @@ pub enum SensitivityAnswer {
     Given(Sensitivity),
 }
 
-// The worth at a spread over a curve.
+// Where the block that starts at a flow ends: 64 on, or with the last flow.
+fn end_of_block(at: usize, count: usize) -> usize
+    requires { ⌜ at < count ⌝ }
+    ensures { λ r. ⌜ (at < r) × (r ≤ count) × (r ≤ at + 64) ⌝ }
+{
+    if count - at > 64 { at + 64 } else { count }
+}
+
+// The worth at a spread over a curve, added on block by block, so that the factors need little room.
 fn worth_of(
     times: &[f64],
     amounts: &[f64],
@@ -51,13 +63,19 @@ fn worth_of(
     rates: &[f64],
     spread: BasisPoints,
 ) -> f64
-    requires { ⌜ (length (now times) ≡ length (now amounts)) × (length (now times) ≤ 1200) ⌝ }
+    requires { ⌜ length (now times) ≡ length (now amounts) ⌝ }
     ensures { λ r. ⌜ r ≡ worthOf (now (times .entry)) (now (amounts .entry)) (now (tenors .entry)) (now (rates .entry)) (spread .0) ⌝ }
 {
-    let mut kept = [0.0; 1200];
-    let mut room = [0.0; 1200];
-    keep_rates(times, tenors, rates, &mut kept);
-    worth_at(times, amounts, &kept, &mut room, spread)
+    let s = to_decimal(spread);
+    let mut worth = 0.0;
+    let mut at: usize = 0;
+    while at < times.len() {
+        let end = end_of_block(at, times.len());
+        let factors = factors_of(&times[at..end], tenors, rates, s);
+        worth = discounted_on(&amounts[at..end], &factors, worth);
+        at = end;
+    }
+    worth
 }
 
 pub fn pv_cash_flows(
@@ -189,6 +207,35 @@ pub fn z_spread(
     }
 }
 
+// The three sums at a spread over a curve, added on block by block.
+fn sums_over(
+    times: &[f64],
+    amounts: &[f64],
+    tenors: &[f64],
+    rates: &[f64],
+    spread: BasisPoints,
+) -> Sums
+    requires { ⌜ length (now times) ≡ length (now amounts) ⌝ }
+    ensures { λ s. ⌜ s .worth ≡ worthOf (now (times .entry)) (now (amounts .entry)) (now (tenors .entry)) (now (rates .entry)) (spread .0) ⌝ }
+    ensures { λ s. ⌜ s .timed ≡ addedUp (λ (i : ℕ). mul binary64 (mul binary64 (knot (now (times .entry)) i) (knot (now (amounts .entry)) i)) (factorOf (now (times .entry)) (now (amounts .entry)) (now (tenors .entry)) (now (rates .entry)) (decimal (spread .0)) i)) (length (now (times .entry))) ⌝ }
+    ensures { λ s. ⌜ s .squared ≡ addedUp (λ (i : ℕ). mul binary64 (mul binary64 (mul binary64 (knot (now (times .entry)) i) (knot (now (times .entry)) i)) (knot (now (amounts .entry)) i)) (factorOf (now (times .entry)) (now (amounts .entry)) (now (tenors .entry)) (now (rates .entry)) (decimal (spread .0)) i)) (length (now (times .entry))) ⌝ }
+{
+    let s = to_decimal(spread);
+    let mut sums = Sums {
+        worth: 0.0,
+        timed: 0.0,
+        squared: 0.0,
+    };
+    let mut at: usize = 0;
+    while at < times.len() {
+        let end = end_of_block(at, times.len());
+        let factors = factors_of(&times[at..end], tenors, rates, s);
+        sums = sums_on(&times[at..end], &amounts[at..end], &factors, sums);
+        at = end;
+    }
+    sums
+}
+
 // Duration and convexity, whatever the flows and the curve are: 0 where the flows are worth next to nothing.
 fn sensitivity_of(
     times: &[f64],
@@ -197,14 +244,10 @@ fn sensitivity_of(
     rates: &[f64],
     spread: BasisPoints,
 ) -> Sensitivity
-    requires { ⌜ (length (now times) ≡ length (now amounts)) × (length (now times) ≤ 1200) ⌝ }
+    requires { ⌜ length (now times) ≡ length (now amounts) ⌝ }
     ensures { λ r. ⌜ r ≡ sensitivityOf (now (times .entry)) (now (amounts .entry)) (now (tenors .entry)) (now (rates .entry)) (spread .0) ⌝ }
 {
-    let mut kept = [0.0; 1200];
-    let mut factors = [0.0; 1200];
-    keep_rates(times, tenors, rates, &mut kept);
-    put_factors(times, &kept, to_decimal(spread), &mut factors);
-    let sums = sums_of(times, amounts, &factors);
+    let sums = sums_over(times, amounts, tenors, rates, spread);
     if absolute_value(sums.worth) < 1e-12 {
         return Sensitivity {
             duration: 0.0,

@@ -1,7 +1,7 @@
 // What cash flows are worth over a curve and a spread: the curve's rates at the flows' times, their factors, and sums over them.
 ghost use mathlib.Core.Path.{_≡_};
 ghost use mathlib.Core.List.{List};
-ghost use Prim.Native.Nat.{ℕ, _<_, _≤_};
+ghost use Prim.Native.Nat.{ℕ, _+_, _<_, _≤_};
 ghost use lib.ListN.{length};
 ghost use lib.Ieee.{Float, binary64, neg, add, mul};
 ghost use Rattle.numbers.specs.Sums.{addedUp};
@@ -48,18 +48,44 @@ pub(crate) fn put_factors(times: &[f64], kept: &[f64], spread: DecimalRate, fact
     exp_each(&mut factors[..count]);
 }
 
-// The amounts times their factors, added left to right.
-fn discounted_sum(amounts: &[f64], factors: &[f64]) -> f64
-    requires { ⌜ length (now amounts) ≤ length (now factors) ⌝ }
-    ensures { λ r. ⌜ r ≡ addedUp (λ (i : ℕ). mul binary64 (knot (now (amounts .entry)) i) (knot (now (factors .entry)) i)) (length (now (amounts .entry))) ⌝ }
+// The factors of at most 64 flows at a spread over the curve.
+pub(crate) fn factors_of(
+    times: &[f64],
+    tenors: &[f64],
+    rates: &[f64],
+    spread: DecimalRate,
+) -> [f64; 64]
+    requires { ⌜ length (now times) ≤ 64 ⌝ }
+    ensures { λ r. ⌜ (length r ≡ 64) × ((i : ℕ) → i < length (now (times .entry)) → knot r i ≡ exp (mul binary64 (neg (add binary64 (rateOf (now (tenors .entry)) (now (rates .entry)) (knot (now (times .entry)) i)) (spread .0))) (knot (now (times .entry)) i))) ⌝ }
 {
-    let mut sum = 0.0;
+    let mut kept = [0.0; 64];
+    let mut factors = [0.0; 64];
+    keep_rates(times, tenors, rates, &mut kept);
+    put_factors(times, &kept, spread, &mut factors);
+    factors
+}
+
+// The amounts times their factors, added left to right to the sum of the terms before.
+pub(crate) fn discounted_on(amounts: &[f64], factors: &[f64], before: f64) -> f64
+    requires { ⌜ length (now amounts) ≤ length (now factors) ⌝ }
+    ensures { λ r. ⌜ ((term : ℕ → Float) (k : ℕ) → before ≡ addedUp term k
+        → ((i : ℕ) → i < length (now (amounts .entry)) → mul binary64 (knot (now (amounts .entry)) i) (knot (now (factors .entry)) i) ≡ term (k + i))
+        → r ≡ addedUp term (k + length (now (amounts .entry)))) ⌝ }
+{
+    let mut sum = before;
     let mut i: usize = 0;
     while i < amounts.len() {
         sum = sum + amounts[i] * factors[i];
         i += 1;
     }
     sum
+}
+
+fn discounted_sum(amounts: &[f64], factors: &[f64]) -> f64
+    requires { ⌜ length (now amounts) ≤ length (now factors) ⌝ }
+    ensures { λ r. ⌜ r ≡ addedUp (λ (i : ℕ). mul binary64 (knot (now (amounts .entry)) i) (knot (now (factors .entry)) i)) (length (now (amounts .entry))) ⌝ }
+{
+    discounted_on(amounts, factors, 0.0)
 }
 
 // The worth, and the sums of time times amount and of time times time times amount, each times its factor.
@@ -69,16 +95,22 @@ pub struct Sums {
     pub squared: f64,
 }
 
-// All three, each added left to right.
-pub(crate) fn sums_of(times: &[f64], amounts: &[f64], factors: &[f64]) -> Sums
+// All three, each added left to right to the sum of the terms before.
+pub(crate) fn sums_on(times: &[f64], amounts: &[f64], factors: &[f64], before: Sums) -> Sums
     requires { ⌜ (length (now times) ≡ length (now amounts)) × (length (now times) ≤ length (now factors)) ⌝ }
-    ensures { λ s. ⌜ s .worth ≡ addedUp (λ (i : ℕ). mul binary64 (knot (now (amounts .entry)) i) (knot (now (factors .entry)) i)) (length (now (times .entry))) ⌝ }
-    ensures { λ s. ⌜ s .timed ≡ addedUp (λ (i : ℕ). mul binary64 (mul binary64 (knot (now (times .entry)) i) (knot (now (amounts .entry)) i)) (knot (now (factors .entry)) i)) (length (now (times .entry))) ⌝ }
-    ensures { λ s. ⌜ s .squared ≡ addedUp (λ (i : ℕ). mul binary64 (mul binary64 (mul binary64 (knot (now (times .entry)) i) (knot (now (times .entry)) i)) (knot (now (amounts .entry)) i)) (knot (now (factors .entry)) i)) (length (now (times .entry))) ⌝ }
+    ensures { λ s. ⌜ ((term : ℕ → Float) (k : ℕ) → before .worth ≡ addedUp term k
+        → ((i : ℕ) → i < length (now (times .entry)) → mul binary64 (knot (now (amounts .entry)) i) (knot (now (factors .entry)) i) ≡ term (k + i))
+        → s .worth ≡ addedUp term (k + length (now (times .entry)))) ⌝ }
+    ensures { λ s. ⌜ ((term : ℕ → Float) (k : ℕ) → before .timed ≡ addedUp term k
+        → ((i : ℕ) → i < length (now (times .entry)) → mul binary64 (mul binary64 (knot (now (times .entry)) i) (knot (now (amounts .entry)) i)) (knot (now (factors .entry)) i) ≡ term (k + i))
+        → s .timed ≡ addedUp term (k + length (now (times .entry)))) ⌝ }
+    ensures { λ s. ⌜ ((term : ℕ → Float) (k : ℕ) → before .squared ≡ addedUp term k
+        → ((i : ℕ) → i < length (now (times .entry)) → mul binary64 (mul binary64 (mul binary64 (knot (now (times .entry)) i) (knot (now (times .entry)) i)) (knot (now (amounts .entry)) i)) (knot (now (factors .entry)) i) ≡ term (k + i))
+        → s .squared ≡ addedUp term (k + length (now (times .entry)))) ⌝ }
 {
-    let mut worth = 0.0;
-    let mut timed = 0.0;
-    let mut squared = 0.0;
+    let mut worth = before.worth;
+    let mut timed = before.timed;
+    let mut squared = before.squared;
     let mut i: usize = 0;
     while i < times.len() {
         let time = times[i];

@@ -1,31 +1,20 @@
--- A bisection, for any error: what a halving leaves, and the loop of them; and the errors of a knot's trials. Assumes nothing.
+-- A bisection, for any error: the loop of halvings, the first two of them, and the ends that they begin from. Assumes nothing.
 use mathlib.Core.Path.{_≡_, refl, sym, ap, _∙_}
 use mathlib.Core.Bool.{Bool, true, false, cond}
-use mathlib.Core.List.{List}
+use mathlib.Core.List.{List, [], _∷_, map}
 use Prim.Native.Nat.{ℕ, zero, suc, _-_, _<_}
 use native.Mathlib.Omega.{arith}
-use lib.Ieee.{Float, binary64, neg, add, sub, lt, ofBits}
+use lib.Dec.{lit<}
+use lib.ListN.{getD}
+use lib.Ieee.{Float, nan, binary64, round, neg, add, sub, mul, lt, ofBits}
 use Rattle.numbers.specs.Clamps.{plusZero}
-use Rattle.numbers.specs.Sums.{addedUp}
 use Rattle.elementary.specs.WholePower.{one}
 use Rattle.yield_curve.proofs.Choices.{by-first, by-second}
-use Rattle.swaps.specs.Knots.{withRate}
-use Rattle.swaps.specs.Discount.{discountOf}
-use Rattle.swaps.specs.Bootstrap.{lowest, highest, narrow, dates, couponAt, parError, middle, lowerEnd, upperEnd, halved, noChange, solvedOr}
+use Rattle.swaps.specs.Knots.{withRate, midway}
+use Rattle.swaps.proofs.Thirds.{lower, upper, ends-are}
+use Rattle.swaps.specs.Bootstrap.{lowest, highest, half, narrow, parError, middle, lowerEnd, upperEnd, halved, noChange, solvedOr}
 
 module _ (error : Float → Float) (lo hi : Float) where
-  module _ (mid missed : Float) (is-mid : mid ≡ middle error lo hi) (is-missed : missed ≡ error mid) where
-    at-middle : (b : Bool) → lt plusZero missed ≡ b → lt plusZero (error (middle error lo hi)) ≡ b
-    at-middle b e = ap (λ (x : Float). lt plusZero x) (ap error (sym is-mid) ∙ sym is-missed) ∙ e
-
-    pub goes-up : lt plusZero missed ≡ true → (mid ≡ lowerEnd error lo hi) × (hi ≡ upperEnd error lo hi)
-    unfolding lowerEnd upperEnd
-    goes-up e = rw (at-middle true e) (is-mid, refl)
-
-    pub goes-down : lt plusZero missed ≡ false → (lo ≡ lowerEnd error lo hi) × (mid ≡ upperEnd error lo hi)
-    unfolding lowerEnd upperEnd
-    goes-down e = rw (at-middle false e) (refl, is-mid)
-
   module _ (lo′ hi′ : Float) (is-lo : lo′ ≡ lowerEnd error lo hi) (is-hi : hi′ ≡ upperEnd error lo hi) where
     turn : (n : ℕ) (b : Bool) → 0 < n → lt (sub binary64 hi′ lo′) narrow ≡ b → halved error n lo hi ≡ cond b (middle error lo′ hi′) (halved error (n - 1) lo′ hi′)
     unfolding halved
@@ -44,10 +33,85 @@ module _ (error : Float → Float) (lo hi : Float) where
   unfolding halved
   all-halved n e = rw e
 
+-- ---- the first two leave widths of 3 and 1.5
+wide : (b : Bool) → lt (sub binary64 (upper b lowest highest) (lower b lowest highest)) narrow ≡ false
+unfolding add sub mul round lt ofBits
+wide true = refl
+wide false = refl
+
+wide-still : (b d : Bool)
+    → lt (sub binary64 (upper d (lower b lowest highest) (upper b lowest highest)) (lower d (lower b lowest highest) (upper b lowest highest))) narrow ≡ false
+unfolding add sub mul round lt ofBits
+wide-still true true = refl
+wide-still true false = refl
+wide-still false true = refl
+wide-still false false = refl
+
+module _ (error : Float → Float) (e second lo′ hi′ lo″ hi″ : Float)
+    (is-e : e ≡ error (midway lowest highest)) (p : lo′ ≡ lower (lt plusZero e) lowest highest) (q : hi′ ≡ upper (lt plusZero e) lowest highest)
+    (is-second : second ≡ error (midway lo′ hi′)) (p′ : lo″ ≡ lower (lt plusZero second) lo′ hi′) (q′ : hi″ ≡ upper (lt plusZero second) lo′ hi′) where
+  first-two : halved error 200 lowest highest ≡ halved error 198 lo″ hi″
+  first-two =
+      let f = ends-are error lowest highest e is-e lo′ hi′ p q in
+      let g = ends-are error lo′ hi′ second is-second lo″ hi″ p′ q′ in
+      goes-on error lowest highest lo′ hi′ (f .0) (f .1) 200 (lit< tt) (rw (p, q) (wide (lt plusZero e)))
+      ∙ goes-on error lo′ hi′ lo″ hi″ (g .0) (g .1) 199 (lit< tt) (rw (p′, q′, p, q) (wide-still (lt plusZero e) (lt plusZero second)))
+
 -- the lower end as the code has it
 pub minus-one : neg one ≡ lowest
 unfolding neg ofBits
 minus-one = refl
+
+-- ---- what is tried first, as the code has it: the ends, the middle, and the middles of its halves; 2, 0.5 and 3.5
+abbrev two : Float
+two = ofBits binary64 0x4000_0000_0000_0000
+
+abbrev threeAndHalf : Float
+threeAndHalf = ofBits binary64 0x400c_0000_0000_0000
+
+start-middle : two ≡ midway lowest highest
+unfolding add mul round ofBits
+start-middle = refl
+
+upper-middle : threeAndHalf ≡ midway (midway lowest highest) highest
+unfolding add mul round ofBits
+upper-middle = refl
+
+lower-middle : half ≡ midway lowest (midway lowest highest)
+unfolding add mul round ofBits
+lower-middle = refl
+
+module _ (error : Float → Float) (errors : List Float) (are : errors ≡ map error (neg one ∷ highest ∷ two ∷ half ∷ threeAndHalf ∷ two ∷ two ∷ two ∷ [])) where
+  pub low-end-tried : getD errors 0 nan ≡ error (neg one)
+  low-end-tried = ap (λ (l : List Float). getD l 0 nan) are
+
+  pub high-end-tried : getD errors 1 nan ≡ error highest
+  high-end-tried = ap (λ (l : List Float). getD l 1 nan) are
+
+  middle-tried : getD errors 2 nan ≡ error (midway lowest highest)
+  middle-tried = ap (λ (l : List Float). getD l 2 nan) are ∙ ap error start-middle
+
+  quarters : (b : Bool) → cond b (error threeAndHalf) (error half) ≡ error (midway (lower b lowest highest) (upper b lowest highest))
+  quarters true = ap error upper-middle
+  quarters false = ap error lower-middle
+
+  module _ (second lo′ hi′ lo″ hi″ : Float)
+      (p : lo′ ≡ lower (lt plusZero (getD errors 2 nan)) (neg one) highest) (q : hi′ ≡ upper (lt plusZero (getD errors 2 nan)) (neg one) highest)
+      (is-second : second ≡ cond (lt plusZero (getD errors 2 nan)) (getD errors 4 nan) (getD errors 3 nan))
+      (p′ : lo″ ≡ lower (lt plusZero second) lo′ hi′) (q′ : hi″ ≡ upper (lt plusZero second) lo′ hi′) where
+    lower-is : lo′ ≡ lower (lt plusZero (getD errors 2 nan)) lowest highest
+    lower-is = p ∙ ap (λ (x : Float). lower (lt plusZero (getD errors 2 nan)) x highest) minus-one
+
+    upper-is : hi′ ≡ upper (lt plusZero (getD errors 2 nan)) lowest highest
+    upper-is = q ∙ ap (λ (x : Float). upper (lt plusZero (getD errors 2 nan)) x highest) minus-one
+
+    quarter-tried : second ≡ error (midway lo′ hi′)
+    quarter-tried =
+        is-second ∙ ap (λ (l : List Float). cond (lt plusZero (getD errors 2 nan)) (getD l 4 nan) (getD l 3 nan)) are
+        ∙ quarters (lt plusZero (getD errors 2 nan)) ∙ rw (lower-is, upper-is)
+
+    pub started : halved error 200 lowest highest ≡ halved error 198 lo″ hi″
+    started = first-two error (getD errors 2 nan) second lo′ hi′ lo″ hi″ middle-tried lower-is upper-is quarter-tried p′ q′
 
 module _ (error : Float → Float) where
   pub too-low : (missed : Float) → missed ≡ error (neg one) → lt missed plusZero ≡ true → true ≡ noChange error
@@ -65,22 +129,6 @@ module _ (error : Float → Float) where
   pub solved : (other : Float) → noChange error ≡ false → halved error 200 lowest highest ≡ solvedOr error other
   unfolding solvedOr
   solved other e = rw e
-
--- ---- a trial's own numbers, T′, c′ and r′, are the knot's and the rate in hand
-module _ (tenors earlier : List Float) {T c r T′ c′ r′ : Float} (is-T : T′ ≡ T) (is-c : c′ ≡ c) (is-r : r′ ≡ r) where
-  pub last-is : {last : Float} → last ≡ discountOf tenors (withRate earlier r) T → last ≡ discountOf tenors (withRate earlier r′) T′
-  last-is e = rw (is-T, is-r) e
-
-  pub sum-is : {sum : Float} (n : ℕ) → sum ≡ addedUp (couponAt tenors (withRate earlier r′) T c) n → sum ≡ addedUp (couponAt tenors (withRate earlier r′) T′ c′) n
-  sum-is n e = rw (is-T, is-c) e
-
-  pub sum-was : {sum : Float} (n : ℕ) → sum ≡ addedUp (couponAt tenors (withRate earlier r′) T′ c′) n → sum ≡ addedUp (couponAt tenors (withRate earlier r′) T c) n
-  sum-was n e = e ∙ rw (is-T, is-c)
-
-  pub error-is : {total last : Float} (n : ℕ) → n ≡ dates T → total ≡ addedUp (couponAt tenors (withRate earlier r′) T′ c′) n
-      → last ≡ discountOf tenors (withRate earlier r) T → sub binary64 (add binary64 total last) one ≡ parError tenors (withRate earlier r) T c
-  unfolding parError
-  error-is n is-n t l = rw (t, l, is-T, is-c, is-r, is-n)
 
 pub solved-at : (tenors earlier : List Float) (other : Float) {T c T′ c′ : Float} → T′ ≡ T → c′ ≡ c
     → solvedOr (λ (x : Float). parError tenors (withRate earlier x) T′ c′) other ≡ solvedOr (λ (x : Float). parError tenors (withRate earlier x) T c) other

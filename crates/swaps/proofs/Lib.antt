@@ -1,3 +1,10 @@
+pub mod Comparing
+pub mod Onward
+pub mod Eights
+pub mod Thirds
+pub mod TriedCoupons
+pub mod RunFactors
+pub mod DiscountList
 pub mod PaymentSums
 pub mod Writing
 pub mod Values

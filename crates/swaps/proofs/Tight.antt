@@ -1,6 +1,8 @@
 -- How tight the promises are: whatever a public function is given, any two results that its contract allows are equal. Assumes nothing.
 use mathlib.Core.Path.{_≡_, sym, ap, _∙_}
-use Rattle.numbers.proofs.Determined.{Determined}
+use mathlib.Core.List.{List}
+use lib.Ieee.{Float}
+use Rattle.numbers.proofs.Determined.{Determined, Settled}
 use Rattle.refusals.specs.declared.Verdict.{Verdict}
 use Rattle.refusals.proofs.OneToOne.{same-refusal, verdict-one-to-one, number-one-to-one}
 use Rattle.swaps.specs.declared.day_counts.DayCountRead.{DayCountRead}
@@ -39,6 +41,10 @@ use Rattle.swaps.proofs.valuation.swap_duration.Kinds as swap-duration-
 use Rattle.swaps.proofs.valuation.swap_duration.Reads as swap-duration
 use Rattle.swaps.proofs.valuation.value_swap.Kinds as value-swap-kinds
 use Rattle.swaps.proofs.valuation.value_swap.Reads as value-swap
+use Rattle.swaps.proofs.discount_each.rate_at_each.Kinds as rate-at-each-kinds
+use Rattle.swaps.proofs.discount_each.rate_at_each.Reads as rate-at-each
+use Rattle.swaps.proofs.discount_each.discount_factor_at_each.Kinds as discount-factor-at-each-kinds
+use Rattle.swaps.proofs.discount_each.discount_factor_at_each.Reads as discount-factor-at-each
 
 -- ---- an answer's number, place and values tell the answer
 pub day-count-told : (x y : DayCountRead) → dayCountOutcome x ≡ dayCountOutcome y → x ≡ y
@@ -98,3 +104,16 @@ value-swap-determined κs a x y e e′ p q = valuation-told x y (p ∙ sym q)
 
 pub judge-swap-determined : Determined 2 judge-swap-kinds.ps judge-swap-kinds.r judge-swap.Post
 judge-swap-determined κs a x y e e′ p q = verdict-one-to-one x y (p ∙ sym q)
+
+-- ---- lists of lookups: one verdict, and one list after the call
+pub rate-at-each-determined : Determined 3 rate-at-each-kinds.ps rate-at-each-kinds.r rate-at-each.Post
+rate-at-each-determined κs a x y e e′ p q = verdict-one-to-one x y (p .0 ∙ sym (q .0))
+
+pub rate-at-each-settled : Settled 3 rate-at-each-kinds.ps rate-at-each-kinds.r rate-at-each.Post
+rate-at-each-settled κs a x y w w′ p q = ap (λ (l : List Float). (tt, (tt, (l, tt)))) (p .1 ∙ sym (q .1))
+
+pub discount-factor-at-each-determined : Determined 3 discount-factor-at-each-kinds.ps discount-factor-at-each-kinds.r discount-factor-at-each.Post
+discount-factor-at-each-determined κs a x y e e′ p q = verdict-one-to-one x y (p .0 ∙ sym (q .0))
+
+pub discount-factor-at-each-settled : Settled 3 discount-factor-at-each-kinds.ps discount-factor-at-each-kinds.r discount-factor-at-each.Post
+discount-factor-at-each-settled κs a x y w w′ p q = ap (λ (l : List Float). (tt, (tt, (l, tt)))) (p .1 ∙ sym (q .1))

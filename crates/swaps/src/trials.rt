@@ -1,64 +1,104 @@
-// The curve of a bootstrap while the rate of its last knot is tried: the zero rates before it, and the rate in hand.
+// The curve of a bootstrap while eight rates of its last knot are tried at once: the zero rates before it, and each rate in hand.
 ghost use mathlib.Core.Path.{_≡_};
+ghost use mathlib.Core.List.{map};
 ghost use Prim.Native.Nat.{suc};
+ghost use lib.ListN.{length};
 ghost use Rattle.yield_curve.specs.Segments.{knot};
-ghost use Rattle.swaps.specs.Discount.{zeroRateOf, discountOf};
-ghost use Rattle.swaps.specs.Knots.{withRate};
+ghost use Rattle.swaps.specs.Discount.{alongZeros, zeroRateOf, discountOf};
+ghost use Rattle.swaps.specs.Knots.{withRate, EachOf};
+ghost use Rattle.swaps.specs.Runs.{exponentAt};
 use crate::discount::along_zeros;
+use crate::factors::exponent_at;
 use yield_curve::segments::Ends;
 use yield_curve::segments::knot_after;
 use yield_curve::segments::knot_at;
 use yield_curve::segments::last_knot;
 use yield_curve::segments::segment_ending;
 
-// The rate of the knot i.
-fn rate_with(earlier: &[f64], rate: f64, i: usize) -> f64
-    ensures { λ r. ⌜ r ≡ knot (withRate (now (earlier .entry)) rate) i ⌝ }
+// The rates of the knot i.
+fn rates_with(earlier: &[f64], rates: [f64; 8], i: usize) -> [f64; 8]
+    requires { ⌜ length rates ≡ 8 ⌝ }
+    ensures { λ r. ⌜ r ≡ map (λ x. knot (withRate (now (earlier .entry)) x) i) rates ⌝ }
 {
     if i == earlier.len() {
-        return rate;
+        return rates;
     }
-    knot_at(earlier, i)
+    [knot_at(earlier, i); 8]
 }
 
-// The rate of the knot after i.
-fn rate_after(earlier: &[f64], rate: f64, i: usize) -> f64
-    ensures { λ r. ⌜ r ≡ knot (withRate (now (earlier .entry)) rate) (suc i) ⌝ }
+// The rates of the knot after i.
+fn rates_after(earlier: &[f64], rates: [f64; 8], i: usize) -> [f64; 8]
+    requires { ⌜ length rates ≡ 8 ⌝ }
+    ensures { λ r. ⌜ r ≡ map (λ x. knot (withRate (now (earlier .entry)) x) (suc i)) rates ⌝ }
 {
     if i < earlier.len() {
-        return rate_with(earlier, rate, i + 1);
+        return rates_with(earlier, rates, i + 1);
     }
-    knot_at(earlier, i)
+    [knot_at(earlier, i); 8]
 }
 
-// The zero rate at a time.
-fn zero_rate_with(tenors: &[f64], earlier: &[f64], rate: f64, t: f64) -> f64
-    ensures { λ r. ⌜ r ≡ zeroRateOf (now (tenors .entry)) (withRate (now (earlier .entry)) rate) t ⌝ }
+// Eight rates along a segment, each between two of its own.
+fn along_each(t0: f64, t1: f64, firsts: [f64; 8], seconds: [f64; 8], t: f64) -> [f64; 8]
+    ensures { λ r. ⌜ EachOf (λ a b. alongZeros (record { t0 = t0; t1 = t1; r0 = a; r1 = b }) t) firsts seconds r ⌝ }
+{
+    let mut rates = firsts;
+    let mut j: usize = 0;
+    while j < 8 {
+        rates[j] = along_zeros(
+            Ends {
+                t0,
+                t1,
+                r0: rates[j],
+                r1: seconds[j],
+            },
+            t,
+        );
+        j += 1;
+    }
+    rates
+}
+
+// The zero rates at a time.
+fn zero_rates_with(tenors: &[f64], earlier: &[f64], rates: [f64; 8], t: f64) -> [f64; 8]
+    requires { ⌜ length rates ≡ 8 ⌝ }
+    ensures { λ r. ⌜ r ≡ map (λ x. zeroRateOf (now (tenors .entry)) (withRate (now (earlier .entry)) x) t) rates ⌝ }
 {
     if t <= knot_at(tenors, 0) {
-        return rate_with(earlier, rate, 0);
+        return rates_with(earlier, rates, 0);
     }
     if last_knot(tenors) <= t {
-        return rate;
+        return rates;
     }
     let i = segment_ending(tenors, t);
-    along_zeros(
-        Ends {
-            t0: knot_at(tenors, i),
-            t1: knot_after(tenors, i),
-            r0: rate_with(earlier, rate, i),
-            r1: rate_after(earlier, rate, i),
-        },
+    along_each(
+        knot_at(tenors, i),
+        knot_after(tenors, i),
+        rates_with(earlier, rates, i),
+        rates_after(earlier, rates, i),
         t,
     )
 }
 
-// The discount factor at a time.
-pub(crate) fn discount_with(tenors: &[f64], earlier: &[f64], rate: f64, t: f64) -> f64
-    ensures { λ r. ⌜ r ≡ discountOf (now (tenors .entry)) (withRate (now (earlier .entry)) rate) t ⌝ }
+// What the discount factors at a time are the exps of, from the zero rates there.
+fn exponents_at(rates: [f64; 8], t: f64) -> [f64; 8]
+    requires { ⌜ length rates ≡ 8 ⌝ }
+    ensures { λ r. ⌜ r ≡ map (λ x. exponentAt x t) rates ⌝ }
 {
-    if t <= 0.0 {
-        return 1.0;
+    let mut exponents = rates;
+    let mut j: usize = 0;
+    while j < 8 {
+        exponents[j] = exponent_at(exponents[j], t);
+        j += 1;
     }
-    elementary::exp::exp(-zero_rate_with(tenors, earlier, rate, t) * t)
+    exponents
+}
+
+// The discount factors at a time.
+pub(crate) fn discounts_with(tenors: &[f64], earlier: &[f64], rates: [f64; 8], t: f64) -> [f64; 8]
+    requires { ⌜ length rates ≡ 8 ⌝ }
+    ensures { λ r. ⌜ r ≡ map (λ x. discountOf (now (tenors .entry)) (withRate (now (earlier .entry)) x) t) rates ⌝ }
+{
+    let mut factors = exponents_at(zero_rates_with(tenors, earlier, rates, t), t);
+    elementary::exp::exp_each(&mut factors);
+    factors
 }

@@ -2,12 +2,12 @@
 use mathlib.Core.Path.{_≡_, refl, sym, ap, _∙_}
 use mathlib.Core.Bool.{Bool, true, false, not, _||_}
 use mathlib.Core.List.{List, [], _∷_, _++_}
-use Prim.Native.Nat.{ℕ, _≤_}
+use Prim.Native.Nat.{ℕ, _<_, _≤_}
 use native.Mathlib.Omega.{arith}
 use lib.Dec.{eqb, ltb}
 use lib.ListN.{length}
 use lib.Ieee.{Float}
-use borrow.Author.Tests.{eq-eqb, ne-eqb, ltb-false}
+use borrow.Author.Tests.{eq-eqb, ne-eqb, eqb-false, ltb-false}
 use Rattle.refusals.specs.Outcome.{Outcome, refused, accepted, Line, line, firstOr, judged}
 use Rattle.refusals.specs.Table.{unequal, badKnotCount, badKnots}
 use Rattle.refusals.specs.declared.Refusal.{Refusal}
@@ -48,6 +48,13 @@ some-knots false b e = (refl, e)
 pub at-most-120 : (n : ℕ) → badKnotCount n ≡ false → n ≤ 120
 unfolding badKnotCount
 at-most-120 n e = ltb-false 120 n (some-knots (eqb n 0) (ltb 120 n) e .1)
+
+pub at-least-one : (n : ℕ) → badKnotCount n ≡ false → 0 < n
+unfolding badKnotCount
+at-least-one n e = above-none n (eqb-false n 0 (some-knots (eqb n 0) (ltb 120 n) e .0))
+  where
+    above-none : (n : ℕ) → (n ≡ 0 → ⊥) → 0 < n
+    above-none n h = omega arith
 
 module _ (times rates : List Float) where
   abbrev knotLine : Line

@@ -1,9 +1,13 @@
 pub mod Choices
 pub mod Adding
+pub mod Comparing
 pub mod Serving
+pub mod Halvings
 pub mod Flat
 pub mod KnotLine
+pub mod InOrder
 pub mod CurveLines
+pub mod Listing
 pub mod Forwards
 pub mod Pars
 pub mod Pivots

@@ -1,7 +1,8 @@
 -- How tight the promises are: whatever a public function is given, any two results that its contract allows are equal. Assumes nothing.
 use mathlib.Core.Path.{_≡_, sym, ap, _∙_}
+use mathlib.Core.List.{List}
 use lib.Ieee.{Float}
-use Rattle.numbers.proofs.Determined.{Determined}
+use Rattle.numbers.proofs.Determined.{Determined, Settled}
 use Rattle.refusals.proofs.OneToOne.{same-refusal, verdict-one-to-one, number-one-to-one}
 use Rattle.yield_curve.specs.declared.segments.Ends.{Ends}
 use Rattle.yield_curve.specs.declared.fitting.FitAnswer.{FitAnswer}
@@ -53,6 +54,20 @@ use Rattle.yield_curve.proofs.solve.solve_system.Kinds as solve-system-
 use Rattle.yield_curve.proofs.solve.solve_system.Reads as solve-system
 use Rattle.yield_curve.proofs.fitting.fit.Kinds as fit-kinds
 use Rattle.yield_curve.proofs.fitting.fit.Reads as fit
+use Rattle.yield_curve.proofs.halving.eight_ending.Kinds as eight-ending-kinds
+use Rattle.yield_curve.proofs.halving.eight_ending.Reads as eight-ending
+use Rattle.yield_curve.proofs.halving.eight_starting.Kinds as eight-starting-kinds
+use Rattle.yield_curve.proofs.halving.eight_starting.Reads as eight-starting
+use Rattle.yield_curve.proofs.segments.flat_outside.Kinds as flat-outside-kinds
+use Rattle.yield_curve.proofs.segments.flat_outside.Reads as flat-outside
+use Rattle.yield_curve.proofs.each.judge_each.Kinds as judge-each-kinds
+use Rattle.yield_curve.proofs.each.judge_each.Reads as judge-each
+use Rattle.yield_curve.proofs.each.rate_or_exponent.Kinds as rate-or-exponent-kinds
+use Rattle.yield_curve.proofs.each.rate_or_exponent.Reads as rate-or-exponent
+use Rattle.yield_curve.proofs.each.rates_at_each.Kinds as rates-at-each-kinds
+use Rattle.yield_curve.proofs.each.rates_at_each.Reads as rates-at-each
+use Rattle.yield_curve.proofs.each.discount_factors_at_each.Kinds as discount-factors-at-each-kinds
+use Rattle.yield_curve.proofs.each.discount_factors_at_each.Reads as discount-factors-at-each
 
 -- ---- each answer has its own outcome
 pub fit-one-to-one : (x y : FitAnswer) → fitOutcome x ≡ fitOutcome y → x ≡ y
@@ -135,3 +150,31 @@ solve-system-determined κs a x y e e′ p q = p ∙ sym q
 
 pub fit-determined : Determined 2 fit-kinds.ps fit-kinds.r fit.Post
 fit-determined κs a x y e e′ p q = fit-one-to-one x y (p ∙ sym q)
+
+pub eight-ending-determined : Determined 2 eight-ending-kinds.ps eight-ending-kinds.r eight-ending.Post
+eight-ending-determined κs a x y e e′ p q = p ∙ sym q
+
+pub eight-starting-determined : Determined 2 eight-starting-kinds.ps eight-starting-kinds.r eight-starting.Post
+eight-starting-determined κs a x y e e′ p q = p ∙ sym q
+
+pub flat-outside-determined : Determined 2 flat-outside-kinds.ps flat-outside-kinds.r flat-outside.Post
+flat-outside-determined κs a x y e e′ p q = p ∙ sym q
+
+pub judge-each-determined : Determined 3 judge-each-kinds.ps judge-each-kinds.r judge-each.Post
+judge-each-determined κs a x y e e′ p q = verdict-one-to-one x y (p ∙ sym q)
+
+pub rate-or-exponent-determined : Determined 0 rate-or-exponent-kinds.ps rate-or-exponent-kinds.r rate-or-exponent.Post
+rate-or-exponent-determined κs a x y e e′ p q = p ∙ sym q
+
+-- ---- lists of lookups: one verdict, and one list after the call
+pub rates-at-each-determined : Determined 3 rates-at-each-kinds.ps rates-at-each-kinds.r rates-at-each.Post
+rates-at-each-determined κs a x y e e′ p q = verdict-one-to-one x y (p .0 ∙ sym (q .0))
+
+pub rates-at-each-settled : Settled 3 rates-at-each-kinds.ps rates-at-each-kinds.r rates-at-each.Post
+rates-at-each-settled κs a x y w w′ p q = ap (λ (l : List Float). (tt, (tt, (l, tt)))) (p .1 ∙ sym (q .1))
+
+pub discount-factors-at-each-determined : Determined 3 discount-factors-at-each-kinds.ps discount-factors-at-each-kinds.r discount-factors-at-each.Post
+discount-factors-at-each-determined κs a x y e e′ p q = verdict-one-to-one x y (p .0 ∙ sym (q .0))
+
+pub discount-factors-at-each-settled : Settled 3 discount-factors-at-each-kinds.ps discount-factors-at-each-kinds.r discount-factors-at-each.Post
+discount-factors-at-each-settled κs a x y w w′ p q = ap (λ (l : List Float). (tt, (tt, (l, tt)))) (p .1 ∙ sym (q .1))

@@ -4,7 +4,7 @@ use mathlib.Core.Bool.{cond}
 use mathlib.Core.List.{List}
 use lib.Dec.{eqb}
 use lib.ListN.{length}
-use lib.Ieee.{Float, binary64, mul, lt, ofBits}
+use lib.Ieee.{Float, binary64, neg, mul, lt, ofBits}
 use Rattle.numbers.specs.Clamps.{plusZero}
 use Rattle.numbers.specs.Sums.{addedUp}
 use Rattle.refusals.specs.Outcome.{Outcome, refused, accepted, judged}
@@ -29,6 +29,10 @@ slopeAt t = cond (lt t soon) one (slopeLoading (scaled decayFitted t))
 
 unfoldable pub humpAt : Float → Float
 humpAt t = cond (lt t soon) plusZero (humpLoading (scaled decayFitted t))
+
+-- what those two take the exp of; +0 stands where they take none
+abbrev pub exponentAt : Float → Float
+exponentAt t = cond (lt t soon) plusZero (neg (scaled decayFitted t))
 
 module _ (times rates : List Float) where
   -- a sum over the points, left to right from +0

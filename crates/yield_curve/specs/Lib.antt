@@ -1,5 +1,7 @@
 pub mod Segments
+pub mod Halving
 pub mod Curve
+pub mod Lists
 pub mod Linear
 pub mod Spline
 pub mod NelsonSiegel

@@ -1,13 +1,18 @@
 // Nelson-Siegel fitted to a curve's points by least squares, at decay 0.5.
 ghost use mathlib.Core.Path.{_≡_};
+ghost use Prim.Native.Nat.{ℕ, _<_, _≤_};
+ghost use lib.ListN.{length};
 ghost use lib.Ieee.{binary64, add, mul};
 ghost use Rattle.elementary.specs.WholePower.{one};
-ghost use Rattle.yield_curve.specs.Fit.{slopeAt, humpAt, leastSquares, fitted, fit, fitOutcome};
+ghost use Rattle.elementary.specs.Exp.{exp};
+ghost use Rattle.yield_curve.specs.Segments.{knot};
+ghost use Rattle.yield_curve.specs.Fit.{slopeAt, humpAt, exponentAt, leastSquares, fitted, fit, fitOutcome};
 use crate::nelson_siegel::Loadings;
 use crate::nelson_siegel::NelsonSiegel;
 use crate::segments::knot_at;
 use crate::solve::Equation;
 use crate::solve::System;
+use elementary::exp::exp_each;
 use refusals::Verdict;
 
 pub enum FitAnswer {
@@ -15,8 +20,37 @@ pub enum FitAnswer {
     Given(NelsonSiegel),
 }
 
-// The loadings of a point's time.
-fn loadings_at(t: f64) -> Loadings
+fn exponent_at(t: f64) -> f64
+    ensures { λ r. ⌜ r ≡ exponentAt t ⌝ }
+{
+    if t < 1e-10 { 0.0 } else { -(t / 0.5) }
+}
+
+// The exponents of the points' loadings.
+fn put_exponents(times: &[f64], room: &mut [f64])
+    requires { ⌜ length (now times) ≤ length (now room) ⌝ }
+    ensures { λ _. ⌜ ((i : ℕ) → i < length (now (times .entry)) → knot (now (room .exit)) i ≡ exponentAt (knot (now (times .entry)) i)) ⌝ }
+{
+    let mut i: usize = 0;
+    while i < times.len() {
+        room[i] = exponent_at(times[i]);
+        i += 1;
+    }
+}
+
+// Their exps, eight at a time: some more places are taken, up to a whole eight.
+fn put_decays(times: &[f64], room: &mut [f64])
+    requires { ⌜ (length (now times) ≤ 120) × (length (now room) ≡ 120) ⌝ }
+    ensures { λ _. ⌜ ((i : ℕ) → i < length (now (times .entry)) → knot (now (room .exit)) i ≡ exp (exponentAt (knot (now (times .entry)) i))) ⌝ }
+{
+    put_exponents(times, room);
+    let eights = (times.len() + 7) / 8 * 8;
+    exp_each(&mut room[..eights]);
+}
+
+// The loadings of a point's time, by the exp that they take.
+fn loadings_at(t: f64, left: f64) -> Loadings
+    requires { ⌜ left ≡ exp (exponentAt t) ⌝ }
     ensures { λ l. ⌜ (l .slope ≡ slopeAt t) × (l .hump ≡ humpAt t) ⌝ }
 {
     if t < 1e-10 {
@@ -25,7 +59,11 @@ fn loadings_at(t: f64) -> Loadings
             hump: 0.0,
         };
     }
-    crate::nelson_siegel::loadings_of(t / 0.5)
+    let slope = (1.0 - left) / (t / 0.5);
+    Loadings {
+        slope,
+        hump: slope - left,
+    }
 }
 
 // An equation's sums with one point more, which has the loading g against the three.
@@ -42,8 +80,11 @@ fn with_point(e: Equation, g: f64, l: Loadings, rate: f64) -> Equation
 
 // The sums of all points, one after the other.
 fn least_squares(times: &[f64], rates: &[f64]) -> System
+    requires { ⌜ length (now times) ≤ 120 ⌝ }
     ensures { λ r. ⌜ r ≡ leastSquares (now (times .entry)) (now (rates .entry)) ⌝ }
 {
+    let mut decays = [0.0; 120];
+    put_decays(times, &mut decays);
     let none = Equation {
         x: 0.0,
         y: 0.0,
@@ -56,7 +97,7 @@ fn least_squares(times: &[f64], rates: &[f64]) -> System
     let mut i: usize = 0;
     while i < times.len() {
         let rate = knot_at(rates, i);
-        let l = loadings_at(times[i]);
+        let l = loadings_at(times[i], decays[i]);
         first = with_point(first, 1.0, l, rate);
         second = with_point(second, l.slope, l, rate);
         third = with_point(third, l.hump, l, rate);
@@ -69,8 +110,9 @@ fn least_squares(times: &[f64], rates: &[f64]) -> System
     }
 }
 
-// The model of a curve, whatever the lists are.
+// The model of a curve of at most 120 points.
 fn fit_points(times: &[f64], rates: &[f64]) -> NelsonSiegel
+    requires { ⌜ length (now times) ≤ 120 ⌝ }
     ensures { λ r. ⌜ r ≡ fitted (now (times .entry)) (now (rates .entry)) ⌝ }
 {
     if times.len() == 1 {

@@ -20,7 +20,7 @@ use refusals::Number;
 use refusals::Verdict;
 
 // y0 + w·(y1-y0).
-fn along_yields(e: Ends, t: f64) -> f64
+pub(crate) fn along_yields(e: Ends, t: f64) -> f64
     ensures { λ r. ⌜ r ≡ alongYields (record { t0 = e .t0; t1 = e .t1; r0 = e .r0; r1 = e .r1 }) t ⌝ }
 {
     e.r0 + (t - e.t0) / (e.t1 - e.t0) * (e.r1 - e.r0)

@@ -2,7 +2,7 @@
 ghost use mathlib.Core.Path.{_≡_};
 ghost use Prim.Native.Nat.{suc};
 ghost use lib.Ieee.{nan};
-ghost use Rattle.yield_curve.specs.Segments.{segmentEnding, segmentStarting, knot, lastOf};
+ghost use Rattle.yield_curve.specs.Segments.{segmentEnding, segmentStarting, knot, lastOf, flatOutside};
 
 // The two times of a segment, and the two rates.
 pub struct Ends {
@@ -84,4 +84,14 @@ pub fn ends_of(times: &[f64], rates: &[f64], i: usize) -> Ends
         r0: knot_at(rates, i),
         r1: knot_after(rates, i),
     }
+}
+
+// Flat before the first knot and past the last, and between them what is said; chosen last of all, so that many can be worked out at once.
+pub fn flat_outside(times: &[f64], rates: &[f64], t: f64, between: f64) -> f64
+    ensures { λ r. ⌜ r ≡ flatOutside (now (times .entry)) (now (rates .entry)) t between ⌝ }
+{
+    let first = knot_at(rates, 0);
+    let last = last_knot(rates);
+    let after = if last_knot(times) <= t { last } else { between };
+    if t <= knot_at(times, 0) { first } else { after }
 }

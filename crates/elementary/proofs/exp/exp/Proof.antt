@@ -1,7 +1,8 @@
 -- `elementary::exp::exp` meets its contract: the tests in the definition's order, and the steps between the ends. Assumes nothing.
 use mathlib.Core.Path.{_∙_}
 use borrow.Author.Needs.{needs}
-use Rattle.elementary.proofs.ExpSteps.{minus-708, at-nan, above, beneath, steps}
+use Rattle.elementary.specs.Exp.{below}
+use Rattle.elementary.proofs.ExpSteps.{minus-708, at-nan, above, beneath}
 use Rattle.elementary.proofs.exp.exp.Statement.{statement}
 use Rattle.elementary.proofs.exp.exp.Tie as tie
 
@@ -17,19 +18,19 @@ returns-2 c = c .infinity .ensures ∙ above (c .before .before .before .args .x
 returns-3 : tie.Need-returns-3
 returns-3 c = beneath (c .before .before .before .args .x) (c .before .before .if1 .left) (c .before .if2 .left) (rw minus-708 at (c .if3 .taken))
 
-rest-of-requires : tie.Need-rest-of-requires
-rest-of-requires c κs = (c .before .before .if1 .left, c .before .if2 .left, rw minus-708 at (c .if3 .left))
-
-series-requires : tie.Need-series-requires
-series-requires c κs = search needs
-
-scale-of-requires : tie.Need-scale-of-requires
-scale-of-requires c κs = let at = c .before .before in (at .before .before .if1 .left, at .before .if2 .left, rw minus-708 at (at .if3 .left))
+below-zero-requires : tie.Need-below-zero-requires
+unfolding below
+below-zero-requires c κs = let at = c .before in (at .before .before .if1 .left, at .before .if2 .left, rw minus-708 at (at .if3 .left), c .if4 .taken)
 
 returns-4 : tie.Need-returns-4
-returns-4 c =
-    let at = c .before .before .before in
-    steps (at .before .before .before .args .x) (at .before .before .if1 .left) (at .before .if2 .left) (rw minus-708 at (at .if3 .left)) _ _ _ (c .before .before .rest-of .ensures) (c .before .series .ensures) (c .scale-of .ensures)
+returns-4 c = c .below-zero .ensures
+
+not-below-zero-requires : tie.Need-not-below-zero-requires
+unfolding below
+not-below-zero-requires c κs = let at = c .before in (at .before .before .if1 .left, at .before .if2 .left, rw minus-708 at (at .if3 .left), c .if4 .left)
+
+returns-5 : tie.Need-returns-5
+returns-5 c = c .not-below-zero .ensures
 
 pub exp-spec : {M : Type 1} → statement M
 exp-spec =
@@ -39,7 +40,7 @@ exp-spec =
     infinity-requires
     returns-2
     returns-3
-    rest-of-requires
-    series-requires
-    scale-of-requires
-    returns-4)
+    below-zero-requires
+    returns-4
+    not-below-zero-requires
+    returns-5)

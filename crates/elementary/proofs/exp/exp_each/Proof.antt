@@ -1,112 +1,82 @@
--- `elementary::exp::exp_each` meets its contract: the numbers before `at` are done, the others as they were. Assumes nothing.
-use mathlib.Core.Path.{_≡_, refl, sym, ap, _∙_}
-use Prim.Native.Nat.{ℕ, _+_, _-_, _≤_}
+-- `elementary::exp::exp_each` meets its contract: the whole blocks are done, then the numbers behind them. Assumes nothing.
+use mathlib.Core.Path.{_≡_, sym, ap, _∙_}
+use mathlib.Core.List.{List}
+use Prim.Native.Nat.{ℕ, _+_, _-_, _%_, _≤_}
 use native.Mathlib.Omega.{arith}
 use borrow.Author.Needs.{needs}
-use borrow.Rule.Slice.PartMut.{same-len-mid}
+use borrow.Rule.Slice.PartMut.{putMid, same-len-mid}
 use denote.Ref.{now}
-use lib.ListN.{length, length-take, length-drop}
+use lib.ListN.{length}
+use lib.Ieee.{Float}
 use Rattle.elementary.specs.Exp.{exp}
 use Rattle.elementary.proofs.PartWay.{partWay, at-start, at-end, map-same, part-further}
 use Rattle.elementary.proofs.exp.exp_each.Statement.{statement}
 use Rattle.elementary.proofs.exp.exp_each.Tie as tie
 
-abbrev Inv-loop : tie.InvT-loop
-Inv-loop numbers₀ at₀ numbers at = (at ≤ length numbers₀) × (numbers ≡ partWay exp (λ x. x) at numbers₀) × (length numbers ≡ length numbers₀)
+sub-end : tie.Need-sub-end
+sub-end c = search needs
 
-abbrev μ-loop : tie.MeasureT-loop
-μ-loop numbers₀ at₀ numbers at = length numbers₀ - at
+mul-exp-blocks : tie.Need-mul-exp-blocks
+mul-exp-blocks c = search needs
 
-loop-holds : tie.Need-loop-holds Inv-loop μ-loop
-loop-holds c = (omega arith, sym (at-start exp (λ x. x) _ ∙ map-same _), refl)
+sub-exp-blocks : tie.Need-sub-exp-blocks
+sub-exp-blocks c = search needs
 
-sub-loop : tie.Need-sub-loop Inv-loop μ-loop
-sub-loop c = search needs
+part-exp-blocks-start : tie.Need-part-exp-blocks-start
+part-exp-blocks-start c = search needs
 
-add-end : tie.Need-add-end Inv-loop μ-loop
-add-end c = search needs
+part-exp-blocks-end : tie.Need-part-exp-blocks-end
+part-exp-blocks-end c = search needs
 
-mul-exp-eight : tie.Need-mul-exp-eight Inv-loop μ-loop
-mul-exp-eight c = search needs
+exp-blocks-requires : tie.Need-exp-blocks-requires
+exp-blocks-requires c κs = search needs
 
-sub-exp-eight : tie.Need-sub-exp-eight Inv-loop μ-loop
-sub-exp-eight c = search needs
+mul-exp-last : tie.Need-mul-exp-last
+mul-exp-last c = search needs
 
-part-exp-eight-start : tie.Need-part-exp-eight-start Inv-loop μ-loop
-part-exp-eight-start c = search needs
+sub-exp-last : tie.Need-sub-exp-last
+sub-exp-last c = search needs
 
-part-exp-eight-end : tie.Need-part-exp-eight-end Inv-loop μ-loop
-part-exp-eight-end c = search needs
+part-exp-last-start : tie.Need-part-exp-last-start
+part-exp-last-start c = search needs
 
-exp-eight-requires : tie.Need-exp-eight-requires Inv-loop μ-loop
-exp-eight-requires c κs =
-    let at = c .before .before in
-    simp (length-take, length-drop) (omega (arith, at .loop .inv .2))
+part-exp-last-end : tie.Need-part-exp-last-end
+part-exp-last-end c = search needs
 
-loop-less : tie.Need-loop-less Inv-loop μ-loop
-loop-less c = search needs
+exp-last-requires : tie.Need-exp-last-requires
+exp-last-requires c κs = search needs
 
-loop-again : tie.Need-loop-again Inv-loop μ-loop
-loop-again c =
-    let at = c .before .before .before .before .before in
-    let xs = now (at .before .before .args .numbers) in
-    let i = at .loop .at in
-    let e : i + (i + 8 - i) ≡ i + 8 = omega arith in
-    let l = at .loop .inv .2 in (
-      omega (arith, l),
-      part-further exp i (i + 8 - i) xs (at .loop .numbers) _ (at .loop .inv .0) (at .loop .inv .1) (c .before .before .exp-eight .ensures) ∙ ap (λ (k : ℕ). partWay exp (λ x. x) k xs) e,
-      same-len-mid i (i + 8 - i) (at .loop .numbers) (c .before .before .exp-eight .last .0) (c .before .before .exp-eight .kept .0) ∙ l,
-    )
+same-length : tie.Need-same-length
+same-length c = search needs
 
-mul-exp-one-by-one : tie.Need-mul-exp-one-by-one Inv-loop μ-loop
-mul-exp-one-by-one c = search needs
-
-sub-exp-one-by-one : tie.Need-sub-exp-one-by-one Inv-loop μ-loop
-sub-exp-one-by-one c = search needs
-
-part-exp-one-by-one-start : tie.Need-part-exp-one-by-one-start Inv-loop μ-loop
-part-exp-one-by-one-start c = search needs
-
-part-exp-one-by-one-end : tie.Need-part-exp-one-by-one-end Inv-loop μ-loop
-part-exp-one-by-one-end c = search needs
-
-exp-one-by-one-requires : tie.Need-exp-one-by-one-requires Inv-loop μ-loop
-exp-one-by-one-requires c κs = search needs
-
-same-length : tie.Need-same-length Inv-loop μ-loop
-same-length c =
-    let at = c .before .before .before .before .before in
-    same-len-mid (at .loop .at) (length (at .loop .numbers) - at .loop .at) (at .loop .numbers) (c .before .before .exp-one-by-one .last .0) (c .before .before .exp-one-by-one .kept .0) ∙ at .loop .inv .2
-
-returns : tie.Need-returns Inv-loop μ-loop
+returns : tie.Need-returns
 returns c =
-    let at = c .before .before .before .before .before in
-    let xs = now (at .before .before .args .numbers) in
-    let i = at .loop .at in
-    let n = length (at .loop .numbers) - i in
-    let h : length xs ≤ i + n = omega (arith, at .loop .inv .2) in
-    part-further exp i n xs (at .loop .numbers) _ (at .loop .inv .0) (at .loop .inv .1) (c .before .before .exp-one-by-one .ensures) ∙ at-end exp (λ x. x) (i + n) xs h
+    let last = c .before .before in
+    let done = last .before .before .before .before in
+    let xs = now (done .before .before .before .args .numbers) in
+    let e = length xs - length xs % 16 in
+    let ys : List Float = putMid 0 (e - 0) xs (done .exp-blocks .last .0) in
+    let n = length ys - e in
+    let first : ys ≡ partWay exp (λ x. x) (0 + (e - 0)) xs = part-further exp 0 (e - 0) xs xs (done .exp-blocks .last .0) (omega arith) (sym (at-start exp (λ x. x) xs ∙ map-same xs)) (done .exp-blocks .ensures) in
+    let whole : 0 + (e - 0) ≡ e = omega arith in
+    let l : length ys ≡ length xs = same-len-mid 0 (e - 0) xs (done .exp-blocks .last .0) (done .exp-blocks .kept .0) in
+    let h : length xs ≤ e + n = omega (arith, l) in
+    part-further exp e n xs ys _ (omega arith) (first ∙ ap (λ (k : ℕ). partWay exp (λ x. x) k xs) whole) (last .exp-last .ensures) ∙ at-end exp (λ x. x) (e + n) xs h
 
 pub exp-each-spec : {M : Type 1} → statement M
 exp-each-spec =
     tie.close
     (tie.spec
-    Inv-loop
-    μ-loop
-    loop-holds
-    sub-loop
-    add-end
-    mul-exp-eight
-    sub-exp-eight
-    part-exp-eight-start
-    part-exp-eight-end
-    exp-eight-requires
-    loop-less
-    loop-again
-    mul-exp-one-by-one
-    sub-exp-one-by-one
-    part-exp-one-by-one-start
-    part-exp-one-by-one-end
-    exp-one-by-one-requires
+    sub-end
+    mul-exp-blocks
+    sub-exp-blocks
+    part-exp-blocks-start
+    part-exp-blocks-end
+    exp-blocks-requires
+    mul-exp-last
+    sub-exp-last
+    part-exp-last-start
+    part-exp-last-end
+    exp-last-requires
     same-length
     returns)

@@ -1,15 +1,11 @@
 -- `elementary::exp::scale_of` meets its contract: between the ends the exponent's field is a normal number's. Assumes nothing.
-use borrow.Author.Needs.{needs}
 use Rattle.elementary.specs.Exp.{below, halvings}
 use Rattle.elementary.proofs.Multiples.{Scales, scales-of}
 use Rattle.elementary.proofs.exp.scale_of.Statement.{statement}
 use Rattle.elementary.proofs.exp.scale_of.Tie as tie
 
-scaled : (c : tie.After-multiple-of) → Scales (c .multiple-of .result) (below (c .before .args .x)) (halvings (c .before .args .x))
-scaled c = rw (c .multiple-of .ensures) (scales-of (c .before .args .x) (c .before .pre .1) (c .before .pre .2))
-
-multiple-of-requires : tie.Need-multiple-of-requires
-multiple-of-requires c κs = search needs
+scaled : (c : tie.Start) → Scales (c .args .k) (below (c .args .x)) (halvings (c .args .x))
+scaled c = scales-of (c .args .x) (c .args .k) (c .pre .0) (c .pre .1) (c .pre .2)
 
 float-to-bits-result : tie.Need-float-to-bits-result
 float-to-bits-result c = scaled c .sum-is-no-nan
@@ -21,5 +17,4 @@ returns : tie.Need-returns
 returns c = scaled c .gives
 
 pub scale-of-spec : {M : Type 1} → statement M
-scale-of-spec =
-    tie.close (tie.spec multiple-of-requires float-to-bits-result float-from-bits-result returns)
+scale-of-spec = tie.close (tie.spec float-to-bits-result float-from-bits-result returns)

@@ -1,7 +1,7 @@
 -- `pool::loans::judge_records` meets its contract: the total length first, then the kinds. Assumes nothing.
 use mathlib.Core.Path.{_∙_, ap}
 use Rattle.refusals.proofs.Verdicts.{refused-as}
-use Rattle.pool.specs.Places.{placed}
+use Rattle.refusals.specs.Places.{placed}
 use Rattle.pool.proofs.Records.{of-another-length, by-kinds}
 use borrow.Author.Needs.{needs}
 use Rattle.pool.proofs.loans.judge_records.Statement.{statement}

@@ -4,7 +4,7 @@ use mathlib.Core.Bool.{_&&_}
 use Rattle.refusals.specs.Outcome.{judged}
 use Rattle.refusals.specs.Answers.{verdictOutcome}
 use Rattle.pool.specs.Loans.{poolLines}
-use Rattle.pool.specs.Places.{placed}
+use Rattle.refusals.specs.Places.{placed}
 use Rattle.pool.specs.Flows.{tooLittle}
 use Rattle.senyolanda.specs.Pools.{speedOf, speedFor, speedInOutcome}
 use Rattle.senyolanda.proofs.Codes.{out-of-set, in-set, known, others-first, unknown}

@@ -1,10 +1,7 @@
--- `swaps::knots::last_of` meets its contract: the settled coupons added at one rate are those at any other. Assumes nothing.
+-- `swaps::knots::last_of` meets its contract: the settled coupons are the same whatever rate is tried. Assumes nothing.
 use mathlib.Core.Path.{refl, _∙_}
-use native.Mathlib.Omega.{arith}
-use Rattle.numbers.specs.Sums.{addedUp}
 use Rattle.swaps.specs.Bootstrap.{dates}
-use Rattle.swaps.proofs.Bisecting.{last-is, sum-was}
-use Rattle.swaps.proofs.Coupons.{settled-sum}
+use Rattle.swaps.proofs.Coupons.{settled-sum, settled-whole}
 use borrow.Author.Needs.{needs}
 use Rattle.swaps.proofs.knots.last_of.Statement.{statement}
 use Rattle.swaps.proofs.knots.last_of.Tie as tie
@@ -18,31 +15,23 @@ ceiling-to-u32-requires c κs = search needs
 settled-at-requires : tie.Need-settled-at-requires
 settled-at-requires c κs = search needs
 
-try-rate-requires : tie.Need-try-rate-requires
-try-rate-requires c κs = search needs
-
-add-coupons-requires : tie.Need-add-coupons-requires
-unfolding addedUp
-add-coupons-requires c κs =
-    let e = c .try-rate .ensures in
-    let a = c .before .before .before .before .before .before .args in
-    (omega arith, last-is (a .tenors .now) (a .earlier .now) (e .0) (e .1) (e .2) (e .3), refl)
+coupon-sum-requires : tie.Need-coupon-sum-requires
+coupon-sum-requires c κs = settled-whole _ _ _ (c .settled-at .ensures .1)
 
 returns : tie.Need-returns
 unfolding dates
 returns c =
-    let tried = c .before in
-    let e = tried .try-rate .ensures in
-    let settled = tried .before in
+    let settled = c .before in
     let last = settled .before .before in
-    let a = last .before .before .before .args in (
+    let s = last .before .before .before in
+    let a = s .args in (
       last .last-knot .ensures,
       refl,
       record {
         counted = settled .before .ceiling-to-u32 .ensures;
         within = settled .settled-at .ensures .0;
-        summed = λ r. sum-was (a .tenors .now) (a .earlier .now) (e .0) (e .1) (e .2) _ (c .add-coupons .ensures)
-            ∙ settled-sum (a .tenors .now) (a .earlier .now) _ _ _ (last .before .before .before .pre) (last .last-knot .ensures) (settled .settled-at .ensures .1) (settled .settled-at .ensures .2) _ r;
+        summed = λ r. c .coupon-sum .ensures
+            ∙ settled-sum (a .tenors .now) (a .earlier .now) _ _ _ (s .pre) (last .last-knot .ensures) (settled .settled-at .ensures .1) (settled .settled-at .ensures .2) r;
       },
     )
 
@@ -53,6 +42,5 @@ last-of-spec =
     last-knot-requires
     ceiling-to-u32-requires
     settled-at-requires
-    try-rate-requires
-    add-coupons-requires
+    coupon-sum-requires
     returns)

@@ -16,7 +16,7 @@ returns c =
     let found = c .before .before .before .before .before .before in
     let last = found .discount-of .ensures in
     let sums = found .before .payment-sums .ensures in
-    (rw (sums .0, last), rw (sums .1, last), sums .2, rw (sums .3, last), last)
+    (rw (sums .of-fixed, last), rw (sums .of-floating, last), sums .of-annuity, rw (sums .of-timed, last), last)
 
 pub legs-of-spec : {M : Type 1} → statement M
 legs-of-spec = tie.close (tie.spec payment-sums-requires discount-of-requires returns)

@@ -1,6 +1,10 @@
 -- `yield_curve::fitting::fit` meets its contract: the verdict on the curve decides which answer it is. Assumes nothing.
+use mathlib.Core.Path.{sym, ap, _∙_}
+use mathlib.Core.List.{[]}
+use Rattle.refusals.specs.Answers.{verdictOutcome}
 use Rattle.refusals.proofs.Verdicts.{refused-by, accepted-by}
 use Rattle.yield_curve.specs.Fit.{fit}
+use Rattle.yield_curve.proofs.CurveLines.{accepted-at-most-120}
 use borrow.Author.Needs.{needs}
 use Rattle.yield_curve.proofs.fitting.fit.Statement.{statement}
 use Rattle.yield_curve.proofs.fitting.fit.Tie as tie
@@ -15,7 +19,10 @@ enum-told : tie.Need-enum-told
 enum-told c = search needs
 
 fit-points-requires : tie.Need-fit-points-requires
-fit-points-requires c κs = search needs
+fit-points-requires c κs =
+    let judge = c .before .before in
+    let a = judge .before .before .before .args in
+    accepted-at-most-120 (a .times .now) (a .rates .now) [] (sym (ap verdictOutcome (c .enum-told .given .1)) ∙ judge .judge-curve .ensures)
 
 returns : tie.Need-returns
 unfolding fit

@@ -16,7 +16,7 @@ unfolding fitted
 returns c = rw (c .knot-at .ensures) (taken _ _ _ (eq-eqb _ 1 (c .before .if1 .taken)))
 
 least-squares-requires : tie.Need-least-squares-requires
-least-squares-requires c κs = search needs
+least-squares-requires c κs = c .before .before .before .pre
 
 solve-system-requires : tie.Need-solve-system-requires
 solve-system-requires c κs = search needs

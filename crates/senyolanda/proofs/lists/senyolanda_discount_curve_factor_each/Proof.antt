@@ -1,0 +1,22 @@
+-- `senyolanda::lists::senyolanda_discount_curve_factor_each` meets its contract. Assumes nothing.
+use Rattle.senyolanda.proofs.Handed.{told-as}
+use borrow.Author.Needs.{needs}
+use Rattle.senyolanda.proofs.lists.senyolanda_discount_curve_factor_each.Statement.{statement}
+use Rattle.senyolanda.proofs.lists.senyolanda_discount_curve_factor_each.Tie as tie
+
+discount-factor-at-each-requires : tie.Need-discount-factor-at-each-requires
+discount-factor-at-each-requires c κs = search needs
+
+verdict-result-requires : tie.Need-verdict-result-requires
+verdict-result-requires c κs = search needs
+
+same-length : tie.Need-same-length
+same-length c = search needs
+
+returns : tie.Need-returns
+returns c =
+    let each = c .before .before .before .discount-factor-at-each in
+    (told-as _ _ _ _ _ (c .verdict-result .ensures) (each .ensures .0), each .ensures .1)
+
+pub senyolanda-discount-curve-factor-each-spec : {M : Type 1} → statement M
+senyolanda-discount-curve-factor-each-spec = tie.close (tie.spec discount-factor-at-each-requires verdict-result-requires same-length returns)

@@ -1,0 +1,90 @@
+-- `swaps::discount_each::answer_one_by_one` meets its contract: the times passed have given way to their answers. Assumes nothing.
+use mathlib.Core.Path.{_≡_, refl, sym, ap, _∙_}
+use mathlib.Core.Bool.{Bool}
+use mathlib.Core.List.{List}
+use Prim.Native.Nat.{_-_, _≤_, _<_}
+use native.Mathlib.Omega.{arith}
+use denote.Ref.{now}
+use lib.ListN.{length, length-set}
+use lib.Ieee.{Float}
+use Rattle.elementary.proofs.PartWay.{partWay, at-start, one-further, next-of, at-end, map-same}
+use Rattle.swaps.specs.Discount.{zeroRateOf}
+use Rattle.swaps.specs.DiscountEach.{zeroOrExponent}
+use Rattle.swaps.proofs.DiscountList.{one-answer}
+use Rattle.swaps.proofs.discount_each.answer_one_by_one.Statement.{statement}
+use Rattle.swaps.proofs.discount_each.answer_one_by_one.Tie as tie
+
+abbrev Answer : Bool → List Float → List Float → Float → Float
+Answer exponents times rates = zeroOrExponent exponents (zeroRateOf times rates)
+
+abbrev Inv-loop : tie.InvT-loop
+Inv-loop tenors zeros asked₀ exponents j₀ asked j =
+    (j ≤ length asked₀) × (asked ≡ partWay (Answer exponents tenors zeros) (λ x. x) j asked₀) × (length asked ≡ length asked₀)
+
+abbrev μ-loop : tie.MeasureT-loop
+μ-loop tenors zeros asked₀ exponents j₀ asked j = length asked₀ - j
+
+loop-holds : tie.Need-loop-holds Inv-loop μ-loop
+loop-holds c = let a = c .before .before .before .args in (omega arith, sym (at-start (Answer (a .exponents) (now (a .tenors)) (now (a .zeros))) (λ x. x) _ ∙ map-same _), refl)
+
+mul-t : tie.Need-mul-t Inv-loop μ-loop
+mul-t c = omega arith
+
+slice-read-t : tie.Need-slice-read-t Inv-loop μ-loop
+slice-read-t c = omega arith
+
+zero-rate-of-requires : tie.Need-zero-rate-of-requires Inv-loop μ-loop
+zero-rate-of-requires c κs = tt
+
+zero-or-exponent-requires : tie.Need-zero-or-exponent-requires Inv-loop μ-loop
+zero-or-exponent-requires c κs = tt
+
+mul-asked : tie.Need-mul-asked Inv-loop μ-loop
+mul-asked c = omega arith
+
+slice-write-asked : tie.Need-slice-write-asked Inv-loop μ-loop
+slice-write-asked c = omega arith
+
+add-j : tie.Need-add-j Inv-loop μ-loop
+add-j c = omega arith
+
+loop-less : tie.Need-loop-less Inv-loop μ-loop
+loop-less c = omega arith
+
+loop-again : tie.Need-loop-again Inv-loop μ-loop
+loop-again c =
+    let at = c .before .before .before .before in
+    let a = at .before .before .before .before .args in
+    let xs = now (a .asked) in
+    let h : at .loop .j < length xs = omega arith in
+    let f = Answer (a .exponents) (now (a .tenors)) (now (a .zeros)) in (
+      omega arith,
+      one-further f (λ x. x) (at .loop .j) xs (at .loop .asked) _ h (at .loop .inv .1)
+          (one-answer (zeroRateOf (now (a .tenors)) (now (a .zeros))) (a .exponents) _ _ _ _ (next-of f (λ x. x) (at .loop .j) xs (at .loop .asked) h (at .loop .inv .1)) (c .before .zero-rate-of .ensures) (c .zero-or-exponent .ensures)),
+      simp length-set (at .loop .inv .2),
+    )
+
+same-length : tie.Need-same-length Inv-loop μ-loop
+same-length c = c .before .loop .inv .2
+
+returns : tie.Need-returns Inv-loop μ-loop
+returns c = let at = c .before in at .loop .inv .1 ∙ at-end _ (λ x. x) (at .loop .j) _ (omega arith)
+
+pub answer-one-by-one-spec : {M : Type 1} → statement M
+answer-one-by-one-spec =
+    tie.close
+    (tie.spec
+    Inv-loop
+    μ-loop
+    loop-holds
+    mul-t
+    slice-read-t
+    zero-rate-of-requires
+    zero-or-exponent-requires
+    mul-asked
+    slice-write-asked
+    add-j
+    loop-less
+    loop-again
+    same-length
+    returns)

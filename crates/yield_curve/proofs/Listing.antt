@@ -1,0 +1,102 @@
+-- A list of lookups on one curve: what its verdict says of the curve and of the list after the call, and what stands in the place of one time. Assumes nothing.
+use mathlib.Core.Path.{_≡_, refl, sym, ap, _∙_}
+use mathlib.Core.Bool.{Bool, true, false, not, _||_}
+use mathlib.Core.List.{List, [], _∷_, _++_, map}
+use Prim.Native.Nat.{ℕ, zero, suc, _<_}
+use native.Mathlib.Omega.{arith}
+use lib.Dec.{eqb}
+use lib.ListN.{length, getD}
+use lib.Ieee.{Float, nan, lt}
+use lib.Ieee.Scale.{finite}
+use borrow.Author.Tests.{eqb-true, not-false}
+use Rattle.refusals.specs.declared.Refusal.{Refusal}
+use Rattle.refusals.specs.declared.Verdict.{Verdict}
+use Rattle.refusals.specs.declared.Verdict.the-variants as verdict-is
+use Rattle.refusals.specs.Answers.{verdictOutcome}
+use Rattle.refusals.specs.Outcome.{Outcome, refused, accepted, Line, line, judged}
+use Rattle.refusals.specs.Table.{unequal, badKnotCount, badKnot, badKnotsAfter, badKnots, badTime}
+use Rattle.refusals.specs.Places.{placed}
+use Rattle.refusals.proofs.Judging.{none-is, passed}
+use Rattle.refusals.proofs.Verdicts.{verdict, refused-alike, accepted-alike}
+use Rattle.refusals.proofs.Placing.{none-bad, accepted-itself, refused-itself}
+use Rattle.yield_curve.specs.Segments.{knot, flatOutside, Ends, endsOf}
+use Rattle.yield_curve.specs.Halving.{Rising}
+use Rattle.yield_curve.specs.Curve.{curveLines}
+use Rattle.yield_curve.specs.Lists.{eachLines, eachOutcome, orAsBefore, eachAfter, rateOrExponent}
+use Rattle.yield_curve.proofs.CurveLines.{at-least-one}
+
+-- ---- a curve that is accepted is in order
+later : (bad after : Bool) → (bad || not after) ≡ false → after ≡ true
+later true after e = let z : _≡_ {A = ℕ} 0 1 = cc in absurd (omega arith)
+later false after e = not-false after e
+
+rising-after : (before : Float) (ts rs : List Float) → length ts ≡ length rs → ((q : ℕ) → getD (badKnotsAfter before ts rs) q false ≡ false)
+    → (k : ℕ) → k < length ts → lt (getD (before ∷ ts) k nan) (getD ts k nan) ≡ true
+unfolding badKnotsAfter
+rising-after before [] rs e none k h = absurd (omega arith)
+rising-after before (t ∷ ts) [] e none k h = absurd (omega arith)
+rising-after before (t ∷ ts) (r ∷ rs) e none zero h = later (badKnot t r) (lt before t) (none 0)
+rising-after before (t ∷ ts) (r ∷ rs) e none (suc k) h = rising-after t ts rs (omega arith) (λ q. none (suc q)) k (omega arith)
+
+rising : (times rates : List Float) → length times ≡ length rates → ((q : ℕ) → getD (badKnots times rates) q false ≡ false) → Rising times
+unfolding badKnots
+rising [] rates e none k h = absurd (omega arith)
+rising (t ∷ ts) [] e none k h = absurd (omega arith)
+rising (t ∷ ts) (r ∷ rs) e none k h = rising-after t ts rs (omega arith) (λ q. none (suc q)) k (omega arith)
+
+equal : (m n : ℕ) → unequal m n ≡ false → m ≡ n
+unfolding unequal
+equal m n e = eqb-true m n (not-false (eqb m n) e)
+
+module _ (times rates : List Float) (ms : List Line) (e : accepted tt ≡ verdict (curveLines times rates ++ ms)) where
+  abbrev from-5 : accepted tt ≡ verdict (line 5 (badKnotCount (length times)) ∷ record { number = 6; causes = badKnots times rates } ∷ ms)
+  from-5 = passed tt tt _ _ e .1
+
+  pub some-knots : 0 < length times
+  some-knots = at-least-one (length times) (none-is (passed tt tt _ _ from-5 .0) 0)
+
+  pub in-rising-order : Rising times
+  in-rising-order = rising times rates (equal (length times) (length rates) (none-is (passed tt tt _ _ e .0) 0)) (none-is (passed tt tt _ _ (passed tt tt _ _ from-5 .1) .0))
+
+-- ---- the list after the call
+module _ (answer : Float → Float) (times rates asked : List Float) (x : Verdict) (e : verdictOutcome x ≡ eachOutcome times rates asked) where
+  pub all-accepted : x ≡ verdict-is.Accepted → accepted tt ≡ verdict (eachLines times rates asked)
+  unfolding eachOutcome
+  all-accepted h = accepted-itself (verdict (eachLines times rates asked)) (sym (ap verdictOutcome h) ∙ e)
+
+  pub after-accepted : x ≡ verdict-is.Accepted → (done : List Float) → done ≡ map answer asked → done ≡ eachAfter answer times rates asked
+  unfolding eachAfter
+  after-accepted h done d = d ∙ ap (λ (o : Outcome (List Float)). orAsBefore o asked) (accepted-alike (eachLines times rates asked) (map answer asked) (all-accepted h))
+
+  pub after-refused : (r : Refusal) → x ≡ verdict-is.Refused r → asked ≡ eachAfter answer times rates asked
+  unfolding eachOutcome eachAfter
+  after-refused r h =
+      let it = refused-itself (verdict (eachLines times rates asked)) (r .number) (r .place) (sym (ap verdictOutcome h) ∙ e) in
+      ap (λ (o : Outcome (List Float)). orAsBefore o asked) (refused-alike (eachLines times rates asked) (map answer asked) (it .0) (it .1) (it .2))
+
+-- ---- what stands in the place of one time
+-- the rate by the segment that serves it
+pub lane-rate : (f : Float → Float) (along : Ends → Float → Float) (serving : Float → ℕ) (times rates : List Float)
+    → ((u : Float) → f u ≡ flatOutside times rates u (along (endsOf times rates (serving u)) u))
+    → (t x : Float) (i : ℕ) (e : Ends) (between y : Float) → x ≡ t → i ≡ serving t → e ≡ endsOf times rates i → between ≡ along e x → y ≡ flatOutside times rates x between → y ≡ f x
+lane-rate f along serving times rates is-f t x i e between y is-x is-i is-e is-between is-y =
+    is-y ∙ ap (flatOutside times rates x) (is-between ∙ ap (λ (g : Ends). along g x) (is-e ∙ ap (endsOf times rates) (is-i ∙ ap serving (sym is-x)))) ∙ sym (is-f x)
+
+pub one-answer : (f : Float → Float) (exponent : Bool) (t x y r : Float) → x ≡ t → y ≡ f x → r ≡ rateOrExponent exponent (λ (_ : Float). y) x → r ≡ rateOrExponent exponent f t
+unfolding rateOrExponent
+one-answer f exponent t x y r is-x is-y is-r = is-r ∙ rw (is-y, is-x)
+
+-- the exps of the exponents, and the rates themselves
+pub map-twice : (f g : Float → Float) (xs : List Float) → map f (map g xs) ≡ map (λ (x : Float). f (g x)) xs
+map-twice f g [] = refl
+map-twice f g (x ∷ xs) = ap (λ (r : List Float). f (g x) ∷ r) (map-twice f g xs)
+
+pub rates-themselves : (f : Float → Float) (xs : List Float) → map (rateOrExponent false f) xs ≡ map f xs
+unfolding rateOrExponent
+rates-themselves f xs = refl
+
+-- ---- times that are all finite
+pub all-finite-accepted : (asked : List Float) → ((k : ℕ) → k < length asked → finite (getD asked k nan) ≡ true)
+    → accepted tt ≡ placed (verdict ((record { number = 7; causes = map badTime asked }) ∷ []))
+unfolding placed judged badTime
+all-finite-accepted asked h = ap placed (none-bad 7 0 badTime asked nan (λ i l. ap not (h i l)))
