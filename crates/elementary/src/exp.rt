@@ -146,9 +146,8 @@ pub fn exp(x: f64) -> f64
     not_below_zero(x)
 }
 
-// Whether each of sixteen is a number between the ends.
+// Whether each is a number between the ends; all are asked alike, so that several are asked at once.
 fn all_inside(numbers: &[f64]) -> bool
-    requires { ⌜ length (now numbers) ≡ 16 ⌝ }
     ensures { λ r. ⌜ (r ≡ true → (k : ℕ) → k < length (now (numbers .entry))
         → (ne (getD (now (numbers .entry)) k nan) (getD (now (numbers .entry)) k nan) ≡ false)
         × (lt highest (getD (now (numbers .entry)) k nan) ≡ false)
@@ -156,7 +155,7 @@ fn all_inside(numbers: &[f64]) -> bool
 {
     let mut inside = true;
     let mut j: usize = 0;
-    while j < 16 {
+    while j < numbers.len() {
         let x = numbers[j];
         inside = inside & (x <= 709.0) & (x >= -708.0);
         j += 1;
@@ -193,6 +192,32 @@ fn exp_sixteen(numbers: &mut [f64])
         }
         let mut i: usize = 0;
         while i < 16 {
+            numbers[i] = series(rests[i]) * scales[i];
+            i += 1;
+        }
+    } else {
+        exp_one_by_one(numbers);
+    }
+}
+
+// Eight at once, where each is a number between the ends.
+fn exp_eight(numbers: &mut [f64])
+    requires { ⌜ length (now numbers) ≡ 8 ⌝ }
+    ensures { λ _. ⌜ now (numbers .exit) ≡ map exp (now (numbers .entry)) ⌝ }
+{
+    if all_inside(numbers) {
+        let mut rests = [0.0; 8];
+        let mut scales = [0.0; 8];
+        let mut j: usize = 0;
+        while j < 8 {
+            let x = numbers[j];
+            let k = multiple_of(x);
+            rests[j] = taken_off(x, k);
+            scales[j] = scale_of(x, k);
+            j += 1;
+        }
+        let mut i: usize = 0;
+        while i < 8 {
             numbers[i] = series(rests[i]) * scales[i];
             i += 1;
         }
@@ -242,12 +267,14 @@ fn exp_few(numbers: &mut [f64])
     }
 }
 
-// Fewer than sixteen: up to four are quicker one by one.
+// Fewer than sixteen: up to four are quicker one by one, and eight, which a search asks for again and again, have a block of their own.
 fn exp_last(numbers: &mut [f64])
     requires { ⌜ length (now numbers) ≤ 16 ⌝ }
     ensures { λ _. ⌜ now (numbers .exit) ≡ map exp (now (numbers .entry)) ⌝ }
 {
-    if numbers.len() <= 4 {
+    if numbers.len() == 8 {
+        exp_eight(numbers);
+    } else if numbers.len() <= 4 {
         exp_one_by_one(numbers);
     } else {
         exp_few(numbers);

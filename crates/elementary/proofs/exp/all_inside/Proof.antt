@@ -12,10 +12,10 @@ use Rattle.elementary.proofs.exp.all_inside.Statement.{statement}
 use Rattle.elementary.proofs.exp.all_inside.Tie as tie
 
 abbrev Inv-loop : tie.InvT-loop
-Inv-loop numbers inside₀ j₀ inside j = (j ≤ 16) × (inside ≡ true → (k : ℕ) → k < j → Inside (getD numbers k nan))
+Inv-loop numbers inside₀ j₀ inside j = (j ≤ length numbers) × (inside ≡ true → (k : ℕ) → k < j → Inside (getD numbers k nan))
 
 abbrev μ-loop : tie.MeasureT-loop
-μ-loop numbers inside₀ j₀ inside j = 16 - j
+μ-loop numbers inside₀ j₀ inside j = length numbers - j
 
 loop-holds : tie.Need-loop-holds Inv-loop μ-loop
 loop-holds c = (omega arith, λ e k h. absurd (omega arith))
@@ -24,7 +24,7 @@ mul-x : tie.Need-mul-x Inv-loop μ-loop
 mul-x c = search needs
 
 shared-slice-read-x : tie.Need-shared-slice-read-x Inv-loop μ-loop
-shared-slice-read-x c = omega (arith, c .before .before .before .pre)
+shared-slice-read-x c = search needs
 
 add-j : tie.Need-add-j Inv-loop μ-loop
 add-j c = omega arith
@@ -38,7 +38,7 @@ loop-again c =
     (omega arith, λ e. let w = further-inside (at .loop .inside) _ (rw minus-708 at e) in below-more _ _ (at .loop .inv .1 (w .0)) (w .1))
 
 returns : tie.Need-returns Inv-loop μ-loop
-returns c e k h = c .before .loop .inv .1 e k (omega (arith, c .before .before .pre))
+returns c e k h = c .before .loop .inv .1 e k (omega arith)
 
 pub all-inside-spec : {M : Type 1} → statement M
 all-inside-spec =

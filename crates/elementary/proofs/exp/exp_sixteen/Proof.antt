@@ -55,7 +55,7 @@ lane xs rests scales i sum h f er es et =
     steps (getD xs i nan) (f .0) (f .1) (f .2) (getD rests i nan) sum (getD scales i nan) (rw er (map-at rest i xs h)) es (rw et (map-at scale i xs h))
 
 all-inside-requires : tie.Need-all-inside-requires Inv-loop μ-loop Inv-loop2 μ-loop2
-all-inside-requires c κs = c .before .before .pre
+all-inside-requires c κs = search needs
 
 loop-holds : tie.Need-loop-holds Inv-loop μ-loop Inv-loop2 μ-loop2
 loop-holds c =
