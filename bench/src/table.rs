@@ -51,7 +51,7 @@ fn line(job: &mut Job, quantlib: &mut Sides, instructions: &Instructions) -> Str
     let third = best.get(2).map_or(String::new(), |time| format!("quantlib {time:.1}"));
     let judged = judged(job.target, ratio);
     let line = format!(
-        "{:42} ours {:10.1} rust {:11.1} ratio {ratio:7.2} {judged:17} {:32} {third}",
+        "{:46} ours {:10.1} rust {:11.1} ratio {ratio:7.2} {judged:17} {:32} {third}",
         job.name, best[0], best[1], instructions.said(job),
     );
     line.trim_end().to_string()
