@@ -108,7 +108,8 @@ static void is_as_one_by_one(void) {
 
 /* A loan of a few months, any rate and any principal, now and then one that is refused, or is no loan. */
 static struct loan_parts random_loan(void) {
-    struct loan_parts loan = { 1, 1000 + random_below(1000), 0.01 * random_below(20), 1 + random_below(12), SENYOLANDA_LOAN_BYTES };
+    double principal = 1000 + random_below(1000), rate = 0.01 * random_below(20);
+    struct loan_parts loan = { 1, principal, rate, 1 + random_below(12), SENYOLANDA_LOAN_BYTES };
     switch (random_below(12)) {
     case 0: loan.term = 0; break;
     case 1: loan.principal = random_number(); break;

@@ -160,8 +160,9 @@ static void wild_loans(void) {
 /* States that the caller made up: any balance, some months done. */
 static void made_up_loans(void) {
     for (int i = 0; i < 4000; i++) {
-        uint32_t term = 1 + random_below(40);
-        draw_loan(random_number(), random_number(), random_number(), term, random_below(term + 1));
+        uint32_t term = 1 + random_below(40), done = random_below(term + 1);
+        double balance = random_number(), rate = random_number(), payment = random_number();
+        draw_loan(balance, rate, payment, term, done);
     }
 }
 
