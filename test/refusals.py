@@ -65,6 +65,7 @@ def argument(name, item, way, extent, usual):
         values = pool() if name == "records" else record()
     elif extent == "a list":
         values = numbers(usual if chance() < 0.95 else pick([0, 4, 5, 12, 121, 1201, 2402]))
+        values = values if item == "double" else [count() for _ in values]
     elif way == "by value":
         return number() if item == "double" else count()
     else:
