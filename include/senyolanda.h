@@ -81,7 +81,8 @@ enum senyolanda_refusal {
     SENYOLANDA_ACCEPTED = 0,
     SENYOLANDA_BAD_AMOUNT = 1,       /* a principal, face or notional that is negative, infinite or NaN */
     SENYOLANDA_BAD_TERM = 2,         /* a loan of no months, or of more than 1,200 */
-    SENYOLANDA_NO_ROOM = 3,          /* rows are due and not one fits; a pool's months, or a bond's flows, do not all fit */
+    SENYOLANDA_NO_ROOM = 3,          /* rows are due and not one fits; a pool's months, a bond's flows, or a book's answers, do
+                                        not all fit */
     SENYOLANDA_UNEQUAL_LISTS = 4,    /* two lists that belong together are not equally long */
     SENYOLANDA_BAD_KNOT_COUNT = 5,   /* a curve without a knot, or with more than 120 */
     SENYOLANDA_BAD_KNOT = 6,         /* a knot infinite or NaN, before time 0, or not after the knot before it; to bootstrap: a
@@ -91,7 +92,8 @@ enum senyolanda_refusal {
     SENYOLANDA_BAD_FREQUENCY = 8,    /* a swap that pays 0, or more than 365, times a year */
     SENYOLANDA_BAD_NUMBER = 9,       /* a price, yield, coupon, closing cost, flow amount or swap rate infinite or NaN */
     SENYOLANDA_PAST_THE_TERM = 10,   /* a loan in hand with more months done than its term has */
-    SENYOLANDA_BAD_RECORD = 11,      /* bytes of another kind or length, or a code that stands for nothing */
+    SENYOLANDA_BAD_RECORD = 11,      /* bytes of another kind or length, or a code that stands for nothing; a book of more than
+                                        256 records */
     SENYOLANDA_NO_YIELD = 12,        /* no yield in the searched ranges, up to 50, is known to give the market price */
     SENYOLANDA_NO_BREAK_EVEN = 13    /* the new loan saves nothing a month, or pays its cost back only after its term */
 };
