@@ -3,6 +3,7 @@
 # make x86-64     builds build/x86-64/libsenyolanda.a alone, on any machine
 # make run        builds, draws a sample loan's schedule, and prints a sample loan's statement
 # make test       proves everything from nothing by `rt ci`, then runs every test; its last line is `rt ci`'s
+# make impostors CRATES=..   sees that the crates' impostors (every crate's, where none is named) are refused, each where it must be
 # make test-x86-64   runs the tests in C over the library for x86-64, emulated on any other machine
 # make differential COUNT=..   compares every function with the Rust's published files, which FIN_PRIMITIVES says where they are
 # make bench      times jobs beside the Rust, both for this machine's own processor
@@ -61,7 +62,7 @@ build/test/statement: host/statement.c include/senyolanda.h build/libsenyolanda.
 x86-64: build/x86-64/libsenyolanda.a
 
 build/x86-64/libsenyolanda.a: $(SOURCES) | kit
-	rt staticlib senyolanda
+	tools/counted build/staticlib.log staticlib senyolanda
 	install -D -m 644 target/staticlib/libsenyolanda.a $@
 
 run: build/schedule build/statement
@@ -91,6 +92,12 @@ tests: all build/test/statement
 	test/refusals.py build/libsenyolanda.so
 	test/install.sh
 	$(MAKE) differential-if-there
+
+# Wrong programs that must be refused beyond those that the gate tries. Before a landing: for every crate that it touched.
+.PHONY: impostors
+impostors: kit
+	@tools/need python3 python3
+	tools/impostors $(CRATES)
 
 # The tests in C once more, over the library for x86-64; elsewhere they are cross-compiled and emulated.
 .PHONY: test-x86-64

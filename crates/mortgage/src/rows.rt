@@ -3,7 +3,7 @@ ghost use mathlib.Core.Path.{_≡_};
 ghost use Prim.Native.Nat.{_+_, _<_};
 ghost use mathlib.Core.Bool.{true};
 ghost use lib.Ieee.{binary64, sub, lt};
-ghost use Rattle.numbers.specs.Clamps.{plusZero};
+ghost use Rattle.numbers.specs.Clamps.{plusZero, raised, lowered};
 ghost use Rattle.mortgage.specs.RowRule.{endMonth, due, interestOf, rowOf, nextOf};
 ghost use Rattle.mortgage.specs.Rows.{nextRow, nextOutcome};
 use crate::Loan;
@@ -61,6 +61,13 @@ fn month_of(loan: Loan, payment: f64, principal: f64, interest: f64, left: f64, 
     Month { row, next }
 }
 
+// What of an amount pays principal: raised to 0, then lowered to the balance.
+fn principal_within(amount: f64, balance: f64) -> f64
+    ensures { λ r. ⌜ r ≡ lowered (raised amount) balance ⌝ }
+{
+    numbers::clamps::lower_to(numbers::clamps::raise_to_zero(amount), balance)
+}
+
 // Any month that is due.
 pub(crate) fn any_month(loan: Loan) -> Month
     requires { ⌜ loan .done < endMonth loan ⌝ }
@@ -73,8 +80,7 @@ pub(crate) fn any_month(loan: Loan) -> Month
         let shown = numbers::clamps::raise_to_zero(left);
         month_of(loan, principal + interest, principal, interest, left, shown)
     } else {
-        let offered = numbers::clamps::raise_to_zero(loan.payment - interest);
-        let principal = numbers::clamps::lower_to(offered, loan.balance);
+        let principal = principal_within(loan.payment - interest, loan.balance);
         let left = loan.balance - principal;
         let shown = numbers::clamps::raise_to_zero(left);
         month_of(loan, loan.payment, principal, interest, left, shown)

@@ -1,7 +1,5 @@
 -- `mortgage::rows::any_month` meets its contract: the test says whether the month is the last, and each arm has its steps. Assumes nothing.
-use mathlib.Core.Path.{sym, ap, _∙_}
-use lib.Ieee.{Float}
-use Rattle.numbers.specs.Clamps.{lowered}
+use mathlib.Core.Path.{sym, _∙_}
 use native.Mathlib.Omega.{arith}
 use Rattle.mortgage.specs.RowRule.{endMonth, interestOf}
 use Rattle.mortgage.proofs.RowLaws.{last-month, other-month}
@@ -25,14 +23,11 @@ raise-to-zero-requires c κs = search needs
 month-of-requires : tie.Need-month-of-requires
 month-of-requires c κs = search needs
 
+principal-within-requires : tie.Need-principal-within-requires
+principal-within-requires c κs = search needs
+
 raise-to-zero-requires-2 : tie.Need-raise-to-zero-requires-2
 raise-to-zero-requires-2 c κs = search needs
-
-lower-to-requires : tie.Need-lower-to-requires
-lower-to-requires c κs = search needs
-
-raise-to-zero-requires-3 : tie.Need-raise-to-zero-requires-3
-raise-to-zero-requires-3 c κs = search needs
 
 month-of-requires-2 : tie.Need-month-of-requires-2
 month-of-requires-2 c κs = search needs
@@ -47,12 +42,11 @@ returns c =
 returns-2 : tie.Need-returns-2
 unfolding interestOf
 returns-2 c =
-    let e = c .before .before .before .before .before .before in
+    let e = c .before .before .before .before .before in
     let f = e .before .before .before in
     let l = f .before .before .args .loan in
     other-month l _ _ _ _ _ (λ h. e .if1 .left (h ∙ sym (e .before .end-month .ensures))) (rw (f .before .monthly-rate .ensures))
-    (c .before .before .before .lower-to .ensures ∙ ap (λ (x : Float). lowered x (l .balance)) (c .before .before .before .before .raise-to-zero2 .ensures))
-    (c .before .raise-to-zero3 .ensures) (c .month-of2 .ensures .0) (c .month-of2 .ensures .1)
+    (c .before .before .before .principal-within .ensures) (c .before .raise-to-zero2 .ensures) (c .month-of2 .ensures .0) (c .month-of2 .ensures .1)
 
 pub any-month-spec : {M : Type 1} → statement M
 any-month-spec =
@@ -63,9 +57,8 @@ any-month-spec =
     end-month-requires
     raise-to-zero-requires
     month-of-requires
+    principal-within-requires
     raise-to-zero-requires-2
-    lower-to-requires
-    raise-to-zero-requires-3
     month-of-requires-2
     returns
     returns-2)
