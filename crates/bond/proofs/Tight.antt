@@ -5,6 +5,8 @@ use Rattle.refusals.proofs.OneToOne.{same-refusal, number-one-to-one, verdict-o
 use Rattle.bond.specs.declared.codes.FrequencyRead.{FrequencyRead}
 use Rattle.bond.specs.declared.codes.FrequencyRead.the-variants as frequency-is
 use Rattle.bond.specs.Codes.{frequencyOutcome}
+use Rattle.bond.proofs.bonds.periods_per_year.Kinds as periods-per-year-kinds
+use Rattle.bond.proofs.bonds.periods_per_year.Reads as periods-per-year
 use Rattle.bond.proofs.bonds.judge_numbers.Kinds as judge-numbers-kinds
 use Rattle.bond.proofs.bonds.judge_numbers.Reads as judge-numbers
 use Rattle.bond.proofs.price.price.Kinds as price-kinds
@@ -41,6 +43,9 @@ frequency-one-to-one (frequency-is.Refused r) (frequency-is.Refused s) e = ap fr
 frequency-one-to-one (frequency-is.Refused r) (frequency-is.Given g) e = cc
 frequency-one-to-one (frequency-is.Given f) (frequency-is.Refused s) e = cc
 frequency-one-to-one (frequency-is.Given f) (frequency-is.Given g) e = cc
+
+pub periods-per-year-determined : Determined 0 periods-per-year-kinds.ps periods-per-year-kinds.r periods-per-year.Post
+periods-per-year-determined κs a x y e e′ p q = p ∙ sym q
 
 pub judge-numbers-determined : Determined 0 judge-numbers-kinds.ps judge-numbers-kinds.r judge-numbers.Post
 judge-numbers-determined κs a x y e e′ p q = verdict-one-to-one x y (p ∙ sym q)

@@ -14,15 +14,15 @@ use Rattle.bond.specs.declared.Frequency.{Frequency}
 use Rattle.bond.specs.declared.Frequency.the-variants.{Annual, SemiAnnual, Quarterly, Monthly}
 
 -- coupons a year
-abbrev pub perYear : Frequency → ℕ
-perYear Annual = 1
-perYear SemiAnnual = 2
-perYear Quarterly = 4
-perYear Monthly = 12
+abbrev pub periodsPerYear : Frequency → ℕ
+periodsPerYear Annual = 1
+periodsPerYear SemiAnnual = 2
+periodsPerYear Quarterly = 4
+periodsPerYear Monthly = 12
 
 -- "m", as a float
 abbrev pub couponsAYear : Bond → Float
-couponsAYear b = ofInt binary64 (pos (perYear (b .frequency)))
+couponsAYear b = ofInt binary64 (pos (periodsPerYear (b .frequency)))
 
 -- "c": the coupon of a period, face·rate/m left to right
 unfoldable pub periodCoupon : Bond → Float

@@ -4,15 +4,15 @@ ghost use mathlib.Core.Bool.{_||_};
 ghost use Rattle.refusals.specs.Outcome.{judged};
 ghost use Rattle.refusals.specs.Answers.{verdictOutcome};
 ghost use Rattle.refusals.specs.Table.{badNumber};
-ghost use Rattle.bond.specs.Bonds.{perYear, couponsAYear, periodCoupon, periods, badMaturity, numberLines, bondLines};
+ghost use Rattle.bond.specs.Bonds.{periodsPerYear, couponsAYear, periodCoupon, periods, badMaturity, numberLines, bondLines};
 ghost use Rattle.bond.specs.Worked.{WorkedOut};
 use crate::Bond;
 use crate::Frequency;
 use refusals::Verdict;
 
 // How many coupons a year.
-fn per_year(frequency: Frequency) -> u32
-    ensures { λ r. ⌜ r ≡ perYear frequency ⌝ }
+pub fn periods_per_year(frequency: Frequency) -> u32
+    ensures { λ r. ⌜ r ≡ periodsPerYear frequency ⌝ }
 {
     match frequency {
         Frequency::Annual => 1,
@@ -27,7 +27,7 @@ fn coupons_a_year(bond: Bond) -> f64
     ensures { λ r. ⌜ r ≡ couponsAYear bond ⌝ }
 {
     let frequency = bond.frequency;
-    per_year(frequency) as f64
+    periods_per_year(frequency) as f64
 }
 
 // The coupon of a period.

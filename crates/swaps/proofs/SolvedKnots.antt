@@ -1,4 +1,4 @@
--- The knots of a bootstrap solved one after the other: what stands in front of the list is the zero rates up to there. Assumes nothing.
+-- The knots of a bootstrap solved one after the other: what stands in front of the two rooms is the tenors and the zero rates up to there. Assumes nothing.
 use mathlib.Core.Path.{_≡_, sym, ap, _∙_}
 use mathlib.Core.List.{List, [], _∷_, _++_}
 use Prim.Native.Nat.{ℕ, suc, _+_, _-_, _<_}
@@ -18,21 +18,21 @@ last-taken tenors i h =
     let at : length (take (suc i) tenors) - 1 ≡ i = omega arith in
     ap (knot (take (suc i) tenors)) at ∙ getD-take (suc i) tenors i nan (omega arith)
 
-module _ (tenors pars zeros : List Float) (i : ℕ) (h : i < length tenors) (g : i < length zeros) where
-  pub one-knot-more : length (take (i + 1) tenors) ≡ length (take i zeros) + 1
+module _ (tenors pars room zeros : List Float) (i : ℕ) (h : i < length tenors) (g : i < length zeros) (put : take (i + 1) room ≡ take (i + 1) tenors) where
+  pub one-knot-more : length (take (i + 1) room) ≡ length (take i zeros) + 1
   one-knot-more =
-      let a : length (take (i + 1) tenors) ≡ i + 1 = length-take-le (i + 1) tenors (omega arith) in
+      let a : length (take (i + 1) room) ≡ i + 1 = ap length put ∙ length-take-le (i + 1) tenors (omega arith) in
       let b : length (take i zeros) ≡ i = length-take-le i zeros (omega arith) in
       omega arith
 
   abbrev Solution : Float
   Solution =
-      solvedOr (λ (x : Float). parError (take (i + 1) tenors) (take i zeros ++ x ∷ []) (lastOf (take (i + 1) tenors)) (getD pars i nan))
+      solvedOr (λ (x : Float). parError (take (i + 1) room) (take i zeros ++ x ∷ []) (lastOf (take (i + 1) room)) (getD pars i nan))
       (ln (add binary64 one (getD pars i nan)))
 
   is-next : take i zeros ≡ zerosUpTo tenors pars i → Solution ≡ nextZero tenors pars (zerosUpTo tenors pars i) i
   unfolding nextZero
-  is-next e = rw (add-one i, last-taken tenors i h, e)
+  is-next e = rw (put, add-one i, last-taken tenors i h, e)
 
   pub knot-solved : (zero : Float) → take i zeros ≡ zerosUpTo tenors pars i → zero ≡ Solution → take (i + 1) (set zeros i zero) ≡ zerosUpTo tenors pars (i + 1)
   unfolding zerosUpTo

@@ -85,28 +85,19 @@ fn judge_pars(tenors: &[f64], pars: &[f64]) -> Verdict
     judge_each(tenors, pars)
 }
 
-// Each knot's zero rate from those before it.
-fn solve_knots(tenors: &[f64], pars: &[f64], zeros: &mut [f64])
-    requires { ⌜ (length (now tenors) ≡ length (now pars)) × (length (now zeros) ≡ length (now tenors)) ⌝ }
+// One knot at a time: its tenor into the room, and its zero rate from the tenors and rates that stand there.
+fn solve_knots(tenors: &[f64], pars: &[f64], times: &mut [f64], zeros: &mut [f64])
+    requires { ⌜ (length (now tenors) ≡ length (now pars)) × (length (now times) ≡ length (now tenors)) × (length (now zeros) ≡ length (now tenors)) ⌝ }
+    ensures { λ _. ⌜ now (times .exit) ≡ now (tenors .entry) ⌝ }
     ensures { λ _. ⌜ now (zeros .exit) ≡ zerosUpTo (now (tenors .entry)) (now (pars .entry)) (length (now (tenors .entry))) ⌝ }
 {
     let mut i: usize = 0;
     while i < tenors.len() {
         let end = i + 1;
-        let zero = next_zero(&tenors[..end], &zeros[..i], pars[i]);
+        times[i] = tenors[i];
+        let zero = next_zero(&times[..end], &zeros[..i], pars[i]);
         zeros[i] = zero;
         i = end;
-    }
-}
-
-fn copy_in(from: &[f64], to: &mut [f64])
-    requires { ⌜ length (now to) ≡ length (now from) ⌝ }
-    ensures { λ _. ⌜ now (to .exit) ≡ now (from .entry) ⌝ }
-{
-    let mut i: usize = 0;
-    while i < from.len() {
-        to[i] = from[i];
-        i += 1;
     }
 }
 
@@ -127,9 +118,8 @@ fn solved_curve(tenors: &[f64], pars: &[f64]) -> DiscountCurve
 {
     let knots = tenors.len();
     let mut times = empty_room();
-    copy_in(tenors, &mut times[..knots]);
     let mut zeros = empty_room();
-    solve_knots(tenors, pars, &mut zeros[..knots]);
+    solve_knots(tenors, pars, &mut times[..knots], &mut zeros[..knots]);
     DiscountCurve {
         tenors: times,
         zeros,
