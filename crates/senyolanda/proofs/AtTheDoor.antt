@@ -6,21 +6,22 @@ use mathlib.Core.List.{List, [], _∷_, _++_}
 use Prim.Native.Nat.{ℕ, _+_, _*_, _^_, _<_, _≤_}
 use native.Mathlib.Omega.{arith}
 use lib.Dec.{T, eqb, ltb}
-use lib.ListN.{take}
+use lib.ListN.{length, take}
 use lib.Ieee.{Float, binary64, fits}
 use lib.Ieee.Bits.{ofBits-fits}
 use borrow.Author.Tests.{ltb-false, eqb-false, ne-eqb}
-use Rattle.refusals.specs.Outcome.{Outcome, refused, accepted, andThen}
-use Rattle.refusals.specs.Table.{badTerm}
+use Rattle.refusals.specs.Outcome.{Outcome, refused, accepted, line, andThen}
+use Rattle.refusals.specs.Table.{badTerm, badRecord}
 use Rattle.refusals.proofs.Verdicts.{accepted-value}
 use Rattle.records.specs.declared.Row.{Row}
 use Rattle.records.specs.declared.Terms.{Terms}
 use Rattle.records.specs.Bytes.{floatAt}
-use Rattle.records.specs.Kinds.{termsIn, readTerms, rowBytes, rowIn, readRow}
+use Rattle.records.specs.Kinds.{termsKind, termsSize, termsIn, readTerms, rowBytes, rowIn, readRow}
 use Rattle.records.proofs.Exactly.{read-terms-exactly}
 use Rattle.records.proofs.RoundTrip.{row-again}
 use Rattle.mortgage.specs.declared.Loan.{Loan}
 use Rattle.mortgage.specs.declared.draws.Portion.{Portion}
+use Rattle.mortgage.specs.Terms.{termsLines}
 use Rattle.mortgage.specs.Payment.{payment, opened, openedWith}
 use Rattle.mortgage.specs.Row.{width, places}
 use Rattle.mortgage.specs.RowRule.{endMonth, due, rowOf, nextOf}
@@ -36,16 +37,18 @@ use Rattle.mortgage.proofs.Demand3.{as-opened}
 use Rattle.senyolanda.specs.Told.{refusalResult, told}
 use Rattle.senyolanda.specs.Loans.{loanOf, loanNumbers, portionNumbers, nextNumbers}
 use Rattle.senyolanda.specs.Calls.{Kept, inHand, openAnswer, openWithAnswer, drawAnswer, nextAnswer, Call, draw, next-row, rowsSaid, files, keptAfter, filed, kept, RepaysOnceOpen}
-use Rattle.senyolanda.proofs.ResultSays.{never-0, says-numbers}
+use Rattle.senyolanda.proofs.ResultSays.{never-0, sayable, says-numbers}
 
 -- ---- a refused call says no rows
 none-said : (k p written : ℕ) → 0 < k → rowsSaid (refusalResult k p) written ≡ 0
 none-said k p written h = rw (ne-eqb (refusalResult k p) 0 (never-0 k p h))
 
 refused-draw-number : (l : Loan) (room : List Float) (k p : ℕ) → drawn l room ≡ refused k p → 0 < k
-refused-draw-number l room k p e = says-numbers (drawLines l _) k p tt (draw-refused-exactly l room k p .0 e .applies) .0
+unfolding sayable
+refused-draw-number l room k p e = says-numbers (drawLines l (length room)) k p tt (draw-refused-exactly l room k p .0 e .applies) .0
 
 refused-next-number : (l : Loan) (k p : ℕ) → nextRow l ≡ refused k p → 0 < k
+unfolding sayable
 refused-next-number l k p e = says-numbers (stateLines l) k p tt (next-row-refused-exactly l k p .0 e .applies) .0
 
 -- ---- one call
@@ -151,11 +154,12 @@ once-open t pay before (accepted l) pays fit number opens z calls ended =
 
 -- what a record's opening is refused with, and what it is where it is accepted
 opening-number : (bytes : List ℕ) (pay : Terms → Float) (k p : ℕ) → andThen (readTerms bytes) (λ (t : Terms). openedWith t (pay t)) ≡ refused k p → 0 < k
+unfolding sayable
 opening-number bytes pay k p = go (readTerms bytes) refl
   where
     go : (o : Outcome Terms) → readTerms bytes ≡ o → andThen o (λ (t : Terms). openedWith t (pay t)) ≡ refused k p → 0 < k
-    go (refused j q) read e = let n : j ≡ k = cc in let h = says-numbers _ j q tt (read-terms-exactly bytes j q .0 read .applies) .0 in omega arith
-    go (accepted t) read e = says-numbers _ k p tt (opening-with-payment-refused-exactly t (pay t) k p .0 e .applies) .0
+    go (refused j q) read e = let n : j ≡ k = cc in let h = says-numbers (line 11 (badRecord termsKind termsSize bytes) ∷ []) j q tt (read-terms-exactly bytes j q .0 read .applies) .0 in omega arith
+    go (accepted t) read e = says-numbers (termsLines t) k p tt (opening-with-payment-refused-exactly t (pay t) k p .0 e .applies) .0
 
 opening-terms : (bytes : List ℕ) (pay : Terms → Float) (l : Loan) → andThen (readTerms bytes) (λ (t : Terms). openedWith t (pay t)) ≡ accepted l
     → openedWith (termsIn bytes) (pay (termsIn bytes)) ≡ accepted l

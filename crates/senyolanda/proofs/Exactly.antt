@@ -1,6 +1,6 @@
 -- What is refused at the door that C uses, of the functions that read a record first: 11 and nothing else exactly when the record is of another kind or length; else number k at place p
 -- exactly when that is the table's lowest, a code outside its set being 11 in its turn. `ResultSays.result-exactly` says the same of a call's result. Assumes nothing.
-use mathlib.Core.Path.{_≡_, refl, ap, subst}
+use mathlib.Core.Path.{_≡_, refl, ap, _∙_}
 use mathlib.Core.Logic.{_⊎_, _↔_}
 use mathlib.Core.Bool.{Bool, true, false, cond, _||_}
 use mathlib.Core.List.{List, [], _∷_, _++_}
@@ -11,6 +11,7 @@ use lib.Ieee.{Float}
 use Rattle.refusals.specs.Outcome.{Outcome, refused, accepted, Line, line, lineOfTwo, firstOr, judged, Lowest, ExactlyWhen, above, rising, andThen}
 use Rattle.refusals.specs.Table.{badRecord}
 use Rattle.refusals.proofs.Judging.{exactly}
+use Rattle.refusals.proofs.Verdicts.{accepted-value}
 use Rattle.records.specs.declared.Terms.{Terms}
 use Rattle.records.specs.declared.BondRecord.{BondRecord}
 use Rattle.records.specs.declared.SwapRecord.{SwapRecord}
@@ -171,17 +172,19 @@ module _ (bytes : List ℕ) (beside : Float) where
 
   -- the bond that was read is the record's
   read-bond-is : (b : Bond) → bondRead bytes beside ≡ accepted b → b ≡ held
-  unfolding bondRead bondFields judged firstOr
-  read-bond-is b = go (badRecord bondKind bondSize bytes) (badFrequencyCode (bondIn bytes .frequency)) (judged (uncodedLines (bondIn bytes) beside) tt)
+  unfolding bondRead bondFields
+  read-bond-is b = go (bondFields bytes) refl
     where
-      coded-is : (code : Bool) (others : Outcome Unit) → coded code others held ≡ accepted b → b ≡ held
-      coded-is true others e = absurd (eleven-waits others held b e)
-      coded-is false others e = cc
+      coded-is : (code : Bool) (others : Outcome Unit) (v : Bond) → coded code others v ≡ accepted b → b ≡ v
+      coded-is true others v e = absurd (eleven-waits others v b e)
+      coded-is false others v e = cc
 
-      go : (bad code : Bool) (others : Outcome Unit)
-          → andThen (cond bad (refused 11 0) (accepted (bondIn bytes))) (λ (r : BondRecord). coded code others held) ≡ accepted b → b ≡ held
-      go true code others e = absurd (apart 11 0 b e)
-      go false code others e = coded-is code others e
+      go : (x : Outcome BondRecord) → bondFields bytes ≡ x
+          → andThen x (λ (r : BondRecord). coded (badFrequencyCode (r .frequency)) (judged (uncodedLines r beside) tt) (bondOf r)) ≡ accepted b → b ≡ held
+      go (refused k p) e h = absurd (apart k p b h)
+      go (accepted r) e h =
+          let is : r ≡ bondIn bytes = accepted-value (line 11 (badRecord bondKind bondSize bytes) ∷ []) (bondIn bytes) r e in
+          coded-is (badFrequencyCode (r .frequency)) (judged (uncodedLines r beside) tt) (bondOf r) h ∙ ap bondOf is
 
   at-its-yield : (asked : Float → Bond → Outcome Float) → ((ytm : Float) → ExactlyWhen (bondLines held ytm) (asked ytm held))
       → RefusedAtPrice (ofBond bytes beside (λ (b : Bond). andThen (yieldToMaturity beside b) (λ (ytm : Float). asked ytm b)))

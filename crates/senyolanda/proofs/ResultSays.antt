@@ -21,7 +21,7 @@ pub never-0 : (k p : ℕ) → 0 < k → ¬ (refusalResult k p ≡ 0)
 never-0 k p h e = omega arith
 
 -- ---- lines whose numbers the low half holds, and are not 0
-pub sayable : List Line → Bool
+unfoldable pub sayable : List Line → Bool
 sayable [] = true
 sayable (l ∷ ls) = (ltb 0 (l .number) && ltb (l .number) 0x1_0000_0000) && sayable ls
 
