@@ -60,7 +60,7 @@ unfolding priceChange above
 price-change-refused-exactly ytm dy b = exactly _ (bondLines b ytm) tt
 
 -- ---- at a market price: the lines of the yield, or, where a yield is given, the lines of what is asked at it
-at-price-exactly : (asked : Float → Outcome Float) (lines : Float → List Line) → ((ytm : Float) → ExactlyWhen (lines ytm) (asked ytm))
+pub at-price-exactly : (asked : Float → Outcome Float) (lines : Float → List Line) → ((ytm : Float) → ExactlyWhen (lines ytm) (asked ytm))
     → (first : List Line) (o : Outcome Float) → ExactlyWhen first o → (k p : ℕ)
     → (andThen o asked ≡ refused k p) ↔ (Lowest first k p ⊎ ((ytm : Float) × (o ≡ accepted ytm) × Lowest (lines ytm) k p))
 at-price-exactly asked lines later first (refused j q) ex k p = (

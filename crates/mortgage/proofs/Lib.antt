@@ -1,6 +1,7 @@
 pub mod Portions
 pub mod Columns
 pub mod RowLaws
+pub mod RowFits
 pub mod DrawCases
 pub mod Apart
 pub mod PairLaws

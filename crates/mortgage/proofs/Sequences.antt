@@ -2,22 +2,23 @@
 -- portions to the end are the rows of one draw, and as many rooms with a whole row as rows are due finish the loan. Assumes nothing.
 use mathlib.Core.Path.{_≡_, refl, sym, ap, _∙_}
 use mathlib.Core.Bool.{Bool, true, false, cond}
-use mathlib.Core.List.{List, [], _∷_}
-use Prim.Native.Nat.{ℕ, zero, suc, _+_, _-_, _*_, _≤_}
+use mathlib.Core.List.{List, [], _∷_, _++_}
+use Prim.Native.Nat.{ℕ, zero, suc, _+_, _-_, _*_, _<_, _≤_}
 use native.Mathlib.Omega.{arith}
 use lib.Dec.{ltb}
 use lib.ListN.{length}
 use lib.Ieee.{Float}
 use borrow.Author.Tests.{ltb-false}
-use Rattle.refusals.specs.Outcome.{refused, accepted, firstOr, judged}
+use Rattle.refusals.specs.Outcome.{refused, accepted, line, judged}
+use Rattle.refusals.proofs.Judging.{none-is, passed}
 use Rattle.refusals.proofs.Verdicts.{accepted-value}
 use Rattle.refusals.specs.Table.{badAmount, badTerm}
 use Rattle.records.specs.declared.Terms.{Terms}
 use Rattle.mortgage.specs.declared.Loan.{Loan}
-use Rattle.mortgage.specs.Row.{width}
+use Rattle.mortgage.specs.Row.{width, places}
 use Rattle.mortgage.specs.Terms.{termsLines}
 use Rattle.mortgage.specs.Payment.{loanOf, openedWith}
-use Rattle.mortgage.specs.RowRule.{endMonth, due, nextOf}
+use Rattle.mortgage.specs.RowRule.{endMonth, due, rowOf, nextOf}
 use Rattle.mortgage.specs.Steps.{stepped, written}
 use Rattle.mortgage.specs.Rows.{after, rows}
 use Rattle.mortgage.specs.Draws.{count, drawn}
@@ -27,40 +28,51 @@ use Rattle.mortgage.proofs.RowLaws.{due-after}
 use Rattle.mortgage.proofs.DrawCases.{rowPlaces}
 use Rattle.mortgage.proofs.DrawLaws.{wrote-is, rows-within, rows-drawn, handed-back}
 
--- ---- the draws of a loan in hand filed so many of its rows, and left it after them
-pub record Filed (l : Loan) (rooms : List (List Float)) : Type 0 where
+-- ---- what the next so many rows of a loan in hand are, and the loan that stands after them: whatever calls wrote them
+pub record Moves (l : Loan) (numbers : List Float) (m : Loan) : Type 0 where
   pub many : ℕ
-  pub numbers : filed l rooms ≡ rows many l
-  pub state : left l rooms ≡ after many l
+  pub by-the-rule : numbers ≡ rows many l
+  pub state : m ≡ after many l
   pub within : many ≤ due l
 
-filed-none : (l : Loan) → Filed l []
-unfolding filed left stepped written
-filed-none l = record { many = 0; numbers = refl; state = refl; within = omega arith }
+pub stays : (l : Loan) → Moves l [] l
+unfolding stepped written
+stays l = record { many = 0; by-the-rule = refl; state = refl; within = omega arith }
 
--- k rows of one draw, and those of the draws after it
-filed-more : (l : Loan) (room : List Float) (rooms : List (List Float)) → Filed (handedBack (drawn l room) l) rooms → Filed l (room ∷ rooms)
-unfolding filed left
-filed-more l room rooms f =
-    let k : ℕ = rowsIn (drawn l room) in
-    let n : ℕ = f .many in
-    let h : handedBack (drawn l room) l ≡ after k l = handed-back l room in
+pub onward : (l m n : Loan) (a b : List Float) → Moves l a m → Moves m b n → Moves l (a ++ b) n
+onward l m n a b f g =
+    let k : ℕ = f .many in
+    let j : ℕ = g .many in
     record {
-      many = n + k;
-      numbers = rw (wrote-is l room, f .numbers, h) (sym (written-sum nextOf rowPlaces k n l));
-      state = f .state ∙ rw h (sym (stepped-sum nextOf k n l));
-      within = omega (arith, rows-within l room, f .within, due-after k l, ap due h);
+      many = j + k;
+      by-the-rule = rw (f .by-the-rule, g .by-the-rule, f .state) (sym (written-sum nextOf rowPlaces k j l));
+      state = g .state ∙ rw (f .state) (sym (stepped-sum nextOf k j l));
+      within = omega (arith, f .within, g .within, due-after k l, ap due (f .state));
     }
 
-pub filed-rows : (l : Loan) (rooms : List (List Float)) → Filed l rooms
-filed-rows l [] = filed-none l
-filed-rows l (room ∷ rooms) = filed-more l room rooms (filed-rows (handedBack (drawn l room) l) rooms)
+-- they are as many as are no longer due, so that where nothing is due the rows from the first loan to its end were written
+pub moved-is-no-longer-due : (l : Loan) (numbers : List Float) (m : Loan) (f : Moves l numbers m) → f .many ≡ due l - due m
+moved-is-no-longer-due l numbers m f = omega (arith, f .within, ap due (f .state), due-after (f .many) l)
 
--- they are as many as are no longer due
-pub filed-is-no-longer-due : (l : Loan) (rooms : List (List Float)) → filed-rows l rooms .many ≡ due l - due (left l rooms)
-filed-is-no-longer-due l rooms =
-    let f = filed-rows l rooms in
-    omega (arith, f .within, ap due (f .state), due-after (f .many) l)
+pub moved-to-the-end : (l : Loan) (numbers : List Float) (m : Loan) → Moves l numbers m → due m ≡ 0 → numbers ≡ rows (due l) l
+moved-to-the-end l numbers m f z =
+    let e : f .many ≡ due l = omega (arith, moved-is-no-longer-due l numbers m f) in
+    f .by-the-rule ∙ ap (λ (k : ℕ). rows k l) e
+
+-- one draw, accepted or refused, and the next row alone
+pub draw-moves : (l : Loan) (room : List Float) → Moves l (wrote l room) (handedBack (drawn l room) l)
+draw-moves l room = record { many = rowsIn (drawn l room); by-the-rule = wrote-is l room; state = handed-back l room; within = rows-within l room }
+
+pub next-row-moves : (l : Loan) → 0 < due l → Moves l (places (rowOf l)) (nextOf l)
+unfolding stepped written
+next-row-moves l h = record { many = 1; by-the-rule = refl; state = refl; within = omega arith }
+
+-- the draws of a loan in hand filed so many of its rows, and left it after them
+pub filed-rows : (l : Loan) (rooms : List (List Float)) → Moves l (filed l rooms) (left l rooms)
+unfolding filed left
+filed-rows l [] = stays l
+filed-rows l (room ∷ rooms) =
+    onward l (handedBack (drawn l room) l) _ _ _ (draw-moves l room) (filed-rows (handedBack (drawn l room) l) rooms)
 
 -- ---- a refused draw may stand anywhere
 pub refused-draw-changes-nothing : (l : Loan) (room : List Float) (rooms : List (List Float)) (k p : ℕ) → drawn l room ≡ refused k p
@@ -70,10 +82,7 @@ refused-draw-changes-nothing l room rooms k p e = (rw e, rw e)
 
 -- ---- whatever rooms a loan in hand is drawn into to its end, its rows from here to the end are filed
 pub filed-to-the-end : (l : Loan) (rooms : List (List Float)) → due (left l rooms) ≡ 0 → filed l rooms ≡ rows (due l) l
-filed-to-the-end l rooms z =
-    let f = filed-rows l rooms in
-    let e : f .many ≡ due l = omega (arith, filed-is-no-longer-due l rooms) in
-    f .numbers ∙ ap (λ (k : ℕ). rows k l) e
+filed-to-the-end l rooms z = moved-to-the-end l (filed l rooms) (left l rooms) (filed-rows l rooms) z
 
 -- for an acceptable term, those of one draw into a room that holds them all
 pub portions-are-one : (l : Loan) (rooms : List (List Float)) (big : List Float) → badTerm (l .term) ≡ false → due (left l rooms) ≡ 0 → due l * width ≤ length big
@@ -83,7 +92,7 @@ portions-are-one l rooms big good z b =
     filed-to-the-end l rooms z ∙ ap (λ (k : ℕ). rows k l) e ∙ sym (wrote-is l big)
 
 -- ---- how many draws are enough: the rows due after one
-term-after : (k : ℕ) (l : Loan) → after k l .term ≡ l .term
+pub term-after : (k : ℕ) (l : Loan) → after k l .term ≡ l .term
 unfolding stepped nextOf
 term-after zero l = refl
 term-after (suc k) l = term-after k l
@@ -111,14 +120,11 @@ rooms-enough (room ∷ rooms) l good h =
     rooms-enough rooms (handedBack (drawn l room) l) (still-good l room good) (due-after-draw l room good (roomy rooms) h)
 
 -- ---- from an opening
-term-accepted : (t : Terms) (pay : Float) (l : Loan) → openedWith t pay ≡ accepted l → badTerm (t .term) ≡ false
-unfolding openedWith judged firstOr
-term-accepted t pay l = go (badAmount (t .principal)) (badTerm (t .term))
-  where
-    go : (a b : Bool) → cond a (refused 1 0) (cond b (refused 2 0) (accepted (loanOf t pay))) ≡ accepted l → b ≡ false
-    go true b e = let z : _≡_ {A = ℕ} 0 1 = cc in absurd (omega arith)
-    go false true e = let z : _≡_ {A = ℕ} 0 1 = cc in absurd (omega arith)
-    go false false e = refl
+pub term-accepted : (t : Terms) (pay : Float) (l : Loan) → openedWith t pay ≡ accepted l → badTerm (t .term) ≡ false
+unfolding openedWith
+term-accepted t pay l e =
+    let rest = passed (loanOf t pay) l (line 1 (badAmount (t .principal))) (line 2 (badTerm (t .term)) ∷ []) (sym e) .1 in
+    none-is (passed (loanOf t pay) l (line 2 (badTerm (t .term))) [] rest .0) 0
 
 -- "Since a draw with room writes at least one row, n draws are enough."
 pub enough-draws : (t : Terms) (pay : Float) (l : Loan) → openedWith t pay ≡ accepted l → (rooms : List (List Float)) → t .term ≤ roomy rooms → due (left l rooms) ≡ 0

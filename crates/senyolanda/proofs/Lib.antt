@@ -1,8 +1,10 @@
+pub mod AtTheDoor
 pub mod Bootstrap
 pub mod CodeWaits
 pub mod Codes
 pub mod Copied
 pub mod DatedAmounts
+pub mod Exactly
 pub mod Handed
 pub mod ResultSays
 pub mod Tight

@@ -1,5 +1,6 @@
 pub mod Told
 pub mod Loans
+pub mod Calls
 pub mod Bonds
 pub mod Models
 pub mod Swaps
@@ -7,3 +8,4 @@ pub mod Pools
 pub mod Spreads
 pub mod Dated
 pub mod Books
+pub mod RecordLines

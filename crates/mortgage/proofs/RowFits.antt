@@ -1,0 +1,56 @@
+-- Every number of a loan's next row, and of the loan after it, is one that the machine holds, where the loan's own payment and balance are. Assumes nothing.
+use Prim.Native.Nat.{ℕ, zero, suc}
+use lib.Dec.{T}
+use lib.IntN.{pos}
+use lib.Ieee.{Float, binary64, sub, div, eq, fits, lt, ofInt, ofBits}
+use lib.Ieee.Fits.{cond-fits, add-fits, sub-fits, mul-fits, div-fits}
+use Rattle.numbers.specs.Clamps.{plusZero, raised, lowered}
+use Rattle.records.specs.declared.Terms.{Terms}
+use Rattle.mortgage.specs.declared.Loan.{Loan}
+use Rattle.mortgage.specs.Payment.{monthlyRate, growth, payment, levelPayment}
+use Rattle.mortgage.specs.RowRule.{last, interestOf, principalOf, paymentOf, newBalance, nextOf}
+use Rattle.mortgage.specs.Steps.{stepped}
+use Rattle.mortgage.specs.Rows.{after}
+
+pub raised-held : (x : Float) → T (fits binary64 x) → T (fits binary64 (raised x))
+unfolding fits ofBits
+raised-held x h = cond-fits binary64 (lt plusZero x) x plusZero h tt
+
+pub lowered-held : (p b : Float) → T (fits binary64 p) → T (fits binary64 b) → T (fits binary64 (lowered p b))
+lowered-held p b h g = cond-fits binary64 (lt p b) p b h g
+
+-- ---- the payment that is worked out
+pub payment-held : (t : Terms) → T (fits binary64 (payment t))
+unfolding payment levelPayment
+payment-held t =
+    cond-fits binary64 (eq (monthlyRate (t .rate)) plusZero) (div binary64 (t .principal) (ofInt binary64 (pos (t .term))))
+    (levelPayment (t .principal) (monthlyRate (t .rate)) (growth (monthlyRate (t .rate)) (t .term))) (div-fits binary64 _ _) (div-fits binary64 _ _)
+
+-- ---- a row of a loan in hand
+module _ (l : Loan) (pays : T (fits binary64 (l .payment))) (owes : T (fits binary64 (l .balance))) where
+  pub interest-held : T (fits binary64 (interestOf l))
+  unfolding interestOf
+  interest-held = mul-fits binary64 _ _
+
+  pub principal-held : T (fits binary64 (principalOf l))
+  unfolding principalOf
+  principal-held =
+      cond-fits binary64 (last l) (l .balance) _ owes
+      (lowered-held (raised (sub binary64 (l .payment) (interestOf l))) (l .balance) (raised-held _ (sub-fits binary64 _ _)) owes)
+
+  pub payment-column-held : T (fits binary64 (paymentOf l))
+  unfolding paymentOf
+  payment-column-held = cond-fits binary64 (last l) _ (l .payment) (add-fits binary64 _ _) pays
+
+  pub balance-held : T (fits binary64 (newBalance l))
+  unfolding newBalance
+  balance-held = sub-fits binary64 _ _
+
+  pub balance-column-held : T (fits binary64 (raised (newBalance l)))
+  balance-column-held = raised-held (newBalance l) balance-held
+
+-- ---- the balance after so many rows
+pub balance-after-held : (k : ℕ) (l : Loan) → T (fits binary64 (l .balance)) → T (fits binary64 (after k l .balance))
+unfolding stepped nextOf newBalance
+balance-after-held zero l owes = owes
+balance-after-held (suc k) l owes = sub-fits binary64 _ _

@@ -1,0 +1,185 @@
+-- Demand 3 at the door that C uses: whatever bytes are handed to an opening, where its result is 0, whatever draws and next-row calls follow, in any mix, with any rooms, refused ones
+-- among them, each handed what the one before handed back: once nothing is due, what was filed is the loan's rows by the row rule, and repays it. Assumes nothing.
+use mathlib.Core.Path.{_≡_, refl, sym, ap, _∙_, subst}
+use mathlib.Core.Bool.{Bool, true, false, cond, _||_}
+use mathlib.Core.List.{List, [], _∷_, _++_}
+use Prim.Native.Nat.{ℕ, _+_, _*_, _^_, _<_, _≤_}
+use native.Mathlib.Omega.{arith}
+use lib.Dec.{T, eqb, ltb}
+use lib.ListN.{length, take}
+use lib.Ieee.{Float, binary64, fits}
+use lib.Ieee.Bits.{ofBits-fits}
+use borrow.Author.Tests.{ltb-false, eqb-false, ne-eqb}
+use Rattle.refusals.specs.Outcome.{Outcome, refused, accepted, line, andThen}
+use Rattle.refusals.specs.Table.{badTerm, badRecord}
+use Rattle.refusals.proofs.Verdicts.{accepted-value}
+use Rattle.records.specs.declared.Row.{Row}
+use Rattle.records.specs.declared.Terms.{Terms}
+use Rattle.records.specs.Bytes.{floatAt}
+use Rattle.records.specs.Kinds.{termsKind, termsSize, termsIn, readTerms, rowBytes, rowIn, readRow}
+use Rattle.records.proofs.Exactly.{read-terms-exactly}
+use Rattle.records.proofs.RoundTrip.{row-again}
+use Rattle.mortgage.specs.declared.Loan.{Loan}
+use Rattle.mortgage.specs.declared.draws.Portion.{Portion}
+use Rattle.mortgage.specs.Terms.{termsLines}
+use Rattle.mortgage.specs.Payment.{payment, opened, openedWith}
+use Rattle.mortgage.specs.Row.{width, places}
+use Rattle.mortgage.specs.RowRule.{endMonth, due, rowOf, nextOf}
+use Rattle.mortgage.specs.Rows.{after, rows, NextRow, finished, next, stateLines, nextRow}
+use Rattle.mortgage.specs.Draws.{drawLines, drawn, filled}
+use Rattle.mortgage.specs.Demand3.{Repaid, rowsIn, handedBack, wrote}
+use Rattle.mortgage.proofs.Exactly.{opening-with-payment-refused-exactly, draw-refused-exactly, next-row-refused-exactly}
+use Rattle.mortgage.proofs.RowLaws.{rate-after, payment-after}
+use Rattle.mortgage.proofs.RowFits.{payment-held, interest-held, principal-held, payment-column-held, balance-column-held, balance-after-held}
+use Rattle.mortgage.proofs.DrawLaws.{hands-on}
+use Rattle.mortgage.proofs.Sequences.{Moves, stays, onward, moved-to-the-end, draw-moves, next-row-moves, term-after}
+use Rattle.mortgage.proofs.Demand3.{as-opened}
+use Rattle.senyolanda.specs.Told.{refusalResult, told}
+use Rattle.senyolanda.specs.Loans.{loanOf, loanNumbers, portionNumbers, nextNumbers}
+use Rattle.senyolanda.specs.Calls.{Kept, inHand, openAnswer, openWithAnswer, drawAnswer, nextAnswer, Call, draw, next-row, rowsSaid, files, keptAfter, filed, kept, RepaysOnceOpen}
+use Rattle.senyolanda.proofs.ResultSays.{never-0, sayable, says-numbers}
+
+-- ---- a refused call says no rows
+none-said : (k p written : ℕ) → 0 < k → rowsSaid (refusalResult k p) written ≡ 0
+none-said k p written h = rw (ne-eqb (refusalResult k p) 0 (never-0 k p h))
+
+refused-draw-number : (l : Loan) (room : List Float) (k p : ℕ) → drawn l room ≡ refused k p → 0 < k
+unfolding sayable
+refused-draw-number l room k p e = says-numbers (drawLines l (length room)) k p tt (draw-refused-exactly l room k p .0 e .applies) .0
+
+refused-next-number : (l : Loan) (k p : ℕ) → nextRow l ≡ refused k p → 0 < k
+unfolding sayable
+refused-next-number l k p e = says-numbers (stateLines l) k p tt (next-row-refused-exactly l k p .0 e .applies) .0
+
+-- ---- one call
+-- a loan in hand is its five numbers
+rebuilt : (m : Loan) (term : ℕ) (rate payment : Float) → m .term ≡ term → m .rate ≡ rate → m .payment ≡ payment → loanOf term rate payment (m .done) (m .balance) ≡ m
+rebuilt m term rate payment e f g = rw (sym e, sym f, sym g)
+
+-- what is due is no further than the term, so a u32 holds its month
+month-held : (l : Loan) → badTerm (l .term) ≡ false → 0 < due l → l .done + 1 < 2 ^ 32
+unfolding due endMonth badTerm
+month-held l good h = let n : l .term ≤ 1200 = at-most (eqb (l .term) 0) (ltb 1200 (l .term)) (ltb-false 1200 (l .term)) good in omega arith
+  where
+    at-most : (none many : Bool) → (many ≡ false → l .term ≤ 1200) → (none || many) ≡ false → l .term ≤ 1200
+    at-most false false f e = f refl
+    at-most false true f e = absurd (subst T e tt)
+    at-most true many f e = absurd (subst T e tt)
+
+-- a row's record holds the row
+row-in-record : (l : Loan) → badTerm (l .term) ≡ false → T (fits binary64 (l .payment)) → T (fits binary64 (l .balance)) → 0 < due l → rowIn (rowBytes (rowOf l)) ≡ rowOf l
+unfolding readRow rowOf
+row-in-record l good pays owes h =
+    sym
+    (accepted-value _ (rowIn (rowBytes (rowOf l))) (rowOf l)
+    (row-again (rowOf l) (month-held l good h) (payment-column-held l pays owes) (principal-held l pays owes) (interest-held l pays owes) (balance-column-held l pays owes)))
+
+module _ (k : Kept) (written owed : ℕ) where
+  abbrev l : Loan
+  l = inHand k
+
+  draw-files : (room : List Float) → files k (draw room written owed) ≡ wrote l room
+  unfolding files wrote told
+  draw-files room = go (drawn l room) refl
+    where
+      go : (o : Outcome Portion) → drawn l room ≡ o
+          → take (rowsSaid (told portionNumbers o (k .3, k .4, written, owed) .0) (told portionNumbers o (k .3, k .4, written, owed) .1 .2) * width) (filled l room) ≡ take (rowsIn o * width) (filled l room)
+      go (refused j p) e = rw (none-said j p written (refused-draw-number l room j p e))
+      go (accepted d) e = refl
+
+  draw-keeps : (room : List Float) → inHand (keptAfter k (draw room written owed)) ≡ handedBack (drawn l room) l
+  unfolding keptAfter told
+  draw-keeps room = go (drawn l room) refl
+    where
+      go : (o : Outcome Portion) → drawn l room ≡ o
+          → loanOf (k .0) (k .1) (k .2) (told portionNumbers o (k .3, k .4, written, owed) .1 .0) (told portionNumbers o (k .3, k .4, written, owed) .1 .1) ≡ handedBack o l
+      go (refused j p) e = refl
+      go (accepted d) e =
+          let on : d .loan ≡ after (d .written) l = hands-on l room d e in
+          rebuilt (d .loan) (k .0) (k .1) (k .2) (ap (λ (m : Loan). m .term) on ∙ term-after (d .written) l) (ap (λ (m : Loan). m .rate) on ∙ rate-after (d .written) l)
+          (ap (λ (m : Loan). m .payment) on ∙ payment-after (d .written) l)
+
+  a-draw : (room : List Float) → Moves l (files k (draw room written owed)) (inHand (keptAfter k (draw room written owed)))
+  a-draw room = rw (draw-files room, draw-keeps room) (draw-moves l room)
+
+  module _ (bytes : List ℕ) (good : badTerm (k .0) ≡ false) (pays : T (fits binary64 (k .2))) (owes : T (fits binary64 (k .4))) where
+    abbrev Told : Outcome NextRow → ℕ × (ℕ × Float × List ℕ × ℕ × ℕ)
+    Told o = told (nextNumbers l bytes) o (k .3, k .4, bytes, written, owed)
+
+    a-next-row : Moves l (files k (next-row bytes written owed)) (inHand (keptAfter k (next-row bytes written owed)))
+    unfolding files keptAfter told nextRow nextOf
+    a-next-row = go (nextRow l) refl
+      where
+        last-one : (row : Row) (m : Loan) (none : Bool) → (none ≡ false → 0 < due l) → next row m ≡ cond none finished (next (rowOf l) (nextOf l))
+            → Moves l (take (1 * width) (places (rowIn (rowBytes row)))) (loanOf (k .0) (k .1) (k .2) (m .done) (m .balance))
+        last-one row m true f e = let z : _≡_ {A = ℕ} 0 1 = cc in absurd (omega arith)
+        last-one row m false f e =
+            let h = f refl in
+            let a : row ≡ rowOf l = cc in
+            let b : m ≡ nextOf l = cc in
+            rw (a, b, row-in-record l good pays owes h) (next-row-moves l h)
+
+        go : (o : Outcome NextRow) → nextRow l ≡ o
+            → Moves l (take (rowsSaid (Told o .0) (Told o .1 .3) * width) (places (rowIn (Told o .1 .2)))) (loanOf (k .0) (k .1) (k .2) (Told o .1 .0) (Told o .1 .1))
+        go (refused j p) e = rw (none-said j p written (refused-next-number l j p e)) (stays l)
+        go (accepted finished) e = stays l
+        go (accepted (next row m)) e =
+            last-one row m (eqb (due l) 0) (λ z. (let n = eqb-false (due l) 0 z in omega arith)) (accepted-value (stateLines l) _ (next row m) e)
+
+-- ---- calls one after the other
+still-held : (k : Kept) (c : Call) → Moves (inHand k) (files k c) (inHand (keptAfter k c)) → T (fits binary64 (k .4)) → T (fits binary64 (keptAfter k c .4))
+still-held k c f owes = subst (λ (m : Loan). T (fits binary64 (m .balance))) (sym (f .state)) (balance-after-held (f .many) (inHand k) owes)
+
+calls-move : (calls : List Call) (k : Kept) → badTerm (k .0) ≡ false → T (fits binary64 (k .2)) → T (fits binary64 (k .4)) → Moves (inHand k) (filed k calls) (inHand (kept k calls))
+unfolding filed kept keptAfter
+calls-move [] k good pays owes = stays (inHand k)
+calls-move (draw room w o ∷ calls) k good pays owes =
+    let one = a-draw k w o room in
+    onward (inHand k) _ _ _ _ one (calls-move calls (keptAfter k (draw room w o)) good pays (still-held k (draw room w o) one owes))
+calls-move (next-row bytes w o ∷ calls) k good pays owes =
+    let one = a-next-row k w o bytes good pays owes in
+    onward (inHand k) _ _ _ _ one (calls-move calls (keptAfter k (next-row bytes w o)) good pays (still-held k (next-row bytes w o) one owes))
+
+-- ---- an opening, and the calls after it
+-- of an outcome that is refused with no number below 1, and whose loan is as opened
+once-open : (t : Terms) (pay : Float) (before : Kept) (o : Outcome Loan) → T (fits binary64 pay) → T (fits binary64 (t .principal))
+    → ((k p : ℕ) → o ≡ refused k p → 0 < k) → ((l : Loan) → o ≡ accepted l → openedWith t pay ≡ accepted l) → RepaysOnceOpen t (told loanNumbers o before)
+unfolding told
+once-open t pay before (refused k p) pays fit number opens z = absurd (never-0 k p (number k p refl) z)
+once-open t pay before (accepted l) pays fit number opens z calls ended =
+    let own = as-opened t pay l fit (opens l refl) in
+    let moves = calls-move calls (loanNumbers l) (own .good) (rw (own .pays) pays) (rw (own .owes) fit) in
+    let e : filed (loanNumbers l) calls ≡ rows (t .term) l = moved-to-the-end l (filed (loanNumbers l) calls) _ moves ended ∙ ap (λ (n : ℕ). rows n l) (own .whole) in
+    (e, rw e (own .repaid-by-rows))
+
+-- what a record's opening is refused with, and what it is where it is accepted
+opening-number : (bytes : List ℕ) (pay : Terms → Float) (k p : ℕ) → andThen (readTerms bytes) (λ (t : Terms). openedWith t (pay t)) ≡ refused k p → 0 < k
+unfolding sayable
+opening-number bytes pay k p = go (readTerms bytes) refl
+  where
+    go : (o : Outcome Terms) → readTerms bytes ≡ o → andThen o (λ (t : Terms). openedWith t (pay t)) ≡ refused k p → 0 < k
+    go (refused j q) read e = let n : j ≡ k = cc in let h = says-numbers (line 11 (badRecord termsKind termsSize bytes) ∷ []) j q tt (read-terms-exactly bytes j q .0 read .applies) .0 in omega arith
+    go (accepted t) read e = says-numbers (termsLines t) k p tt (opening-with-payment-refused-exactly t (pay t) k p .0 e .applies) .0
+
+opening-terms : (bytes : List ℕ) (pay : Terms → Float) (l : Loan) → andThen (readTerms bytes) (λ (t : Terms). openedWith t (pay t)) ≡ accepted l
+    → openedWith (termsIn bytes) (pay (termsIn bytes)) ≡ accepted l
+unfolding readTerms
+opening-terms bytes pay l = go (readTerms bytes) refl
+  where
+    go : (o : Outcome Terms) → readTerms bytes ≡ o → andThen o (λ (t : Terms). openedWith t (pay t)) ≡ accepted l → openedWith (termsIn bytes) (pay (termsIn bytes)) ≡ accepted l
+    go (refused j q) read e = let z : _≡_ {A = ℕ} 0 1 = cc in absurd (omega arith)
+    go (accepted t) read e = let is : t ≡ termsIn bytes = accepted-value _ (termsIn bytes) t read in subst (λ (u : Terms). openedWith u (pay u) ≡ accepted l) is e
+
+principal-held-in : (bytes : List ℕ) → T (fits binary64 (termsIn bytes .principal))
+unfolding termsIn floatAt
+principal-held-in bytes = ofBits-fits binary64 _
+
+-- ---- demand 3, of any bytes at all: with the worked-out payment, and with any given one
+pub demand3-at-the-door : (bytes : List ℕ) (before : Kept) → RepaysOnceOpen (termsIn bytes) (openAnswer bytes before)
+unfolding opened
+demand3-at-the-door bytes before =
+    once-open (termsIn bytes) (payment (termsIn bytes)) before _ (payment-held (termsIn bytes)) (principal-held-in bytes) (opening-number bytes payment) (opening-terms bytes payment)
+
+pub demand3-at-the-door-given : (bytes : List ℕ) (pay : Float) (before : Kept) → T (fits binary64 pay) → RepaysOnceOpen (termsIn bytes) (openWithAnswer bytes pay before)
+demand3-at-the-door-given bytes pay before pays =
+    once-open (termsIn bytes) pay before _ pays (principal-held-in bytes) (opening-number bytes (λ (t : Terms). pay)) (opening-terms bytes (λ (t : Terms). pay))

@@ -1,0 +1,247 @@
+-- What is refused at the door that C uses, of the functions that read a record first: 11 and nothing else exactly when the record is of another kind or length; else number k at place p
+-- exactly when that is the table's lowest, a code outside its set being 11 in its turn. `ResultSays.result-exactly` says the same of a call's result. Assumes nothing.
+use mathlib.Core.Path.{_≡_, refl, ap, _∙_}
+use mathlib.Core.Logic.{_⊎_, _↔_}
+use mathlib.Core.Bool.{Bool, true, false, cond, _||_}
+use mathlib.Core.List.{List, [], _∷_, _++_}
+use Prim.Native.Nat.{ℕ}
+use native.Mathlib.Omega.{arith}
+use lib.Dec.{T}
+use lib.Ieee.{Float}
+use Rattle.refusals.specs.Outcome.{Outcome, refused, accepted, Line, line, lineOfTwo, firstOr, judged, Lowest, ExactlyWhen, above, rising, andThen}
+use Rattle.refusals.specs.Table.{badRecord}
+use Rattle.refusals.proofs.Judging.{exactly}
+use Rattle.refusals.proofs.Verdicts.{accepted-value}
+use Rattle.records.specs.declared.Terms.{Terms}
+use Rattle.records.specs.declared.BondRecord.{BondRecord}
+use Rattle.records.specs.declared.SwapRecord.{SwapRecord}
+use Rattle.records.specs.Kinds.{termsKind, termsSize, termsIn, readTerms, bondKind, bondSize, bondIn, bondFields, swapKind, swapSize, swapIn, swapFields}
+use Rattle.mortgage.specs.declared.Loan.{Loan}
+use Rattle.mortgage.specs.Terms.{termsLines}
+use Rattle.mortgage.specs.Payment.{monthlyPayment, opened, openedWith}
+use Rattle.mortgage.specs.Totals.{totalInterest, remainingBalance, loanToValue}
+use Rattle.mortgage.specs.Savings.{prepaymentSavings}
+use Rattle.mortgage.specs.BreakEven.{breakEvenLines, refinanceBreakeven}
+use Rattle.mortgage.proofs.Exactly as loans
+use Rattle.bond.specs.declared.Bond.{Bond}
+use Rattle.bond.specs.Bonds.{bondLines}
+use Rattle.bond.specs.Codes.{badCode as badFrequencyCode}
+use Rattle.bond.specs.Price.{price, dv01, currentYield}
+use Rattle.bond.specs.Yield.{yieldToMaturity}
+use Rattle.bond.specs.Durations.{macaulayDuration, modifiedDuration, convexity, priceChange, macaulayAtPrice, modifiedAtPrice, convexityAtPrice}
+use Rattle.bond.proofs.Exactly as bonds
+use Rattle.bond.proofs.Exactly.{yieldLines, at-price-exactly}
+use Rattle.swaps.specs.declared.Swap.{Swap}
+use Rattle.swaps.specs.Codes.{badCode as badDayCount}
+use Rattle.swaps.specs.Swap.{swapLines}
+use Rattle.swaps.specs.Valuation.{fixedLegPv, floatingLegPv, swapNpv, parSwapRate, swapDv01, swapDuration, valueSwap}
+use Rattle.swaps.proofs.Exactly as swaps
+use Rattle.senyolanda.specs.Told.{coded}
+use Rattle.senyolanda.specs.Loans.{at, breakevenOf}
+use Rattle.senyolanda.specs.Bonds.{bondOf, uncodedLines, bondRead, ofBond}
+use Rattle.senyolanda.specs.Swaps.{swapOf, swapRead, ofSwap}
+use Rattle.senyolanda.specs.RecordLines.{afterRecord, afterCode, loanRecordLines, breakEvenRecordLines, bondRecordLines, swapRecordLines}
+use Rattle.senyolanda.proofs.CodeWaits.{waits}
+
+-- ---- what is refused before it is asked, is refused alike
+still-refused : {A B : Type 0} (ls : List Line) (x : Outcome A) (asked : A → Outcome B) → ((v : A) → x ≡ accepted v → ⊥) → ExactlyWhen ls x → ExactlyWhen ls (andThen x asked)
+still-refused {A} {B} ls (refused j q) asked never ex k p = (
+  λ e. ex k p .0 (let n : j ≡ k = cc in let m : q ≡ p = cc in rw (n, m)),
+  λ w. (let e = ex k p .1 w in let n : j ≡ k = cc in let m : q ≡ p = cc in rw (n, m)),
+)
+still-refused ls (accepted v) asked never ex k p = absurd (never v refl)
+
+apart : {A : Type 0} (k p : ℕ) (v : A) → _≡_ {A = Outcome A} (refused k p) (accepted v) → ⊥
+apart k p v e = let z : _≡_ {A = ℕ} 0 1 = cc in omega arith
+
+-- ---- a record that is read first
+record-first : {A B : Type 0} (bad : Bool) (v : A) (asked : A → Outcome B) (lines : List Line) → ExactlyWhen lines (asked v)
+    → ExactlyWhen (afterRecord bad lines) (andThen (judged (line 11 bad ∷ []) v) asked)
+unfolding judged firstOr above
+record-first true v asked lines ex = still-refused (line 11 true ∷ []) (refused 11 0) asked (λ w. apart 11 0 w) (exactly v (line 11 true ∷ []) tt)
+record-first false v asked lines ex = ex
+
+-- ---- a code in it: 11 in its turn
+eleven-waits : {A : Type 0} (others : Outcome Unit) (v w : A) → coded true others v ≡ accepted w → ⊥
+eleven-waits (refused k p) v w e = apart k p w e
+eleven-waits (accepted u) v w e = apart 11 0 w e
+
+code-next : {A B : Type 0} (bad : Bool) (others : List Line) (v : A) (asked : A → Outcome B) (lines : List Line) → T (rising (others ++ line 11 true ∷ [])) → ExactlyWhen lines (asked v)
+    → ExactlyWhen (afterCode bad others lines) (andThen (coded bad (judged others tt) v) asked)
+code-next true others v asked lines up ex =
+    still-refused (others ++ line 11 true ∷ []) (coded true (judged others tt) v) asked (eleven-waits (judged others tt) v)
+    (rw (waits v others) (exactly v (others ++ line 11 true ∷ []) up))
+code-next false others v asked lines up ex = ex
+
+in-two : {A B C : Type 0} (x : Outcome A) (f : A → Outcome B) (g : B → Outcome C) → andThen (andThen x f) g ≡ andThen x (λ (v : A). andThen (f v) g)
+in-two (refused k p) f g = refl
+in-two (accepted v) f g = refl
+
+-- ---- loans
+module _ {B : Type 0} (bytes : List ℕ) (asked : Terms → Outcome B) (ex : (t : Terms) → ExactlyWhen (termsLines t) (asked t)) where
+  of-loan : ExactlyWhen (loanRecordLines bytes) (andThen (readTerms bytes) asked)
+  unfolding readTerms
+  of-loan = record-first (badRecord termsKind termsSize bytes) (termsIn bytes) asked (termsLines (termsIn bytes)) (ex (termsIn bytes))
+
+module _ (bytes : List ℕ) where
+  pub payment-refused-exactly : ExactlyWhen (loanRecordLines bytes) (andThen (readTerms bytes) monthlyPayment)
+  payment-refused-exactly = of-loan bytes monthlyPayment loans.payment-refused-exactly
+
+  pub open-refused-exactly : ExactlyWhen (loanRecordLines bytes) (andThen (readTerms bytes) opened)
+  open-refused-exactly = of-loan bytes opened loans.opening-refused-exactly
+
+  pub open-with-payment-refused-exactly : (given : Float) → ExactlyWhen (loanRecordLines bytes) (andThen (readTerms bytes) (λ (t : Terms). openedWith t given))
+  open-with-payment-refused-exactly given = of-loan bytes _ (λ t. loans.opening-with-payment-refused-exactly t given)
+
+  pub total-interest-refused-exactly : ExactlyWhen (loanRecordLines bytes) (andThen (readTerms bytes) totalInterest)
+  total-interest-refused-exactly = of-loan bytes totalInterest loans.total-interest-refused-exactly
+
+  pub remaining-balance-refused-exactly : (months : ℕ) → ExactlyWhen (loanRecordLines bytes) (andThen (readTerms bytes) (λ (t : Terms). remainingBalance t months))
+  remaining-balance-refused-exactly months = of-loan bytes _ (λ t. loans.remaining-balance-refused-exactly t months)
+
+  pub loan-to-value-refused-exactly : (value : Float) → ExactlyWhen (loanRecordLines bytes) (andThen (readTerms bytes) (λ (t : Terms). loanToValue t value))
+  loan-to-value-refused-exactly value = of-loan bytes _ (λ t. loans.loan-to-value-refused-exactly t value)
+
+  pub savings-refused-exactly : (extra : Float) → ExactlyWhen (loanRecordLines bytes) (andThen (readTerms bytes) (λ (t : Terms). prepaymentSavings t extra))
+  savings-refused-exactly extra = of-loan bytes _ (λ t. loans.savings-refused-exactly t extra)
+
+-- ---- break-even's two records
+two-first : {A B : Type 0} (old new : Bool) (v w : A) (asked : A → A → Outcome B) (lines : List Line) → ExactlyWhen lines (asked v w)
+    → ExactlyWhen (cond (old || new) (lineOfTwo 11 old new ∷ []) lines)
+    (andThen (at 0 (judged (line 11 old ∷ []) v)) (λ (x : A). andThen (at 1 (judged (line 11 new ∷ []) w)) (λ (y : A). asked x y)))
+unfolding judged firstOr above
+two-first true new v w asked lines ex =
+    still-refused (lineOfTwo 11 true new ∷ []) (refused 11 0) (λ x. asked x w) (λ u. apart 11 0 u) (exactly v (lineOfTwo 11 true new ∷ []) tt)
+two-first false true v w asked lines ex =
+    still-refused (lineOfTwo 11 false true ∷ []) (refused 11 1) (λ x. asked x w) (λ u. apart 11 1 u) (exactly v (lineOfTwo 11 false true ∷ []) tt)
+two-first false false v w asked lines ex = ex
+
+pub break-even-refused-exactly : (old new : List ℕ) (cost : Float) (elapsed : ℕ) → ExactlyWhen (breakEvenRecordLines old new cost) (breakevenOf old new cost elapsed)
+unfolding breakevenOf readTerms
+break-even-refused-exactly old new cost elapsed =
+    two-first (badRecord termsKind termsSize old) (badRecord termsKind termsSize new) (termsIn old) (termsIn new) (λ (was is : Terms). refinanceBreakeven was is cost elapsed)
+    (breakEvenLines (termsIn old) (termsIn new) cost) (loans.break-even-refused-exactly (termsIn old) (termsIn new) cost elapsed)
+
+-- ---- bonds
+module _ (bytes : List ℕ) (beside : Float) where
+  abbrev held : Bond
+  held = bondOf (bondIn bytes)
+
+  of-bond : (asked : Bond → Outcome Float) (lines : List Line) → ExactlyWhen lines (asked held) → ExactlyWhen (bondRecordLines bytes beside lines) (ofBond bytes beside asked)
+  unfolding bondRead bondFields above
+  of-bond asked lines ex =
+      rw (in-two (bondFields bytes) (λ (b : BondRecord). coded (badFrequencyCode (b .frequency)) (judged (uncodedLines b beside) tt) (bondOf b)) asked)
+      (record-first (badRecord bondKind bondSize bytes) (bondIn bytes)
+      (λ (b : BondRecord). andThen (coded (badFrequencyCode (b .frequency)) (judged (uncodedLines b beside) tt) (bondOf b)) asked)
+      (afterCode (badFrequencyCode (bondIn bytes .frequency)) (uncodedLines (bondIn bytes) beside) lines)
+      (code-next (badFrequencyCode (bondIn bytes .frequency)) (uncodedLines (bondIn bytes) beside) held asked lines tt ex))
+
+  -- with a yield beside it
+  pub price-refused-exactly : ExactlyWhen (bondRecordLines bytes beside (bondLines held beside)) (ofBond bytes beside (price beside))
+  price-refused-exactly = of-bond (price beside) _ (bonds.price-refused-exactly beside held)
+
+  pub dv01-refused-exactly : ExactlyWhen (bondRecordLines bytes beside (bondLines held beside)) (ofBond bytes beside (dv01 beside))
+  dv01-refused-exactly = of-bond (dv01 beside) _ (bonds.dv01-refused-exactly beside held)
+
+  pub macaulay-refused-exactly : ExactlyWhen (bondRecordLines bytes beside (bondLines held beside)) (ofBond bytes beside (macaulayDuration beside))
+  macaulay-refused-exactly = of-bond (macaulayDuration beside) _ (bonds.macaulay-refused-exactly beside held)
+
+  pub modified-refused-exactly : ExactlyWhen (bondRecordLines bytes beside (bondLines held beside)) (ofBond bytes beside (modifiedDuration beside))
+  modified-refused-exactly = of-bond (modifiedDuration beside) _ (bonds.modified-refused-exactly beside held)
+
+  pub convexity-refused-exactly : ExactlyWhen (bondRecordLines bytes beside (bondLines held beside)) (ofBond bytes beside (convexity beside))
+  convexity-refused-exactly = of-bond (convexity beside) _ (bonds.convexity-refused-exactly beside held)
+
+  pub price-change-refused-exactly : (dy : Float) → ExactlyWhen (bondRecordLines bytes beside (bondLines held beside)) (ofBond bytes beside (priceChange beside dy))
+  price-change-refused-exactly dy = of-bond (priceChange beside dy) _ (bonds.price-change-refused-exactly beside dy held)
+
+  -- with a market price beside it
+  pub current-yield-refused-exactly : ExactlyWhen (bondRecordLines bytes beside (bondLines held beside)) (ofBond bytes beside (currentYield beside))
+  current-yield-refused-exactly = of-bond (currentYield beside) _ (bonds.current-yield-refused-exactly beside held)
+
+  pub yield-refused-exactly : ExactlyWhen (bondRecordLines bytes beside (yieldLines held beside)) (ofBond bytes beside (yieldToMaturity beside))
+  yield-refused-exactly = of-bond (yieldToMaturity beside) _ (bonds.yield-refused-exactly beside held)
+
+  -- what is asked at the yield that a market price has: the yield's lines, or, where a yield is given, the lines of what is asked at it
+  abbrev RefusedAtPrice : Outcome Float → Type 0
+  RefusedAtPrice o =
+      (k p : ℕ)
+      → (o ≡ refused k p)
+      ↔ (Lowest (bondRecordLines bytes beside (yieldLines held beside)) k p
+      ⊎ ((ytm : Float) × (ofBond bytes beside (yieldToMaturity beside) ≡ accepted ytm) × Lowest (bondLines held ytm) k p))
+
+  -- the bond that was read is the record's
+  read-bond-is : (b : Bond) → bondRead bytes beside ≡ accepted b → b ≡ held
+  unfolding bondRead bondFields
+  read-bond-is b = go (bondFields bytes) refl
+    where
+      coded-is : (code : Bool) (others : Outcome Unit) (v : Bond) → coded code others v ≡ accepted b → b ≡ v
+      coded-is true others v e = absurd (eleven-waits others v b e)
+      coded-is false others v e = cc
+
+      go : (x : Outcome BondRecord) → bondFields bytes ≡ x
+          → andThen x (λ (r : BondRecord). coded (badFrequencyCode (r .frequency)) (judged (uncodedLines r beside) tt) (bondOf r)) ≡ accepted b → b ≡ held
+      go (refused k p) e h = absurd (apart k p b h)
+      go (accepted r) e h =
+          let is : r ≡ bondIn bytes = accepted-value (line 11 (badRecord bondKind bondSize bytes) ∷ []) (bondIn bytes) r e in
+          coded-is (badFrequencyCode (r .frequency)) (judged (uncodedLines r beside) tt) (bondOf r) h ∙ ap bondOf is
+
+  at-its-yield : (asked : Float → Bond → Outcome Float) → ((ytm : Float) → ExactlyWhen (bondLines held ytm) (asked ytm held))
+      → RefusedAtPrice (ofBond bytes beside (λ (b : Bond). andThen (yieldToMaturity beside b) (λ (ytm : Float). asked ytm b)))
+  at-its-yield asked ex =
+      rw (one-bond (bondRead bytes beside) refl)
+      (at-price-exactly (λ (ytm : Float). asked ytm held) (bondLines held) ex (bondRecordLines bytes beside (yieldLines held beside)) (ofBond bytes beside (yieldToMaturity beside)) yield-refused-exactly)
+    where
+      one-bond : (x : Outcome Bond) → bondRead bytes beside ≡ x
+          → andThen x (λ (b : Bond). andThen (yieldToMaturity beside b) (λ (ytm : Float). asked ytm b))
+          ≡ andThen (andThen x (yieldToMaturity beside)) (λ (ytm : Float). asked ytm held)
+      one-bond (refused k p) e = refl
+      one-bond (accepted b) e = ap (λ (c : Bond). andThen (yieldToMaturity beside b) (λ (ytm : Float). asked ytm c)) (read-bond-is b e)
+
+  pub macaulay-at-price-refused-exactly : RefusedAtPrice (ofBond bytes beside (macaulayAtPrice beside))
+  unfolding macaulayAtPrice
+  macaulay-at-price-refused-exactly = at-its-yield macaulayDuration (λ ytm. bonds.macaulay-refused-exactly ytm held)
+
+  pub modified-at-price-refused-exactly : RefusedAtPrice (ofBond bytes beside (modifiedAtPrice beside))
+  unfolding modifiedAtPrice
+  modified-at-price-refused-exactly = at-its-yield modifiedDuration (λ ytm. bonds.modified-refused-exactly ytm held)
+
+  pub convexity-at-price-refused-exactly : RefusedAtPrice (ofBond bytes beside (convexityAtPrice beside))
+  unfolding convexityAtPrice
+  convexity-at-price-refused-exactly = at-its-yield convexity (λ ytm. bonds.convexity-refused-exactly ytm held)
+
+-- ---- swaps
+module _ (bytes : List ℕ) (tenors zeros : List Float) where
+  abbrev swapHeld : Swap
+  swapHeld = swapOf (swapIn bytes)
+
+  of-swap : {B : Type 0} (asked : Swap → Outcome B) → ExactlyWhen (swapLines swapHeld tenors zeros) (asked swapHeld) → ExactlyWhen (swapRecordLines bytes tenors zeros) (ofSwap bytes tenors zeros asked)
+  unfolding swapRead swapFields above
+  of-swap asked ex =
+      rw (in-two (swapFields bytes) (λ (s : SwapRecord). coded (badDayCount (s .count)) (judged (swapLines (swapOf s) tenors zeros) tt) (swapOf s)) asked)
+      (record-first (badRecord swapKind swapSize bytes) (swapIn bytes)
+      (λ (s : SwapRecord). andThen (coded (badDayCount (s .count)) (judged (swapLines (swapOf s) tenors zeros) tt) (swapOf s)) asked)
+      (afterCode (badDayCount (swapIn bytes .count)) (swapLines swapHeld tenors zeros) (swapLines swapHeld tenors zeros))
+      (code-next (badDayCount (swapIn bytes .count)) (swapLines swapHeld tenors zeros) swapHeld asked (swapLines swapHeld tenors zeros) tt ex))
+
+  pub fixed-leg-refused-exactly : ExactlyWhen (swapRecordLines bytes tenors zeros) (ofSwap bytes tenors zeros (λ (s : Swap). fixedLegPv s tenors zeros))
+  fixed-leg-refused-exactly = of-swap _ (swaps.fixed-leg-refused-exactly swapHeld tenors zeros)
+
+  pub floating-leg-refused-exactly : ExactlyWhen (swapRecordLines bytes tenors zeros) (ofSwap bytes tenors zeros (λ (s : Swap). floatingLegPv s tenors zeros))
+  floating-leg-refused-exactly = of-swap _ (swaps.floating-leg-refused-exactly swapHeld tenors zeros)
+
+  pub par-rate-refused-exactly : ExactlyWhen (swapRecordLines bytes tenors zeros) (ofSwap bytes tenors zeros (λ (s : Swap). parSwapRate s tenors zeros))
+  par-rate-refused-exactly = of-swap _ (swaps.par-rate-refused-exactly swapHeld tenors zeros)
+
+  pub duration-refused-exactly : ExactlyWhen (swapRecordLines bytes tenors zeros) (ofSwap bytes tenors zeros (λ (s : Swap). swapDuration s tenors zeros))
+  duration-refused-exactly = of-swap _ (swaps.duration-refused-exactly swapHeld tenors zeros)
+
+  module _ (receivesFixed : Bool) where
+    pub npv-refused-exactly : ExactlyWhen (swapRecordLines bytes tenors zeros) (ofSwap bytes tenors zeros (λ (s : Swap). swapNpv s tenors zeros receivesFixed))
+    npv-refused-exactly = of-swap _ (swaps.npv-refused-exactly swapHeld tenors zeros receivesFixed)
+
+    pub swap-dv01-refused-exactly : ExactlyWhen (swapRecordLines bytes tenors zeros) (ofSwap bytes tenors zeros (λ (s : Swap). swapDv01 s tenors zeros receivesFixed))
+    swap-dv01-refused-exactly = of-swap _ (swaps.dv01-refused-exactly swapHeld tenors zeros receivesFixed)
+
+    pub value-refused-exactly : ExactlyWhen (swapRecordLines bytes tenors zeros) (ofSwap bytes tenors zeros (λ (s : Swap). valueSwap s tenors zeros receivesFixed))
+    value-refused-exactly = of-swap _ (swaps.value-refused-exactly swapHeld tenors zeros receivesFixed)
