@@ -10,6 +10,10 @@ use lib.ListN.{length, take}
 use lib.Ieee.{Float, binary64, fits}
 use lib.Ieee.Bits.{ofBits-fits}
 use borrow.Author.Tests.{ltb-false, eqb-false, ne-eqb}
+use borrow.Fn.Kinds.{Dens, resT, endedOf}
+use contract.Lifetimes.{Lfts}
+use denote.Ref.{now}
+use denote.Triple.Clauses.{Lasts, atExit}
 use Rattle.refusals.specs.Outcome.{Outcome, refused, accepted, line, andThen}
 use Rattle.refusals.specs.Table.{badTerm, badRecord}
 use Rattle.refusals.proofs.Verdicts.{accepted-value}
@@ -38,6 +42,14 @@ use Rattle.senyolanda.specs.Told.{refusalResult, told}
 use Rattle.senyolanda.specs.Loans.{loanOf, loanNumbers, portionNumbers, nextNumbers}
 use Rattle.senyolanda.specs.Calls.{Kept, inHand, openAnswer, openWithAnswer, drawAnswer, nextAnswer, Call, draw, next-row, rowsSaid, files, keptAfter, filed, kept, RepaysOnceOpen}
 use Rattle.senyolanda.proofs.ResultSays.{never-0, sayable, says-numbers}
+use Rattle.senyolanda.proofs.loans.senyolanda_open.Kinds as open-kinds
+use Rattle.senyolanda.proofs.loans.senyolanda_open.Reads as open-reads
+use Rattle.senyolanda.proofs.loans.senyolanda_open_with_payment.Kinds as open-with-kinds
+use Rattle.senyolanda.proofs.loans.senyolanda_open_with_payment.Reads as open-with-reads
+use Rattle.senyolanda.proofs.loans.senyolanda_draw.Kinds as draw-kinds
+use Rattle.senyolanda.proofs.loans.senyolanda_draw.Reads as draw-reads
+use Rattle.senyolanda.proofs.loans.senyolanda_next_row.Kinds as next-row-kinds
+use Rattle.senyolanda.proofs.loans.senyolanda_next_row.Reads as next-row-reads
 
 -- ---- a refused call says no rows
 none-said : (k p written : ℕ) → 0 < k → rowsSaid (refusalResult k p) written ≡ 0
@@ -145,7 +157,7 @@ calls-move (next-row bytes w o ∷ calls) k good pays owes =
 once-open : (t : Terms) (pay : Float) (before : Kept) (o : Outcome Loan) → T (fits binary64 pay) → T (fits binary64 (t .principal))
     → ((k p : ℕ) → o ≡ refused k p → 0 < k) → ((l : Loan) → o ≡ accepted l → openedWith t pay ≡ accepted l) → RepaysOnceOpen t (told loanNumbers o before)
 unfolding told
-once-open t pay before (refused k p) pays fit number opens z = absurd (never-0 k p (number k p refl) z)
+once-open t pay before (refused k p) pays fit number opens z calls ended = absurd (never-0 k p (number k p refl) z)
 once-open t pay before (accepted l) pays fit number opens z calls ended =
     let own = as-opened t pay l fit (opens l refl) in
     let moves = calls-move calls (loanNumbers l) (own .good) (rw (own .pays) pays) (rw (own .owes) fit) in
@@ -183,3 +195,30 @@ demand3-at-the-door bytes before =
 pub demand3-at-the-door-given : (bytes : List ℕ) (pay : Float) (before : Kept) → T (fits binary64 pay) → RepaysOnceOpen (termsIn bytes) (openWithAnswer bytes pay before)
 demand3-at-the-door-given bytes pay before pays =
     once-open (termsIn bytes) pay before _ pays (principal-held-in bytes) (opening-number bytes (λ (t : Terms). pay)) (opening-terms bytes (λ (t : Terms). pay))
+
+-- ---- the answers are those that the contracts promise, as the kit reads them: of the result x and of what the lent places hold after the call
+pub open-answers : (κs : Lfts 6) (a : Dens κs open-kinds.ps) (x : resT open-kinds.r κs .Denot) (w : Lasts (endedOf 6 open-kinds.ps open-kinds.r) κs a)
+    → open-reads.Post κs a x (atExit (endedOf 6 open-kinds.ps open-kinds.r) κs a w)
+    → _≡_ {A = ℕ × Kept} (x, (w .1 .0, w .1 .1 .0, w .1 .1 .1 .0, w .1 .1 .1 .1 .0, w .1 .1 .1 .1 .1 .0))
+    (openAnswer (now (a .0)) (now (a .1 .0), now (a .1 .1 .0), now (a .1 .1 .1 .0), now (a .1 .1 .1 .1 .0), now (a .1 .1 .1 .1 .1 .0)))
+open-answers κs a x w p = p
+
+pub open-with-payment-answers : (κs : Lfts 6) (a : Dens κs open-with-kinds.ps) (x : resT open-with-kinds.r κs .Denot) (w : Lasts (endedOf 6 open-with-kinds.ps open-with-kinds.r) κs a)
+    → open-with-reads.Post κs a x (atExit (endedOf 6 open-with-kinds.ps open-with-kinds.r) κs a w)
+    → _≡_ {A = ℕ × Kept} (x, (w .1 .1 .0, w .1 .1 .1 .0, w .1 .1 .1 .1 .0, w .1 .1 .1 .1 .1 .0, w .1 .1 .1 .1 .1 .1 .0))
+    (openWithAnswer (now (a .0)) (a .1 .0) (now (a .1 .1 .0), now (a .1 .1 .1 .0), now (a .1 .1 .1 .1 .0), now (a .1 .1 .1 .1 .1 .0), now (a .1 .1 .1 .1 .1 .1 .0)))
+open-with-payment-answers κs a x w p = p
+
+-- of a draw also the room
+pub draw-answers : (κs : Lfts 5) (a : Dens κs draw-kinds.ps) (x : resT draw-kinds.r κs .Denot) (w : Lasts (endedOf 5 draw-kinds.ps draw-kinds.r) κs a)
+    → draw-reads.Post κs a x (atExit (endedOf 5 draw-kinds.ps draw-kinds.r) κs a w)
+    → (_≡_ {A = ℕ × (ℕ × Float × ℕ × ℕ)} (x, (w .1 .1 .1 .0, w .1 .1 .1 .1 .0, w .1 .1 .1 .1 .1 .1 .0, w .1 .1 .1 .1 .1 .1 .1 .0))
+    (drawAnswer (a .0, a .1 .0, a .1 .1 .0, now (a .1 .1 .1 .0), now (a .1 .1 .1 .1 .0)) (now (a .1 .1 .1 .1 .1 .0)) (now (a .1 .1 .1 .1 .1 .1 .0)) (now (a .1 .1 .1 .1 .1 .1 .1 .0))))
+    × (w .1 .1 .1 .1 .1 .0 ≡ filled (inHand (a .0, a .1 .0, a .1 .1 .0, now (a .1 .1 .1 .0), now (a .1 .1 .1 .1 .0))) (now (a .1 .1 .1 .1 .1 .0)))
+draw-answers κs a x w p = p
+
+pub next-row-answers : (κs : Lfts 5) (a : Dens κs next-row-kinds.ps) (x : resT next-row-kinds.r κs .Denot) (w : Lasts (endedOf 5 next-row-kinds.ps next-row-kinds.r) κs a)
+    → next-row-reads.Post κs a x (atExit (endedOf 5 next-row-kinds.ps next-row-kinds.r) κs a w)
+    → _≡_ {A = ℕ × (ℕ × Float × List ℕ × ℕ × ℕ)} (x, (w .1 .1 .1 .0, w .1 .1 .1 .1 .0, w .1 .1 .1 .1 .1 .0, w .1 .1 .1 .1 .1 .1 .0, w .1 .1 .1 .1 .1 .1 .1 .0))
+    (nextAnswer (a .0, a .1 .0, a .1 .1 .0, now (a .1 .1 .1 .0), now (a .1 .1 .1 .1 .0)) (now (a .1 .1 .1 .1 .1 .0)) (now (a .1 .1 .1 .1 .1 .1 .0)) (now (a .1 .1 .1 .1 .1 .1 .1 .0)))
+next-row-answers κs a x w p = p

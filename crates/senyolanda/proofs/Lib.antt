@@ -9,3 +9,4 @@ pub mod Handed
 pub mod ResultSays
 pub mod Tight
 pub mod TightLists
+pub mod Worked

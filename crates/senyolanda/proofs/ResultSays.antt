@@ -56,16 +56,16 @@ module _ {A B : Type 0} (ls : List Line) (small : T (sayable ls)) (laid : A → 
       let own = ex j q .0 refl in
       let size = says-numbers ls j q small (own .applies) in (
         λ e. (
-          let n : j ≡ k = omega arith in
-          let at : q ≡ p = omega arith in
-          subst (λ (i : ℕ). Lowest ls i p) n (subst (λ (i : ℕ). Lowest ls j i) at own)
-        ),
+            let n : j ≡ k = omega arith in
+            let at : q ≡ p = omega arith in
+            subst (λ (i : ℕ). Lowest ls i p) n (subst (λ (i : ℕ). Lowest ls j i) at own)
+            ),
         λ w. (
-          let e = ex k p .1 w in
-          let n : j ≡ k = cc in
-          let at : q ≡ p = cc in
-          omega arith
-        ),
+            let e = ex k p .1 w in
+            let n : j ≡ k = cc in
+            let at : q ≡ p = cc in
+            omega arith
+            ),
       )
 
   -- and 0 exactly when no line has a cause

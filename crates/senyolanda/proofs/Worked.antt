@@ -1,0 +1,59 @@
+-- Document 01's loan of three months from its record's bytes: its first row asked for alone, a draw that is refused, and a draw of two rows. What was filed repays it, and is the paper's
+-- listing. Assumes nothing.
+use mathlib.Core.Path.{_≡_, refl}
+use mathlib.Core.List.{List, [], _∷_, map}
+use Prim.Native.Nat.{ℕ}
+use lib.ListN.{replicate}
+use lib.Ieee.{Float, nan, binary64, add, sub, mul, div, lt, eq, ofInt, ofBits, toBits}
+use Rattle.refusals.specs.Outcome.{firstOr, judged}
+use Rattle.refusals.specs.Table.{badAmount, badTerm, noRoom, pastEnd, badRecord}
+use Rattle.records.specs.Bytes.{valueOf, bytesOf, wholeAt, floatAt, wholeBytes, floatBytes}
+use Rattle.records.specs.Kinds.{termsIn, readTerms, rowBytes, rowIn}
+use Rattle.mortgage.specs.Payment.{monthlyRate, payment, loanOf, openedWith, opened}
+use Rattle.mortgage.specs.RowRule.{endMonth, due, last, interestOf, principalOf, paymentOf, newBalance, rowOf, nextOf}
+use Rattle.mortgage.specs.Steps.{stepped, written}
+use Rattle.mortgage.specs.Rows.{nextRow}
+use Rattle.mortgage.specs.Draws.{portion, drawn, filled}
+use Rattle.mortgage.specs.Demand3.{Repaid}
+use Rattle.senyolanda.specs.Told.{told}
+use Rattle.senyolanda.specs.Calls.{Kept, inHand, openAnswer, Call, draw, next-row, files, keptAfter, filed, kept}
+use Rattle.senyolanda.proofs.AtTheDoor.{demand3-at-the-door}
+
+-- "Principal 1200, rate 0, term 3", as 21 bytes
+abbrev bytes : List ℕ
+bytes = 1 ∷ 0 ∷ 0 ∷ 0 ∷ 0 ∷ 0 ∷ 192 ∷ 146 ∷ 64 ∷ 0 ∷ 0 ∷ 0 ∷ 0 ∷ 0 ∷ 0 ∷ 0 ∷ 0 ∷ 3 ∷ 0 ∷ 0 ∷ 0 ∷ []
+
+-- what stood in the places does not matter
+abbrev before : Kept
+before = (7, nan, nan, 7, nan)
+
+abbrev number : ℕ → Float
+number = ofBits binary64
+
+-- term, rate, payment, months done, balance
+abbrev loan : Kept
+loan = (3, number 0, number 0x4079_0000_0000_0000, 0, number 0x4092_c000_0000_0000)
+
+abbrev calls : List Call
+calls = next-row (replicate 37 255) 9 9 ∷ draw (replicate 4 nan) 9 9 ∷ draw (replicate 10 nan) 9 9 ∷ []
+
+pub opens : openAnswer bytes before ≡ (0, loan)
+unfolding told readTerms badRecord termsIn floatAt wholeAt valueOf judged firstOr opened openedWith badAmount badTerm loanOf payment monthlyRate eq div lt ofInt ofBits
+opens = refl
+
+pub to-the-end : due (inHand (kept loan calls)) ≡ 0
+unfolding kept keptAfter told nextRow drawn judged firstOr badTerm noRoom pastEnd portion due endMonth stepped nextOf
+to-the-end = refl
+
+-- "1 4079000000000000 4079000000000000 0000000000000000 4089000000000000", and so on, with the month as a number
+pub listing : filed loan calls ≡ map number
+    (0x3ff0_0000_0000_0000 ∷ 0x4079_0000_0000_0000 ∷ 0x4079_0000_0000_0000 ∷ 0 ∷ 0x4089_0000_0000_0000
+    ∷ 0x4000_0000_0000_0000 ∷ 0x4079_0000_0000_0000 ∷ 0x4079_0000_0000_0000 ∷ 0 ∷ 0x4079_0000_0000_0000
+    ∷ 0x4008_0000_0000_0000 ∷ 0x4079_0000_0000_0000 ∷ 0x4079_0000_0000_0000 ∷ 0 ∷ 0 ∷ [])
+unfolding filed files keptAfter told nextRow rowBytes rowIn wholeBytes floatBytes bytesOf wholeAt floatAt valueOf toBits filled drawn judged firstOr badTerm noRoom pastEnd portion due endMonth stepped written rowOf nextOf newBalance paymentOf principalOf interestOf last monthlyRate add sub mul div lt ofInt ofBits
+listing = refl
+
+-- the theorem, of this loan and these calls
+pub repaid-by-the-calls : Repaid (number 0x4092_c000_0000_0000) 3 (filed loan calls)
+unfolding told readTerms badRecord termsIn floatAt wholeAt valueOf judged firstOr opened openedWith badAmount badTerm loanOf payment monthlyRate eq div lt ofInt ofBits
+repaid-by-the-calls = demand3-at-the-door bytes before refl calls to-the-end .1
