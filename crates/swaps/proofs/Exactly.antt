@@ -1,11 +1,17 @@
 -- Every entry point refuses by the table's rule: number k at place p is given exactly when that is the lowest line with a cause and its first place. Assumes nothing.
+use mathlib.Core.Path.{_≡_}
+use mathlib.Core.Logic.{_↔_}
 use mathlib.Core.Bool.{Bool}
 use mathlib.Core.List.{List, [], _∷_}
-use Prim.Native.Nat.{ℕ}
+use Prim.Native.Nat.{ℕ, _≤_, min}
+use lib.ListN.{length}
 use lib.Ieee.{Float}
-use Rattle.refusals.specs.Outcome.{line, ExactlyWhen, above}
+use Rattle.numbers.specs.Whole.{largest}
+use Rattle.refusals.specs.Outcome.{refused, line, Lowest, ExactlyWhen, above}
 use Rattle.refusals.proofs.Judging.{exactly}
 use Rattle.yield_curve.specs.Curve.{askedLines}
+use Rattle.yield_curve.specs.Lists.{eachLines, eachOutcome}
+use Rattle.yield_curve.proofs.Exactly as of-a-curve
 use Rattle.swaps.specs.declared.Swap.{Swap}
 use Rattle.swaps.specs.Codes.{badCode, dayCountOf}
 use Rattle.swaps.specs.Discount.{rateAt, discountFactor}
@@ -25,6 +31,14 @@ module _ (tenors zeros : List Float) where
   pub discount-refused-exactly : (t : Float) → ExactlyWhen (askedLines tenors zeros t) (discountFactor tenors zeros t)
   unfolding discountFactor above
   discount-refused-exactly t = exactly _ (askedLines tenors zeros t) tt
+
+  -- a list of times: `rate_at_each` and `discount_factor_at_each` give the yield curve's one outcome
+  module _ (asked : List Float) where
+    pub each-refused-exactly : length asked ≤ 4294967295 → ExactlyWhen (eachLines tenors zeros asked) (eachOutcome tenors zeros asked)
+    each-refused-exactly = of-a-curve.each-refused-exactly tenors zeros asked
+
+    pub each-refused-at : (k p : ℕ) → (eachOutcome tenors zeros asked ≡ refused k p) ↔ ((q : ℕ) × Lowest (eachLines tenors zeros asked) k q × (p ≡ min q largest))
+    each-refused-at = of-a-curve.each-refused-at tenors zeros asked
 
 -- the verdict of a bootstrap, and its zero rates
 pub bootstrap-refused-exactly : (tenors pars : List Float) → ExactlyWhen (parLines tenors pars) (fromParRates tenors pars)

@@ -15,5 +15,6 @@ pub mod Points
 pub mod Filling
 pub mod Splines
 pub mod Outside
+pub mod GivenPlaces
 pub mod Exactly
 pub mod Tight
