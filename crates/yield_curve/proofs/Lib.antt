@@ -17,5 +17,6 @@ pub mod Splines
 pub mod Outside
 pub mod GivenPlaces
 pub mod AtKnots
+pub mod Noughts
 pub mod Exactly
 pub mod Tight
