@@ -83,6 +83,7 @@ test: kit
 # Every test but the gate.
 tests: all build/test/statement
 	test/schedule.sh
+	test/dated.sh
 	test/header.sh build/libsenyolanda.a build/libsenyolanda.so build/x86-64/libsenyolanda.a
 	test/statement.sh build/statement
 	test/statement.sh build/test/statement
