@@ -85,6 +85,7 @@ test: kit
 tests: all build/test/statement
 	test/impostors.sh
 	test/schedule.sh
+	test/dated.sh
 	test/header.sh build/libsenyolanda.a build/libsenyolanda.so build/x86-64/libsenyolanda.a
 	test/statement.sh build/statement
 	test/statement.sh build/test/statement

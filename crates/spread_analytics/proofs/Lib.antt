@@ -12,5 +12,6 @@ pub mod Gathering
 pub mod LocalArrays
 pub mod Enter
 pub mod ThinWalk
+pub mod HeldFlows
 pub mod Tight
 pub mod Exactly

@@ -7,6 +7,7 @@ use native.Mathlib.Omega.{arith}
 use lib.Dec.{ltb, eqb}
 use lib.Ieee.{Float, nan, inf, fin, up, down, below, level, lt, le, eq}
 use lib.Ieee.Fits.{down-pos}
+use lib.Ieee.Scale.{finite}
 use lib.Ieee.Positive.{through}
 use borrow.Author.Tests.{ltb-true, ltb-false, lt-ltb, le-ltb, eq-eqb, ne-eqb, not-true}
 
@@ -196,3 +197,27 @@ le-lt-trans x y z h k = at-or-below x z (first-real x y h) (second-real y z k) (
     go : (b : Bool) → lt z x ≡ b → b ≡ false
     go false e = refl
     go true e = sym (lt-trans y z x k e) ∙ not-above x y h
+
+-- ---- a number beside itself, and beside one below it
+below-itself : (s : Bool) (A : ℕ) → below s A s A ≡ false
+below-itself false A = le-ltb A A (even refl)
+below-itself true A = le-ltb A A (even refl)
+
+pub lt-itself : (x : Float) → lt x x ≡ false
+unfolding lt
+lt-itself nan = refl
+lt-itself (inf false) = refl
+lt-itself (inf true) = refl
+lt-itself (fin s m e) = below-itself s (m * up e * down e)
+
+pub le-itself : (x : Float) → finite x ≡ true → le x x ≡ true
+le-itself nan h = clash h
+le-itself (inf s) h = clash h
+le-itself (fin s m e) h = at-or-below (fin s m e) (fin s m e) tt tt (lt-itself (fin s m e))
+
+pub not-at-or-below : (x y : Float) → lt x y ≡ true → le y x ≡ false
+not-at-or-below x y h = go (le y x) (not-above y x)
+  where
+    go : (b : Bool) → (b ≡ true → lt x y ≡ false) → b ≡ false
+    go false above = refl
+    go true above = clash (sym (above refl) ∙ h)

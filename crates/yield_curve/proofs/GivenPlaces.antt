@@ -1,7 +1,7 @@
 -- Refusals whose place is given as a u32 holds it, for any lines whose numbers rise: number k is given at p exactly when it is the lowest at some q that p is, or that no u32 holds where p is
 -- 4,294,967,295. Where a u32 holds every place that the lines may refuse at, the outcome given is the lines' own. Assumes nothing.
 use mathlib.Core.Path.{_≡_, refl, sym, ap, _∙_}
-use mathlib.Core.Logic.{_⊎_, inl, inr, _↔_}
+use mathlib.Core.Logic.{inl, inr, _↔_}
 use mathlib.Core.Bool.{Bool, true, false}
 use mathlib.Core.List.{List, [], _∷_, map}
 use Prim.Native.Nat.{ℕ, zero, suc, _<_, _≤_, min}

@@ -145,7 +145,7 @@ module _ (test : Float → Float → Bool) (times : List Float) where
 -- ---- on times that rise, for a test that passes later knots too
 module _ {passes : Float → Bool} {serving : List Float → ℕ} (rule : FirstPassing passes serving) where
   -- the segment that serves ends at or before a knot that passes
-  serves-before : (ts : List Float) (m : ℕ) → suc m < length ts → passes (knot ts (suc m)) ≡ true → serving ts ≤ m
+  pub serves-before : (ts : List Float) (m : ℕ) → suc m < length ts → passes (knot ts (suc m)) ≡ true → serving ts ≤ m
   serves-before [] m h p = absurd (omega arith)
   serves-before (a ∷ []) m h p = absurd (omega arith)
   serves-before (a ∷ b ∷ ts) zero h p = let z : serving (a ∷ b ∷ ts) ≡ 0 = rule .first a b ts ∙ rw p in omega arith
@@ -178,14 +178,14 @@ module _ {passes : Float → Bool} {serving : List Float → ℕ} (rule : FirstP
       go false e ih = let z : serving (a ∷ b ∷ ts) ≡ suc (serving (b ∷ ts)) = rule .first a b ts ∙ rw e in omega arith
 
   module _ (later : (a b : Float) → passes a ≡ true → lt a b ≡ true → passes b ≡ true) (times : List Float) (rises : Rising times) where
-    passes-on : (d i : ℕ) → i + d < length times → passes (knot times i) ≡ true → passes (knot times (i + d)) ≡ true
+    pub passes-on : (d i : ℕ) → i + d < length times → passes (knot times i) ≡ true → passes (knot times (i + d)) ≡ true
     passes-on zero i h p = ap (λ (n : ℕ). passes (knot times n)) (add-zero i) ∙ p
     passes-on (suc d) i h p =
         let e : i + suc d ≡ suc (i + d) = omega arith in
         ap (λ (n : ℕ). passes (knot times n)) e ∙ later _ _ (passes-on d i (omega arith) p) (rises (i + d) (omega arith))
 
     -- a knot that does not pass is at or before the segment that serves
-    serves-after : (m : ℕ) → m < length times → passes (knot times m) ≡ false → m ≤ serving times
+    pub serves-after : (m : ℕ) → m < length times → passes (knot times m) ≡ false → m ≤ serving times
     serves-after m h p = go (ltb (serving times) m) (ltb-true (serving times) m) (ltb-false (serving times) m)
       where
         go : (t : Bool) → (t ≡ true → serving times < m) → (t ≡ false → m ≤ serving times) → m ≤ serving times

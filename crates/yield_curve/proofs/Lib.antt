@@ -16,5 +16,7 @@ pub mod Filling
 pub mod Splines
 pub mod Outside
 pub mod GivenPlaces
+pub mod AtKnots
+pub mod Noughts
 pub mod Exactly
 pub mod Tight

@@ -26,23 +26,32 @@ use Rattle.yield_curve.specs.Lists.{eachLines, eachOutcome, orAsBefore, 
 use Rattle.yield_curve.proofs.CurveLines.{at-least-one}
 
 -- ---- a curve that is accepted is in order
-later : (bad after : Bool) → (bad || not after) ≡ false → after ≡ true
+-- a knot that has no cause is sound by itself, and later than the one before
+later : (bad after : Bool) → (bad || not after) ≡ false → (bad ≡ false) × (after ≡ true)
 later true after e = let z : _≡_ {A = ℕ} 0 1 = cc in absurd (omega arith)
-later false after e = not-false after e
+later false after e = (refl, not-false after e)
 
-rising-after : (before : Float) (ts rs : List Float) → length ts ≡ length rs → ((q : ℕ) → getD (badKnotsAfter before ts rs) q false ≡ false)
-    → (k : ℕ) → k < length ts → lt (getD (before ∷ ts) k nan) (getD ts k nan) ≡ true
+sound-after : (before : Float) (ts rs : List Float) → length ts ≡ length rs → ((q : ℕ) → getD (badKnotsAfter before ts rs) q false ≡ false)
+    → (k : ℕ) → k < length ts → (badKnot (getD ts k nan) (getD rs k nan) ≡ false) × (lt (getD (before ∷ ts) k nan) (getD ts k nan) ≡ true)
 unfolding badKnotsAfter
-rising-after before [] rs e none k h = absurd (omega arith)
-rising-after before (t ∷ ts) [] e none k h = absurd (omega arith)
-rising-after before (t ∷ ts) (r ∷ rs) e none zero h = later (badKnot t r) (lt before t) (none 0)
-rising-after before (t ∷ ts) (r ∷ rs) e none (suc k) h = rising-after t ts rs (omega arith) (λ q. none (suc q)) k (omega arith)
+sound-after before [] rs e none k h = absurd (omega arith)
+sound-after before (t ∷ ts) [] e none k h = absurd (omega arith)
+sound-after before (t ∷ ts) (r ∷ rs) e none zero h = later (badKnot t r) (lt before t) (none 0)
+sound-after before (t ∷ ts) (r ∷ rs) e none (suc k) h = sound-after t ts rs (omega arith) (λ q. none (suc q)) k (omega arith)
 
 rising : (times rates : List Float) → length times ≡ length rates → ((q : ℕ) → getD (badKnots times rates) q false ≡ false) → Rising times
 unfolding badKnots
 rising [] rates e none k h = absurd (omega arith)
 rising (t ∷ ts) [] e none k h = absurd (omega arith)
-rising (t ∷ ts) (r ∷ rs) e none k h = rising-after t ts rs (omega arith) (λ q. none (suc q)) k (omega arith)
+rising (t ∷ ts) (r ∷ rs) e none k h = sound-after t ts rs (omega arith) (λ q. none (suc q)) k (omega arith) .1
+
+sound : (times rates : List Float) → length times ≡ length rates → ((q : ℕ) → getD (badKnots times rates) q false ≡ false)
+    → (k : ℕ) → k < length times → badKnot (knot times k) (knot rates k) ≡ false
+unfolding badKnots
+sound [] rates e none k h = absurd (omega arith)
+sound (t ∷ ts) [] e none k h = absurd (omega arith)
+sound (t ∷ ts) (r ∷ rs) e none zero h = none 0
+sound (t ∷ ts) (r ∷ rs) e none (suc k) h = sound-after t ts rs (omega arith) (λ q. none (suc q)) k (omega arith) .0
 
 equal : (m n : ℕ) → unequal m n ≡ false → m ≡ n
 unfolding unequal
@@ -55,8 +64,14 @@ module _ (times rates : List Float) (ms : List Line) (e : accepted tt ≡ verdic
   pub some-knots : 0 < length times
   some-knots = at-least-one (length times) (none-is (passed tt tt _ _ from-5 .0) 0)
 
+  pub same-length : length times ≡ length rates
+  same-length = equal (length times) (length rates) (none-is (passed tt tt _ _ e .0) 0)
+
   pub in-rising-order : Rising times
-  in-rising-order = rising times rates (equal (length times) (length rates) (none-is (passed tt tt _ _ e .0) 0)) (none-is (passed tt tt _ _ (passed tt tt _ _ from-5 .1) .0))
+  in-rising-order = rising times rates same-length (none-is (passed tt tt _ _ (passed tt tt _ _ from-5 .1) .0))
+
+  pub sound-knots : (k : ℕ) → k < length times → badKnot (knot times k) (knot rates k) ≡ false
+  sound-knots = sound times rates same-length (none-is (passed tt tt _ _ (passed tt tt _ _ from-5 .1) .0))
 
 -- ---- the list after the call
 module _ (answer : Float → Float) (times rates asked : List Float) (x : Verdict) (e : verdictOutcome x ≡ eachOutcome times rates asked) where

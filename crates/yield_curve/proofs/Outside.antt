@@ -16,7 +16,7 @@ use Rattle.yield_curve.proofs.Choices.{taken}
 use Rattle.yield_curve.proofs.Flat.{before-first, past-last}
 
 -- the two arms of a choice agree
-same-arms : {Value : Type 0} (b : Bool) (x y v : Value) → x ≡ v → y ≡ v → cond b x y ≡ v
+pub same-arms : {Value : Type 0} (b : Bool) (x y v : Value) → x ≡ v → y ≡ v → cond b x y ≡ v
 same-arms true x y v e f = e
 same-arms false x y v e f = f
 
