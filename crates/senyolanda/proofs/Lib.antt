@@ -4,6 +4,8 @@ pub mod Codes
 pub mod Copied
 pub mod DatedAmounts
 pub mod Handed
+pub mod PoolFigures
 pub mod ResultSays
+pub mod SpeedCodes
 pub mod Tight
 pub mod TightLists
