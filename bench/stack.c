@@ -104,6 +104,7 @@ static void set_out(void) {
     CALL(bond_modified_duration_at_price, (BOND, 900.0, &x))                                            \
     CALL(bond_convexity_at_price, (BOND, 900.0, &x))                                                    \
     CALL(zero_coupon_bond_price, (0.04, 99.5, &x))                                                      \
+    CALL(periods_per_year, (SENYOLANDA_MONTHLY, &count))                                                \
     CALL(linear_interpolate, (CURVE, 50.0, &x))                                                         \
     CALL(linear_interpolate_each, (CURVE, OF(asked)))                                                   \
     CALL(cubic_spline_interpolate, (CURVE, 50.0, &x))                                                   \

@@ -19,6 +19,7 @@ input!(
 );
 input!(Change { bond: Bond, ytm: f64, delta: f64 });
 input!(Zero { ytm: f64, maturity: f64 });
+input!(Code { code: u32 });
 
 impl Bond {
     fn record(&self) -> [u8; 26] {
@@ -234,6 +235,15 @@ fn zero_coupon_edges() -> Vec<Case<Zero>> {
     all
 }
 
+/// A frequency's code, as often one outside its set.
+fn frequency_code(random: &mut Random) -> Case<Code> {
+    if random.once_in(2) {
+        plain(Code { code: random.whole(0, 3) })
+    } else {
+        refused(Code { code: random.pick(&[4, 5, 255, 256, 259, u32::MAX]) }, 11, 0)
+    }
+}
+
 /// A family of answers at a yield.
 fn by_yield(name: &'static str, seed: u64, ours: fn(&At) -> Answer, rust: fn(&At) -> Vec<f64>) -> Family<At> {
     Family { name, seed, one_in: 1, edges, draw: at_yield, ours, rust, allowed: relative(1e-12) }
@@ -258,6 +268,12 @@ pub fn duration_at_price(input: &At) -> Answer {
 
 pub fn zero_coupon_price(input: &Zero) -> Answer {
     asked(|price| called!(senyolanda_zero_coupon_bond_price, input.ytm, input.maturity, price))
+}
+
+fn periods_per_year(input: &Code) -> Answer {
+    let mut periods = UNTOUCHED_COUNT;
+    let result = called!(senyolanda_periods_per_year, input.code, &mut periods);
+    settled(result, vec![], &[periods])
 }
 
 pub fn families() -> Vec<Compared> {
@@ -344,6 +360,17 @@ pub fn families() -> Vec<Compared> {
             ours: zero_coupon_price,
             rust: |input| vec![bond::zero_coupon_bond_price(input.ytm, input.maturity)],
             allowed: relative(1e-12),
+        }
+        .compared(),
+        Family {
+            name: "periods-per-year",
+            seed: 415,
+            one_in: 1,
+            edges: || (0..=3).map(|code| plain(Code { code })).collect(),
+            draw: frequency_code,
+            ours: periods_per_year,
+            rust: |input| vec![f64::from(FREQUENCIES[input.code as usize].periods_per_year())],
+            allowed: bits(),
         }
         .compared(),
     ]

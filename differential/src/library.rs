@@ -67,6 +67,7 @@ exported! {
     senyolanda_bond_modified_duration_at_price([record: u8], market: f64, duration: Number);
     senyolanda_bond_convexity_at_price([record: u8], market: f64, convexity: Number);
     senyolanda_zero_coupon_bond_price(ytm: f64, maturity: f64, price: Number);
+    senyolanda_periods_per_year(frequency: u32, periods: Count);
 
     senyolanda_linear_interpolate([times: f64], [rates: f64], t: f64, rate: Number);
     senyolanda_linear_interpolate_each([times: f64], [rates: f64], [mut asked: f64]);

@@ -44,15 +44,16 @@ static int can_meet(const struct cause *one, const struct cause *other) {
 
 /* ---- which of two causes is given ---- */
 
-/* Lower wins: what goes before all, then the number, then a single argument before an item, then the place. */
+/* Lower wins: the number, then a single argument before an item, then the place. */
 static uint64_t rank(const struct cause *cause) {
-    uint64_t number = cause->before_all ? 0 : cause->number;
-    return number << 40 | (uint64_t)(cause->kind == ITEM) << 36 | cause->place;
+    return (uint64_t)cause->number << 40 | (uint64_t)(cause->kind == ITEM) << 36 | cause->place;
 }
 
+/* A record that is none takes every other number away; beside its own, 11, it is a cause like another. */
 static const struct cause *winner(const struct cause *one, const struct cause *other) {
     if (one->unless == other->number && one->unless != 0) return other;
     if (other->unless == one->number && other->unless != 0) return one;
+    if (one->before_all != other->before_all && one->number != other->number) return one->before_all ? one : other;
     return rank(one) <= rank(other) ? one : other;
 }
 

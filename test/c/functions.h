@@ -31,7 +31,7 @@ struct setting {
 struct cause {
     uint32_t number, place;
     enum { SINGLE, ITEM } kind;
-    int before_all;              /* a record that is none: this and nothing else */
+    int before_all;              /* a record that is none: 11, and no other number */
     uint32_t unless;             /* a cause of that number takes this one away */
     struct setting settings[3];
 };

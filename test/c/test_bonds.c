@@ -18,6 +18,7 @@ static const struct claim matrix[] = {
     CLAIM(bond_modified_duration_at_price, "1 . . . . . 7 . 9 .. 11 12 .."),
     CLAIM(bond_convexity_at_price,         "1 . . . . . 7 . 9 .. 11 12 .."),
     CLAIM(zero_coupon_bond_price,          ". . . . . . 7 . 9 .. .. .. .."),
+    CLAIM(periods_per_year,                ". . . . . . . . . .. 11 .. .."),
     END_OF_MATRIX,
 };
 
@@ -69,6 +70,11 @@ static senyolanda_result call_bond_convexity_at_price(void) {
 static senyolanda_result call_zero_coupon_bond_price(void) {
     double *price = lend_number();
     return CALL(senyolanda_zero_coupon_bond_price(desk.yield, desk.bond.maturity, price));
+}
+
+static senyolanda_result call_periods_per_year(void) {
+    uint32_t *periods = lend_count();
+    return CALL(senyolanda_periods_per_year(desk.frequency, periods));
 }
 
 /* ---- causes: at rest an annual bond of 100 that pays 50 a year for two years, at 100 ---- */
@@ -150,6 +156,13 @@ static const struct cause zero_coupon_causes[] = {
     END_OF_CAUSES,
 };
 
+static const struct cause frequency_causes[] = {
+    CODES(frequency, 3),
+    TAKEN(WHOLE(frequency, 1)),
+    TAKEN(WHOLE(frequency, 2)),
+    END_OF_CAUSES,
+};
+
 /* ---- what a record deserves ---- */
 
 static double times_a_year(uint8_t frequency) {
@@ -183,6 +196,7 @@ static const struct function functions[] = {
     { FUNCTION(bond_modified_duration_at_price), { bond_causes, taken_maturities, search_causes }, bond_deserved },
     { FUNCTION(bond_convexity_at_price), { bond_causes, taken_maturities, search_causes }, bond_deserved },
     { FUNCTION(zero_coupon_bond_price), { zero_coupon_causes, yield_causes }, NULL },
+    { FUNCTION(periods_per_year), { frequency_causes }, NULL },
     END_OF_FUNCTIONS,
 };
 
@@ -221,7 +235,16 @@ static void periods(void) {
     are_periods(0x1.2c1ffffffffffp+10, 1200);
 }
 
+static void is_frequency(uint32_t frequency, uint32_t periods) {
+    desk.frequency = frequency;
+    CHECK(COUNT_OF(call_periods_per_year) == periods);
+}
+
 static void frequencies(void) {
+    is_frequency(SENYOLANDA_ANNUAL, 1);
+    is_frequency(SENYOLANDA_SEMI_ANNUAL, 2);
+    is_frequency(SENYOLANDA_QUARTERLY, 4);
+    is_frequency(SENYOLANDA_MONTHLY, 12);
     set_bond(100, 1, 1, SENYOLANDA_SEMI_ANNUAL);
     IS(price_at(2), 62.5);
     set_bond(100, 2, 0.5, SENYOLANDA_QUARTERLY);

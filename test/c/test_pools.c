@@ -188,6 +188,34 @@ static const struct function functions[] = {
     END_OF_FUNCTIONS,
 };
 
+/* ---- an unknown speed beside a bad loan ---- */
+
+typedef void spoiling(struct loan_parts *loan);
+static void of_another_kind(struct loan_parts *loan) { loan->kind = 2; }
+static void of_bad_amount(struct loan_parts *loan) { loan->principal = -1; }
+static void of_bad_term(struct loan_parts *loan) { loan->term = 0; }
+
+/* What the functions that are asked with a speed refuse where the second loan is spoiled so. */
+static void refused_beside(spoiling *spoil, uint32_t speed, uint32_t number, uint32_t place) {
+    tidy_desk();
+    spoil(&desk.loans[1]);
+    desk.speed = speed;
+    REFUSED(call_pool_cash_flows, number, place);
+    REFUSED(call_pool_price, number, place);
+    REFUSED(call_pool_duration, number, place);
+    REFUSED(call_pool_convexity, number, place);
+}
+
+/* A record of another kind and an unknown speed are both 11, and a single argument counts before an item; 1 and 2 are lower. */
+static void unknown_speeds(void) {
+    refused_beside(of_another_kind, SENYOLANDA_CPR, 11, 1);
+    refused_beside(of_another_kind, SENYOLANDA_HISTORY + 1, 11, 0);
+    refused_beside(of_another_kind, UINT32_MAX, 11, 0);
+    refused_beside(of_bad_amount, SENYOLANDA_HISTORY + 1, 1, 1);
+    refused_beside(of_bad_term, SENYOLANDA_HISTORY + 1, 2, 1);
+    tidy_desk();
+}
+
 /* ---- figures ---- */
 
 static double smm(uint32_t speed, double number, uint32_t month) {
@@ -285,6 +313,7 @@ static void totals(void) {
 int main(int arguments, char **words) {
     open_tests("test_pools", matrix, arguments, words);
     try_functions(functions);
+    unknown_speeds();
     speeds();
     months();
     prices();

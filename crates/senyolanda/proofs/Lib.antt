@@ -6,7 +6,9 @@ pub mod Copied
 pub mod DatedAmounts
 pub mod Exactly
 pub mod Handed
+pub mod PoolFigures
 pub mod ResultSays
+pub mod SpeedCodes
 pub mod Tight
 pub mod TightLists
 pub mod Worked

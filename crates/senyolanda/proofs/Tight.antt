@@ -84,6 +84,8 @@ use Rattle.senyolanda.proofs.bonds.senyolanda_bond_convexity_at_price.K
 use Rattle.senyolanda.proofs.bonds.senyolanda_bond_convexity_at_price.Reads as bond-convexity-at-price-reads
 use Rattle.senyolanda.proofs.bonds.senyolanda_zero_coupon_bond_price.Kinds as zero-coupon-bond-price-kinds
 use Rattle.senyolanda.proofs.bonds.senyolanda_zero_coupon_bond_price.Reads as zero-coupon-bond-price-reads
+use Rattle.senyolanda.proofs.bonds.senyolanda_periods_per_year.Kinds as periods-per-year-kinds
+use Rattle.senyolanda.proofs.bonds.senyolanda_periods_per_year.Reads as periods-per-year-reads
 use Rattle.senyolanda.proofs.curves.senyolanda_linear_interpolate.Kinds as linear-interpolate-kinds
 use Rattle.senyolanda.proofs.curves.senyolanda_linear_interpolate.Reads as linear-interpolate-reads
 use Rattle.senyolanda.proofs.curves.senyolanda_cubic_spline_interpolate.Kinds as cubic-spline-interpolate-kinds
@@ -406,6 +408,12 @@ zero-coupon-bond-price-determined κs a x y e e′ p q = ap (λ (t : ℕ × Floa
 
 pub zero-coupon-bond-price-settled : Settled 1 zero-coupon-bond-price-kinds.ps zero-coupon-bond-price-kinds.r zero-coupon-bond-price-reads.Post
 zero-coupon-bond-price-settled κs a x y w w′ p q = ap (λ (t : ℕ × Float). (tt, (tt, (t .1, tt)))) (p ∙ sym q)
+
+pub periods-per-year-determined : Determined 1 periods-per-year-kinds.ps periods-per-year-kinds.r periods-per-year-reads.Post
+periods-per-year-determined κs a x y e e′ p q = ap (λ (t : ℕ × ℕ). t .0) (p ∙ sym q)
+
+pub periods-per-year-settled : Settled 1 periods-per-year-kinds.ps periods-per-year-kinds.r periods-per-year-reads.Post
+periods-per-year-settled κs a x y w w′ p q = ap (λ (t : ℕ × ℕ). (tt, (t .1, tt))) (p ∙ sym q)
 
 -- ---- yield curves
 

@@ -1,4 +1,4 @@
--- A bond as its record holds it. Definitions only. Assumes nothing.
+-- A bond as its record holds it, and a frequency by its code. Definitions only. Assumes nothing.
 use Prim.Native.Nat.{ℕ}
 use mathlib.Core.List.{List}
 use lib.Ieee.{Float}
@@ -8,8 +8,8 @@ use Rattle.records.specs.declared.BondRecord.{BondRecord}
 use Rattle.records.specs.Kinds.{bondFields}
 use Rattle.bond.specs.declared.Bond.{Bond}
 use Rattle.bond.specs.declared.Frequency.{Frequency}
-use Rattle.bond.specs.Bonds.{numberLines}
-use Rattle.bond.specs.Codes.{frequencyAt, badCode}
+use Rattle.bond.specs.Bonds.{periodsPerYear, numberLines}
+use Rattle.bond.specs.Codes.{frequencyAt, badCode, frequencyOf}
 use Rattle.senyolanda.specs.declared.bonds.BondIn.{BondIn}
 use Rattle.senyolanda.specs.declared.bonds.BondIn.the-variants as bond-is
 use Rattle.senyolanda.specs.Told.{coded}
@@ -33,6 +33,10 @@ bondRead bytes beside =
 -- what is asked of it
 abbrev pub ofBond : List ℕ → Float → (Bond → Outcome Float) → Outcome Float
 ofBond bytes beside asked = andThen (bondRead bytes beside) asked
+
+-- how many coupons a year a frequency's code stands for
+unfoldable pub periodsPerYearOf : ℕ → Outcome ℕ
+periodsPerYearOf code = andThen (frequencyOf code) (λ (f : Frequency). accepted (periodsPerYear f))
 
 abbrev pub bondNumbers : BondRecord → Float × Float × Float × ℕ
 bondNumbers b = (b .face, b .coupon, b .maturity, b .frequency)

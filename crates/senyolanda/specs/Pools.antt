@@ -1,21 +1,20 @@
 -- A prepayment speed by its code, and a pool that is asked with it. Definitions only. Assumes nothing.
 use Prim.Native.Nat.{ℕ}
 use mathlib.Core.Bool.{Bool, cond}
-use mathlib.Core.List.{List, [], _∷_}
+use mathlib.Core.List.{List, [], _∷_, _++_}
 use lib.Dec.{ltb, eqb}
-use lib.ListN.{length}
+use lib.ListN.{length, take}
 use lib.Ieee.{Float}
-use Rattle.refusals.specs.Outcome.{Outcome, refused, accepted, line, andThen, judged}
+use Rattle.refusals.specs.Outcome.{Outcome, refused, accepted, Line, line, alone, andThen, judged}
 use Rattle.pool.specs.declared.speed.Speed.{Speed}
 use Rattle.pool.specs.declared.speed.Speed.the-variants.{Cpr, Psa, History}
 use Rattle.pool.specs.declared.totals.Totals.{Totals}
-use Rattle.pool.specs.Loans.{poolLines}
+use Rattle.pool.specs.Loans.{badRecords, poolLines}
 use Rattle.refusals.specs.Places.{placed}
 use Rattle.pool.specs.Speed.{smm}
 use Rattle.pool.specs.Flows.{tooLittle, cashFlows, flowsInto}
 use Rattle.senyolanda.specs.declared.pools.SpeedIn.{SpeedIn}
 use Rattle.senyolanda.specs.declared.pools.SpeedIn.the-variants as speed-is
-use Rattle.senyolanda.specs.Told.{coded}
 
 -- 0: CPR with its rate; 1: PSA with its factor; 2: a history, which lies beside it
 unfoldable pub speedAt : ℕ → Float → Speed
@@ -27,9 +26,14 @@ badSpeed code = ltb 2 code
 unfoldable pub speedOf : ℕ → Float → Outcome Speed
 speedOf code number = judged (line 11 (badSpeed code) ∷ []) (speedAt code number)
 
--- the speed that a pool is asked with; whether its room is too little is asked where there is room
+-- the lines that a pool and a speed code meet: the pool's, and in line 11 the code as a single argument, at 0 and so before a bad record
+abbrev pub speedLines : List ℕ → Bool → ℕ → List Line
+speedLines bytes noRoom code = take 4 (poolLines bytes noRoom) ++ record { number = 11; causes = alone (badSpeed code) (badRecords bytes) } ∷ []
+
+-- the speed that a pool is asked with; whether its room is too little is asked where there is room. With a known code the pool's own function judges
 unfoldable pub speedFor : List ℕ → Bool → ℕ → Float → Outcome Speed
-speedFor bytes noRoom code number = coded (badSpeed code) (placed (judged (poolLines bytes noRoom) tt)) (speedAt code number)
+speedFor bytes noRoom code number =
+    cond (badSpeed code) (placed (judged (speedLines bytes noRoom code) (speedAt code number))) (accepted (speedAt code number))
 
 -- the share that is prepaid in a month
 unfoldable pub smmOf : ℕ → Float → List Float → ℕ → Outcome Float

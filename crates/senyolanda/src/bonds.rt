@@ -6,7 +6,8 @@ ghost use Rattle.bond.specs.Price.{price as priceAt, dv01 as dv01At, currentYie
 ghost use Rattle.bond.specs.Yield.{yieldToMaturity};
 ghost use Rattle.bond.specs.Durations.{macaulayDuration, modifiedDuration, convexity as convexityAt, priceChange, macaulayAtPrice, modifiedAtPrice, convexityAtPrice};
 ghost use Rattle.senyolanda.specs.Told.{toldNumber};
-ghost use Rattle.senyolanda.specs.Bonds.{uncodedLines, bondRead, bondInOutcome, ofBond};
+ghost use Rattle.senyolanda.specs.Bonds.{uncodedLines, bondRead, bondInOutcome, ofBond, periodsPerYearOf};
+use crate::results::ACCEPTED;
 use crate::results::put_number;
 use crate::results::refusal_result;
 use bond::Bond;
@@ -222,4 +223,21 @@ pub extern "C" fn senyolanda_zero_coupon_bond_price(ytm: f64, maturity: f64, pri
     ensures { λ r. ⌜ (r, now (price .exit)) ≡ toldNumber (zeroCouponPrice ytm maturity) (now (price .entry)) ⌝ }
 {
     put_number(bond::price::zero_coupon_bond_price(ytm, maturity), price)
+}
+
+// How many coupons a year a frequency's code stands for.
+#[no_mangle]
+pub extern "C" fn senyolanda_periods_per_year(frequency: u32, periods: &mut u32) -> u64
+    ensures { λ r. ⌜ (r, now (periods .exit)) ≡ toldNumber (periodsPerYearOf frequency) (now (periods .entry)) ⌝ }
+{
+    if frequency > 3 {
+        return refusal_result(refusals::refuse(11));
+    }
+    match bond::codes::frequency_of(frequency as u8) {
+        FrequencyRead::Refused(refusal) => refusal_result(refusal),
+        FrequencyRead::Given(given) => {
+            *periods = bond::bonds::periods_per_year(given);
+            ACCEPTED
+        }
+    }
 }

@@ -36,14 +36,20 @@ fn speed_of(code: u32, number: f64) -> SpeedIn
     }
 }
 
-// The speed that a pool is asked with. A code outside its set waits for what else the pool is refused with.
+// The speed that a pool is asked with. A code outside its set waits for what else the pool is refused with, but goes before a bad record: both are 11, and a
+// single argument counts before a list item.
 fn speed_for(records: &[u8], asked: bool, room: usize, code: u32, number: f64) -> SpeedIn
     ensures { λ r. ⌜ speedInOutcome r ≡ speedFor (now (records .entry)) (asked && tooLittle (now (records .entry)) room) code number ⌝ }
 {
     match speed_of(code, number) {
         SpeedIn::Given(speed) => SpeedIn::Given(speed),
         SpeedIn::Refused(unknown) => match pool::loans::judge_pool(records, asked, room) {
-            Verdict::Refused(refusal) => SpeedIn::Refused(refusal),
+            Verdict::Refused(refusal) => {
+                if refusal.number == 11 {
+                    return SpeedIn::Refused(unknown);
+                }
+                SpeedIn::Refused(refusal)
+            }
             Verdict::Accepted => SpeedIn::Refused(unknown),
         },
     }

@@ -1,13 +1,11 @@
 -- `senyolanda::pools::speed_for` meets its contract. Assumes nothing.
-use mathlib.Core.Path.{sym, ap, _∙_}
-use mathlib.Core.Bool.{_&&_}
-use Rattle.refusals.specs.Outcome.{judged}
+use mathlib.Core.Path.{_≡_, sym, ap, _∙_}
+use mathlib.Core.Bool.{true, _&&_}
 use Rattle.refusals.specs.Answers.{verdictOutcome}
-use Rattle.pool.specs.Loans.{poolLines}
-use Rattle.refusals.specs.Places.{placed}
 use Rattle.pool.specs.Flows.{tooLittle}
-use Rattle.senyolanda.specs.Pools.{speedOf, speedFor, speedInOutcome}
-use Rattle.senyolanda.proofs.Codes.{out-of-set, in-set, known, others-first, unknown}
+use Rattle.senyolanda.specs.Pools.{badSpeed, speedOf, speedInOutcome}
+use Rattle.senyolanda.proofs.Codes.{out-of-set, in-set}
+use Rattle.senyolanda.proofs.SpeedCodes.{known-speed, lower-first, before-records, nothing-else}
 use borrow.Author.Needs.{needs}
 use Rattle.senyolanda.proofs.pools.speed_for.Statement.{statement}
 use Rattle.senyolanda.proofs.pools.speed_for.Tie as tie
@@ -30,24 +28,37 @@ enum-known-refusal c = search needs
 enum-told : tie.Need-enum-told
 enum-told c = search needs
 
+-- ---- what the code was refused with, and what the pool
+unset : (c : tie.After-unknown) → (badSpeed (c .before .before .before .before .args .code) ≡ true) × (c .unknown .given .0 .0 .number ≡ 11) × (c .unknown .given .0 .0 .place ≡ 0)
+unfolding speedOf
+unset c = out-of-set _ _ _ _ (sym (ap speedInOutcome (c .unknown .given .1)) ∙ c .before .before .speed-of .ensures)
+
 returns : tie.Need-returns
-unfolding speedFor speedOf
 returns c =
-    let set = in-set _ _ _ (sym (ap speedInOutcome (c .before .speed .given .1)) ∙ c .before .before .before .speed-of .ensures) in
-    let a = c .before .before .before .before .before .args in
-    known _ (placed (judged (poolLines (a .records .now) (a .asked && tooLittle (a .records .now) (a .room))) tt)) _ _ (set .0) (set .1)
+    let told = c .before .before .before in
+    let pool = told .before .before in
+    let set = unset (pool .before .before) in
+    before-records _ _ _ _ (set .0) _ _ (set .1) (set .2) _ _ (sym (ap verdictOutcome (told .refusal .given .1)) ∙ pool .judge-pool .ensures) (c .if1 .taken)
 
 returns-2 : tie.Need-returns-2
-unfolding speedFor speedOf
+unfolding speedOf
 returns-2 c =
-    let set = out-of-set _ _ _ _ (sym (ap speedInOutcome (c .before .before .before .before .before .unknown .given .1)) ∙ c .before .before .before .before .before .before .before .speed-of .ensures) in
-    others-first _ _ _ _ _ (set .0) (sym (ap verdictOutcome (c .before .refusal .given .1)) ∙ c .before .before .before .judge-pool .ensures)
+    let set = in-set _ _ _ (sym (ap speedInOutcome (c .before .speed .given .1)) ∙ c .before .before .before .speed-of .ensures) in
+    let a = c .before .before .before .before .before .args in
+    known-speed (a .records .now) (a .asked && tooLittle (a .records .now) (a .room)) _ _ _ (set .0) (set .1)
 
 returns-3 : tie.Need-returns-3
-unfolding speedFor speedOf
 returns-3 c =
-    let set = out-of-set _ _ _ _ (sym (ap speedInOutcome (c .before .before .before .before .unknown .given .1)) ∙ c .before .before .before .before .before .before .speed-of .ensures) in
-    unknown _ _ _ _ _ (set .0) (sym (ap verdictOutcome (c .enum-told .given .1)) ∙ c .before .before .judge-pool .ensures) (set .1) (set .2)
+    let told = c .before .before .before in
+    let pool = told .before .before in
+    let set = unset (pool .before .before) in
+    lower-first _ _ _ _ (set .0) _ _ (sym (ap verdictOutcome (told .refusal .given .1)) ∙ pool .judge-pool .ensures) (c .if1 .left)
+
+returns-4 : tie.Need-returns-4
+returns-4 c =
+    let pool = c .before .before in
+    let set = unset (pool .before .before) in
+    nothing-else _ _ _ _ (set .0) _ _ (set .1) (set .2) (sym (ap verdictOutcome (c .enum-told .given .1)) ∙ pool .judge-pool .ensures)
 
 pub speed-for-spec : {M : Type 1} → statement M
 speed-for-spec =
@@ -58,7 +69,8 @@ speed-for-spec =
     enum-known-unknown
     judge-pool-requires
     enum-known-refusal
-    enum-told
     returns
+    enum-told
     returns-2
-    returns-3)
+    returns-3
+    returns-4)
