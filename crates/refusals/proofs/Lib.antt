@@ -1,4 +1,5 @@
 pub mod Judging
+pub mod GivenPlaces
 pub mod Verdicts
 pub mod Placing
 pub mod LaterLines

@@ -5,6 +5,7 @@ pub mod Codes
 pub mod Copied
 pub mod DatedAmounts
 pub mod Exactly
+pub mod ExactlyPools
 pub mod Handed
 pub mod PoolFigures
 pub mod ResultSays

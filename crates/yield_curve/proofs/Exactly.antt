@@ -10,6 +10,7 @@ use Rattle.numbers.specs.Whole.{largest}
 use Rattle.refusals.specs.Outcome.{refused, Lowest, ExactlyWhen, line, above}
 use Rattle.refusals.specs.Table.{badTime, tooManyPeriods}
 use Rattle.refusals.proofs.Judging.{exactly}
+use Rattle.refusals.proofs.GivenPlaces.{placed-exactly, held-exactly}
 use Rattle.refusals.proofs.Verdicts.{verdict}
 use Rattle.yield_curve.specs.declared.nelson_siegel.NelsonSiegel.{NelsonSiegel}
 use Rattle.yield_curve.specs.Curve.{curveLines, askedLines}
@@ -18,7 +19,7 @@ use Rattle.yield_curve.specs.Linear.{halfYears, linearInterpolate, disco
 use Rattle.yield_curve.specs.Spline.{cubicSplineInterpolate}
 use Rattle.yield_curve.specs.NelsonSiegel.{yieldAt, forwardRateAt}
 use Rattle.yield_curve.specs.Fit.{fit}
-use Rattle.yield_curve.proofs.GivenPlaces.{placed-exactly, held-exactly, each-rising, each-held}
+use Rattle.yield_curve.proofs.GivenPlaces.{each-rising, each-held}
 
 module _ (times rates : List Float) where
   pub linear-refused-exactly : (t : Float) → ExactlyWhen (askedLines times rates t) (linearInterpolate times rates t)
