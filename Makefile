@@ -38,6 +38,9 @@ build/schedule: $(SOURCES) tools/native | kit
 build/libsenyolanda.a: $(SOURCES) tools/native | kit
 	tools/native senyolanda $@
 
+build/x86-64/libsenyolanda.a: $(SOURCES) tools/native | kit
+	tools/native senyolanda $@ x86-64
+
 build/$(SONAME): build/libsenyolanda.a
 	echo '{ global: senyolanda_*; local: *; };' >build/exported
 	$(CC) -shared -o $@ -Wl,-soname,$(SONAME),--version-script=build/exported,-Bsymbolic,-z,defs,-z,text \
@@ -61,10 +64,6 @@ build/test/statement: host/statement.c include/senyolanda.h build/libsenyolanda.
 
 x86-64: build/x86-64/libsenyolanda.a
 
-build/x86-64/libsenyolanda.a: $(SOURCES) | kit
-	tools/counted build/staticlib.log staticlib senyolanda
-	install -D -m 644 target/staticlib/libsenyolanda.a $@
-
 run: build/schedule build/statement
 	test/record 1200 0 3 | build/schedule
 	build/statement 12000 0.06 12
@@ -81,19 +80,9 @@ test: kit
 	$(MAKE) tests
 	@tail -n 1 build/gate.log
 
-# Every test but the gate.
+# Every test but the gate, as many at once as there are processors; what each prints is shown whole, when it ends.
 tests: all build/test/statement
-	test/impostors.sh
-	test/schedule.sh
-	test/dated.sh
-	test/header.sh build/libsenyolanda.a build/libsenyolanda.so build/x86-64/libsenyolanda.a
-	test/statement.sh build/statement
-	test/statement.sh build/test/statement
-	test/c/run build/libsenyolanda.a
-	test/hosts.sh build/libsenyolanda.a build/libsenyolanda.so
-	test/refusals.py build/libsenyolanda.so
-	test/install.sh
-	$(MAKE) differential-if-there
+	$(MAKE) -f test/Makefile -j"$$(nproc)" --output-sync=target
 
 # Wrong programs that must be refused beyond those that the gate tries. Before a landing: for every crate that it touched.
 .PHONY: impostors
