@@ -28,7 +28,7 @@ enum-known-refusal c = search needs
 enum-told : tie.Need-enum-told
 enum-told c = search needs
 
--- ---- what the code was refused with, and what the pool
+-- what an unknown code is refused with
 unset : (c : tie.After-unknown) → (badSpeed (c .before .before .before .before .args .code) ≡ true) × (c .unknown .given .0 .0 .number ≡ 11) × (c .unknown .given .0 .0 .place ≡ 0)
 unfolding speedOf
 unset c = out-of-set _ _ _ _ (sym (ap speedInOutcome (c .unknown .given .1)) ∙ c .before .before .speed-of .ensures)
