@@ -41,25 +41,27 @@ edit made_by_the_kit 'at: proofs/seven/Proof.antt' src/lib.rt '{ 7 }' '{ 8 }'
 edit nowhere 'at: proofs/other/Proof.antt' src/lib.rt '{ 7 }' '{ 8 }'
 edit proved 'at: proofs/same/Proof.antt' src/lib.rt '// small' '// large'
 edit shape 'at: proofs/same/Proof.antt' proofs/same/Proof.antt 'returns c = refl' 'returns c = c .inv'
-edit without '' src/lib.rt '{ 7 }' '{ 8 }'
 cat >"$room/expected" <<'END'
-crate 1 of 1: small, 9 impostors
-small/elsewhere: NOT AS IT MUST BE: it is refused first at proofs/seven/Proof.antt, not at proofs/same/Proof.antt (edit 1 of 9)
-small/gone: NOT AS IT MUST BE: an old: text stands not just once in src/lib.rt (edit 2 of 9)
-small/ill_formed: NOT AS IT MUST BE: it did not reach the prover; see target/impostors/small/ill_formed.log (edit 3 of 9)
-small/in_a_file: refused at proofs/same/Proof.antt (edit 4 of 9)
-small/made_by_the_kit: refused at proofs/seven/Proof.antt (edit 5 of 9)
-small/nowhere: NOT AS IT MUST BE: its line at: names no proof of the crate: proofs/other/Proof.antt (edit 6 of 9)
-small/proved: NOT AS IT MUST BE: it is still proved (edit 7 of 9)
-small/shape: NOT AS IT MUST BE: it is refused for its proof's shape; see target/impostors/small/shape.log (edit 8 of 9)
-small/without: NOT AS IT MUST BE: no line at: says where it must be refused; it is at proofs/seven/Proof.antt (edit 9 of 9)
-2 refused, 7 not as they must be
+crate 1 of 1: small, 8 impostors
+small/elsewhere: NOT AS IT MUST BE: it is refused first at proofs/seven/Proof.antt, not at proofs/same/Proof.antt (edit 1 of 8)
+small/gone: NOT AS IT MUST BE: an old: text stands not just once in src/lib.rt (edit 2 of 8)
+small/ill_formed: NOT AS IT MUST BE: it did not reach the prover; see target/impostors/small/ill_formed.log (edit 3 of 8)
+small/in_a_file: refused at proofs/same/Proof.antt (edit 4 of 8)
+small/made_by_the_kit: refused at proofs/seven/Proof.antt (edit 5 of 8)
+small/nowhere: NOT AS IT MUST BE: its line at: names no proof of the crate: proofs/other/Proof.antt (edit 6 of 8)
+small/proved: NOT AS IT MUST BE: it is still proved (edit 7 of 8)
+small/shape: NOT AS IT MUST BE: it is refused for its proof's shape; see target/impostors/small/shape.log (edit 8 of 8)
+2 refused, 6 not as they must be
 END
 if "$room/tools/impostors" small >"$room/said" 2>&1; then fails "wrong edits are called right"; fi
 sed 's/; [0-9]* s)$/)/' "$room/said" | diff "$room/expected" - >&2 || fails "an edit is not judged as it must be"
 [ -z "$(find "$room/target/impostors/small" -mindepth 1 -type d)" ] || fails "copies are left behind"
-rm "$small"/impostors/[!im]*.edit "$small/impostors/ill_formed.edit"
-"$room/tools/impostors" >"$room/said" 2>&1 || { cat "$room/said" >&2; fails "right edits are called wrong"; }
+mv "$small/impostors/in_a_file.edit" "$room"
+rm "$small"/impostors/*
+mv "$room/in_a_file.edit" "$small/impostors"
+"$room/tools/impostors" >"$room/said" 2>&1 || { cat "$room/said" >&2; fails "a right edit is called wrong"; }
+edit without '' src/lib.rt '{ 7 }' '{ 8 }'
+if "$room/tools/impostors" --read >"$room/said"; then fails "an edit without a line at: is called right"; fi
 
 # What counts is counted, and the gate's log stays as `rt` printed it.
 mkdir "$room/bin"
