@@ -1,370 +1,356 @@
-/*
- * statement: loans in, their schedules out, as aligned tables or as CSV.
- * A loan is opened, and drawn through room for a few rows until nothing is owed.
- */
+/* statement: loans in, their schedules out, as aligned tables or as CSV. */
+#include "amounts.h"
+#include "command.h"
 #include "senyolanda.h"
 
-#include <ctype.h>
-#include <errno.h>
 #include <inttypes.h>
-#include <math.h>
-#include <stdarg.h>
-#include <stdbool.h>
-#include <stdio.h>
-#include <stdlib.h>
 #include <string.h>
 
 static const char help[] =
-    "usage: statement [OPTION..] PRINCIPAL RATE MONTHS\n"
-    "       statement [OPTION..] --records FILE\n"
+    "usage: senyolanda statement [OPTION..] PRINCIPAL RATE MONTHS\n"
+    "       senyolanda statement [OPTION..] --records FILE\n"
     "\n"
     "Writes a loan's schedule: each month's payment, the principal and the interest in it, and the balance after it.\n"
     "PRINCIPAL and RATE are decimals, the rate a year (0.06 is six per cent); MONTHS is a whole number.\n"
     "\n"
     "  --records FILE    take the loans from FILE, records of 21 bytes end to end; - is standard input\n"
     "  --payment AMOUNT  pay AMOUNT each month and the rest in the last; else the payment is worked out\n"
-    "  --csv             write comma-separated rows, each with its loan's place, from 0\n"
+    "  --csv             write comma-separated rows, each with its loan's number, from 1\n"
+    "  --total           end each loan's comma-separated rows with their total, as a table ends\n"
+    "  --separators      write a comma between thousands; not with --csv, where a comma parts the cells, nor with --bits\n"
     "  --bits            write each amount as the 16 hexadecimal digits of its binary64\n"
-    "  --help            write this\n"
+    "  --all             list every refused record, and read on however many there are\n"
+    "  -h, --help        write this\n"
+    "  --                take no word behind this for an option\n"
+    "\n"
+    "A value may stand behind its option or in it, as in --records=FILE. A minus in front of a number makes no option of it.\n"
     "\n"
     "Amounts are rounded for print alone, to the nearest cent and an exact half to the even one. A total adds the unrounded\n"
-    "amounts from the top down, so that it can differ by some cents from the sum of what is printed above it.\n"
+    "amounts from the top down, so that it can differ by some cents from the sum of what is printed above it; a table in which\n"
+    "it does says so at its foot. A rate above 1, which is 100 per cent a year, is taken, with a warning.\n"
     "\n"
-    "A refused loan gets a line on standard error, with the refusal's number, the loan's place and the cause; the loans\n"
-    "after it get their statements. A file that ends within a record, or holds none, is refused there.\n"
+    "Loans are counted from 1. A refused loan gets a line on standard error, such as `loan 3: refused 2 at 2`: the loan's number,\n"
+    "the refusal's number and the loan's place, which is counted from 0, and the cause in words; the loans after it get their\n"
+    "statements. After 20 such lines refusals are only counted. A file whose first 10 records are all refused is read no further.\n"
     "\n"
-    "Exit status: 0, every loan has its statement; 1, a loan was refused; 2, bad usage, or a failure to read or write.\n";
+    "Exit status: 0, every loan has its statement; 1, a loan was refused, or the file holds none or ends inside a record; 2, bad\n"
+    "usage, or a failure to read or write.\n";
 
-enum status { DONE = 0, REFUSED = 1, FAILED = 2 };
+enum { REFUSALS_LISTED = 20, REFUSALS_AT_THE_START = 10 };
 
-enum { ROWS_AT_A_TIME = 6 };
+/* ---- the command line ---- */
+
+enum { ALL, AS_BITS, AS_CSV, GIVEN_PAYMENT, RECORDS, SEPARATORS, TOTAL, OPTIONS };
+
+static struct option options[OPTIONS + 1] = {
+    [ALL] = {"--all", NULL, NULL},
+    [AS_BITS] = {"--bits", NULL, NULL},
+    [AS_CSV] = {"--csv", NULL, NULL},
+    [GIVEN_PAYMENT] = {"--payment", "an amount", NULL},
+    [RECORDS] = {"--records", "a file's name", NULL},
+    [SEPARATORS] = {"--separators", NULL, NULL},
+    [TOTAL] = {"--total", NULL, NULL},
+};
+
+static bool is_given(int option) {
+    return options[option].value != NULL;
+}
+
+/* ---- a loan and its rows ---- */
 
 /* A row's columns, in the order of a draw. */
 enum { MONTH, PAYMENT, PRINCIPAL, INTEREST, BALANCE, COLUMNS = SENYOLANDA_ROW_PLACES };
 
-/* The longest amount is the lowest binary64: a sign, 309 digits, a point and two more. */
-enum { TEXT_SIZE = 320 };
-
-struct settings {
-    const char *records;   /* a file's name, or null: the loan stands on the command line */
-    bool given, csv, bits;
-    double payment;        /* where one is given */
-};
-
-/* One line on standard error. */
-static enum status fail(const char *format, ...) {
-    va_list words;
-    va_start(words, format);
-    fputs("statement: ", stderr);
-    vfprintf(stderr, format, words);
-    fputc('\n', stderr);
-    va_end(words);
-    return FAILED;
-}
-
-/* ---- a schedule, row by row ---- */
+static const char *const names[COLUMNS] = {"month", "payment", "principal", "interest", "balance"};
 
 struct schedule {
-    struct senyolanda_loan loan;
-    double room[ROWS_AT_A_TIME * COLUMNS];
-    uint32_t taken, written, owed;
-    senyolanda_result result;
-};
-
-/* A schedule of which nothing is drawn yet: rows are owed until a draw says otherwise. */
-static struct schedule schedule_of(struct senyolanda_loan loan) {
-    struct schedule schedule = {.loan = loan, .owed = 1};
-    return schedule;
-}
-
-/* The next row; null when none is left, or when a draw was refused, as its result then says. */
-static const double *next_row(struct schedule *schedule) {
-    if (schedule->taken == schedule->written && schedule->owed > 0) {
-        schedule->taken = schedule->written = schedule->owed = 0;
-        schedule->result = senyolanda_loan_draw(
-            &schedule->loan, schedule->room, ROWS_AT_A_TIME * COLUMNS, &schedule->written, &schedule->owed);
-    }
-    if (schedule->taken == schedule->written) return NULL;
-    return schedule->room + COLUMNS * schedule->taken++;
-}
-
-/* ---- numbers as text ---- */
-
-/* Every NaN is shown alike, whatever its sign and payload. */
-static double with_one_nan(double number) {
-    return isnan(number) ? (double)NAN : number;
-}
-
-/* glibc's and musl's printf round correctly: to the nearest, an exact half to the even one. Minus zero is shown as zero. */
-static void put_cents(char text[TEXT_SIZE], double amount) {
-    snprintf(text, TEXT_SIZE, "%.2f", amount);
-    if (strcmp(text, "-0.00") == 0) strcpy(text, "0.00");
-}
-
-static void put_bits(char text[TEXT_SIZE], double amount) {
-    uint64_t pattern;
-    memcpy(&pattern, &amount, sizeof pattern);
-    snprintf(text, TEXT_SIZE, "%016" PRIx64, pattern);
-}
-
-static void put_amount(char text[TEXT_SIZE], double amount, bool bits) {
-    (bits ? put_bits : put_cents)(text, with_one_nan(amount));
-}
-
-/* The shortest decimal that reads back as the rate. */
-static void put_rate(char text[TEXT_SIZE], double rate) {
-    int digits = 0;
-    do {
-        snprintf(text, TEXT_SIZE, "%.*g", ++digits, with_one_nan(rate));
-    } while (digits < 17 && strtod(text, NULL) != rate);
-}
-
-/* ---- lines of five cells ---- */
-
-struct line {
-    char cell[COLUMNS][TEXT_SIZE];
-};
-
-static const struct line names = {{"month", "payment", "principal", "interest", "balance"}};
-
-/* A line's amounts, after a first cell of its own. */
-static struct line line_of(const char *first, const double *row, bool bits) {
-    struct line line;
-    snprintf(line.cell[MONTH], TEXT_SIZE, "%s", first);
-    for (int column = PAYMENT; column < COLUMNS; column++) put_amount(line.cell[column], row[column], bits);
-    return line;
-}
-
-static struct line month_line(const double *row, bool bits) {
-    char month[TEXT_SIZE];
-    snprintf(month, TEXT_SIZE, "%.0f", row[MONTH]);
-    return line_of(month, row, bits);
-}
-
-static void print_line(const struct line *line, const char *between, const int width[COLUMNS]) {
-    for (int column = 0; column < COLUMNS; column++)
-        printf("%s%*s", column == 0 ? "" : between, width[column], line->cell[column]);
-    putchar('\n');
-}
-
-/* ---- statements ---- */
-
-/* A loan that was accepted, and where it stands among those of one run. */
-struct entry {
     double principal, rate;
     uint32_t months;
-    struct senyolanda_loan loan;
-    size_t place;
-    bool first;   /* of those accepted */
+    double rows[SENYOLANDA_MOST_MONTHS * COLUMNS];
+    double total[COLUMNS];
 };
 
-static senyolanda_result print_csv(const struct entry *entry, bool bits) {
-    static const int as_it_is[COLUMNS];
-    struct schedule schedule = schedule_of(entry->loan);
-    const double *row;
-    if (entry->first) {
-        printf("loan,");
-        print_line(&names, ",", as_it_is);
-    }
-    while ((row = next_row(&schedule)) != NULL) {
-        const struct line line = month_line(row, bits);
-        printf("%zu,", entry->place);
-        print_line(&line, ",", as_it_is);
-    }
-    return schedule.result;
-}
+/* What came of the loans so far, and how they are written. */
+struct run {
+    enum form form;
+    double payment;   /* where one is given */
+    size_t good, refused, high_rates;
+    struct schedule schedule;
+};
 
-static void widen(int width[COLUMNS], const struct line *line) {
-    for (int column = 0; column < COLUMNS; column++) {
-        const int length = (int)strlen(line->cell[column]);
-        if (length > width[column]) width[column] = length;
-    }
+static const double *row_of(const struct schedule *schedule, uint32_t row) {
+    return schedule->rows + (size_t)row * COLUMNS;
 }
 
 /* Sums from 0, in the order of the rows; of the balances the last one stands. */
-static void add_row(double total[COLUMNS], const double *row) {
-    total[PAYMENT] += row[PAYMENT];
-    total[PRINCIPAL] += row[PRINCIPAL];
-    total[INTEREST] += row[INTEREST];
-    total[BALANCE] = row[BALANCE];
+static void add_rows(struct schedule *schedule) {
+    double *total = schedule->total;
+    total[PAYMENT] = total[PRINCIPAL] = total[INTEREST] = total[BALANCE] = 0;
+    for (uint32_t row = 0; row < schedule->months; row++) {
+        const double *cells = row_of(schedule, row);
+        total[PAYMENT] += cells[PAYMENT];
+        total[PRINCIPAL] += cells[PRINCIPAL];
+        total[INTEREST] += cells[INTEREST];
+        total[BALANCE] = cells[BALANCE];
+    }
 }
 
-static void print_title(const struct entry *entry, bool bits) {
-    char principal[TEXT_SIZE], rate[TEXT_SIZE];
-    put_amount(principal, entry->principal, bits);
-    put_rate(rate, entry->rate);
-    printf("%sLoan %zu: principal %s, rate %s, months %" PRIu32 "\n",
-           entry->first ? "" : "\n", entry->place, principal, rate, entry->months);
+/* The loan that the bytes hold, all its rows, and their totals. The rows have room for the longest term. */
+static senyolanda_result draw_loan(const uint8_t *record, size_t length, struct run *run) {
+    struct schedule *schedule = &run->schedule;
+    struct senyolanda_loan loan;
+    uint32_t written, owed;
+    senyolanda_result result =
+        senyolanda_read_loan(record, length, &schedule->principal, &schedule->rate, &schedule->months);
+    if (result == 0)
+        result = is_given(GIVEN_PAYMENT) ? senyolanda_loan_open_with_payment(record, length, run->payment, &loan)
+                                         : senyolanda_loan_open(record, length, &loan);
+    if (result == 0)
+        result = senyolanda_loan_draw(&loan, schedule->rows, SENYOLANDA_MOST_MONTHS * COLUMNS, &written, &owed);
+    if (result == 0) add_rows(schedule);
+    return result;
 }
 
-/* Draws the schedule twice: to know the widths and the totals, then to print it. */
-static senyolanda_result print_table(const struct entry *entry, bool bits) {
-    struct schedule schedule = schedule_of(entry->loan);
-    double total[COLUMNS] = {0};
-    int width[COLUMNS] = {0};
-    const double *row;
-    while ((row = next_row(&schedule)) != NULL) {
-        const struct line line = month_line(row, bits);
+/* ---- rows as comma-separated lines ---- */
+
+static char *put_text(char *at, const char *text) {
+    const size_t length = strlen(text);
+    memcpy(at, text, length);
+    return at + length;
+}
+
+/* The amounts of a line, behind its loan and its month. */
+static void end_csv_line(char *at, const double *cells, enum form form) {
+    for (int column = PAYMENT; column < COLUMNS; column++) {
+        *at++ = ',';
+        at = put_amount(at, cells[column], form);
+    }
+    *at++ = '\n';
+    end_line(at);
+}
+
+static char *start_csv_line(size_t number) {
+    char *at = put_whole(start_line(), number);
+    *at++ = ',';
+    return at;
+}
+
+static void print_csv(const struct run *run) {
+    const struct schedule *schedule = &run->schedule;
+    const size_t number = run->good + run->refused + 1;
+    if (run->good == 0) put_words("loan,month,payment,principal,interest,balance\n");
+    for (uint32_t row = 0; row < schedule->months; row++)
+        end_csv_line(put_whole(start_csv_line(number), row + 1), row_of(schedule, row), run->form);
+    if (is_given(TOTAL)) end_csv_line(put_text(start_csv_line(number), "total"), schedule->total, run->form);
+}
+
+/* ---- rows as a table ---- */
+
+/* A line of a table: five cells, each the end of its text in a room of its own. */
+struct line {
+    char text[COLUMNS][AMOUNT_ROOM];
+    size_t length[COLUMNS];
+};
+
+static void set_cell(struct line *line, int column, const char *end) {
+    line->length[column] = (size_t)(end - line->text[column]);
+}
+
+static void set_amounts(struct line *line, const double *cells, enum form form) {
+    for (int column = PAYMENT; column < COLUMNS; column++)
+        set_cell(line, column, put_amount(line->text[column], cells[column], form));
+}
+
+static void set_names(struct line *line) {
+    for (int column = 0; column < COLUMNS; column++) set_cell(line, column, put_text(line->text[column], names[column]));
+}
+
+static void set_row(struct line *line, const struct run *run, uint32_t row) {
+    set_cell(line, MONTH, put_whole(line->text[MONTH], row + 1));
+    set_amounts(line, row_of(&run->schedule, row), run->form);
+}
+
+static void set_total(struct line *line, const struct run *run) {
+    set_cell(line, MONTH, put_text(line->text[MONTH], "total"));
+    set_amounts(line, run->schedule.total, run->form);
+}
+
+static void widen(size_t width[COLUMNS], const struct line *line) {
+    for (int column = 0; column < COLUMNS; column++)
+        if (line->length[column] > width[column]) width[column] = line->length[column];
+}
+
+/* Each cell stands at the right of its column, two spaces from the one before. */
+static void print_line(const struct line *line, const size_t width[COLUMNS]) {
+    char *at = start_line();
+    for (int column = 0; column < COLUMNS; column++) {
+        const size_t spaces = width[column] - line->length[column] + (column == 0 ? 0 : 2);
+        memset(at, ' ', spaces);
+        memcpy(at + spaces, line->text[column], line->length[column]);
+        at += spaces + line->length[column];
+    }
+    *at++ = '\n';
+    end_line(at);
+}
+
+static void print_title(const struct run *run) {
+    const struct schedule *schedule = &run->schedule;
+    char rate[SHORTEST_ROOM];
+    char *at = start_line();
+    put_shortest(rate, schedule->rate);
+    at = put_whole(put_text(at, run->good == 0 ? "Loan " : "\nLoan "), run->good + run->refused + 1);
+    at = put_amount(put_text(at, ": principal "), schedule->principal, run->form);
+    at = put_text(put_text(at, ", rate "), rate);
+    at = put_whole(put_text(at, ", months "), schedule->months);
+    *at++ = '\n';
+    end_line(at);
+}
+
+/* Whether a column's amounts add up to its total, both as they are printed. They are added modulo 2^64, and differ by far less:
+   by roundings of at most 1,200 sums below 2^75. Of larger amounts nothing is said. */
+static bool adds_up(const struct schedule *schedule, int column) {
+    uint64_t sum = 0, cents;
+    for (uint32_t row = 0; row < schedule->months; row++) {
+        if (!written_cents(row_of(schedule, row)[column], &cents)) return true;
+        sum += cents;
+    }
+    return !written_cents(schedule->total[column], &cents) || sum == cents;
+}
+
+static void print_foot(const struct run *run) {
+    for (int column = PAYMENT; column <= INTEREST; column++) {
+        if (adds_up(&run->schedule, column)) continue;
+        put_words("Totals add the unrounded amounts: they can differ by some cents from the sum of the amounts above.\n");
+        return;
+    }
+}
+
+static void print_table(const struct run *run) {
+    const uint32_t months = run->schedule.months;
+    size_t width[COLUMNS] = {0};
+    struct line names_line, total_line, line;
+    set_names(&names_line);
+    set_total(&total_line, run);
+    widen(width, &names_line);
+    widen(width, &total_line);
+    for (uint32_t row = 0; row < months; row++) {
+        set_row(&line, run, row);
         widen(width, &line);
-        add_row(total, row);
     }
-    const struct line totals = line_of("total", total, bits);
-    widen(width, &names);
-    widen(width, &totals);
-
-    print_title(entry, bits);
-    print_line(&names, "  ", width);
-    schedule = schedule_of(entry->loan);
-    while ((row = next_row(&schedule)) != NULL) {
-        const struct line line = month_line(row, bits);
-        print_line(&line, "  ", width);
+    print_title(run);
+    print_line(&names_line, width);
+    for (uint32_t row = 0; row < months; row++) {
+        set_row(&line, run, row);
+        print_line(&line, width);
     }
-    print_line(&totals, "  ", width);
-    return schedule.result;
+    print_line(&total_line, width);
+    if (run->form != BITS) print_foot(run);
 }
 
-static senyolanda_result open_loan(
-    const uint8_t *record, size_t length, const struct settings *settings, struct senyolanda_loan *loan) {
-    return settings->given ? senyolanda_loan_open_with_payment(record, length, settings->payment, loan)
-                           : senyolanda_loan_open(record, length, loan);
+/* ---- loans ---- */
+
+static void refuse_loan(struct run *run, senyolanda_result result) {
+    const uint32_t number = senyolanda_number(result);
+    const size_t place = run->good + run->refused++;
+    if (run->refused > REFUSALS_LISTED && !is_given(ALL)) return;
+    say("loan %zu: refused %" PRIu32 " at %zu: %s", place + 1, number, place, senyolanda_refusal_text(number));
 }
 
 /* The statement of the loan that the bytes hold, or the line that says why there is none. */
-static enum status state_loan(
-    const uint8_t *record, size_t length, size_t place, bool first, const struct settings *settings) {
-    struct entry entry = {.place = place, .first = first};
-    senyolanda_result result = senyolanda_read_loan(record, length, &entry.principal, &entry.rate, &entry.months);
-    if (result == 0) result = open_loan(record, length, settings, &entry.loan);
-    if (result == 0) result = (settings->csv ? print_csv : print_table)(&entry, settings->bits);
-    if (result == 0) return DONE;
-    const uint32_t number = senyolanda_number(result);
-    fprintf(stderr, "statement: refused %" PRIu32 " at %zu: %s\n", number, place, senyolanda_refusal_text(number));
-    return REFUSED;
+static void state_loan(const uint8_t *record, size_t length, struct run *run) {
+    const senyolanda_result result = draw_loan(record, length, run);
+    if (result != 0) {
+        refuse_loan(run, result);
+        return;
+    }
+    (is_given(AS_CSV) ? print_csv : print_table)(run);
+    run->good++;
+    if (run->schedule.rate > 1) run->high_rates++;
+}
+
+static enum status state_words(char **words, struct run *run) {
+    uint8_t record[SENYOLANDA_LOAN_BYTES];
+    double principal, rate;
+    uint32_t months;
+    const char *wrong;
+    if ((wrong = read_decimal(words[0], &principal)) != NULL) return fail("the principal '%s' %s", words[0], wrong);
+    if ((wrong = read_decimal(words[1], &rate)) != NULL) return fail("the rate '%s' %s", words[1], wrong);
+    if (!read_whole(words[2], &months)) return fail("the months '%s' are no whole number from 0 to 4294967295", words[2]);
+    senyolanda_write_loan(principal, rate, months, record);
+    state_loan(record, sizeof record, run);
+    if (run->high_rates > 0) say("a rate of %s is %.15g per cent a year; six per cent is 0.06", words[1], 100 * rate);
+    return run->refused > 0 ? REFUSED : DONE;
 }
 
 /* ---- loans from a file ---- */
 
-/* Whether what was written so far has reached standard output. */
-static bool written_out(void) {
-    return fflush(stdout) == 0 && !ferror(stdout);
+/* One line at the end for what the file has beside good loans: refused ones, and bytes that are no whole record. */
+static void say_what_came(const struct run *run, size_t left_over) {
+    const size_t records = run->good + run->refused;
+    char tail[128] = "", unlisted[128] = "";
+    if (left_over > 0)
+        snprintf(tail, sizeof tail, "the file ends inside a record, %zu byte%s left over after %zu record%s: ",
+                 left_over, plural(left_over), records, plural(records));
+    if (run->refused > REFUSALS_LISTED && !is_given(ALL))
+        snprintf(unlisted, sizeof unlisted, ", the last %zu of them not listed above; --all lists them", run->refused - REFUSALS_LISTED);
+    say("%s%zu loan%s good, %zu refused%s", tail, run->good, plural(run->good), run->refused, unlisted);
 }
 
-/* Every record of the file, the one that the file's end cuts short too; a file that holds nothing is one record of no bytes. What
-   was written is flushed before each, so that a refusal on standard error stands in its place. */
-static enum status state_records(FILE *file, const struct settings *settings) {
+static enum status state_records(FILE *file, const char *name, struct run *run) {
     uint8_t record[SENYOLANDA_LOAN_BYTES];
-    enum status status = DONE;
-    bool first = true;
-    for (size_t place = 0; written_out(); place++) {
-        const size_t length = fread(record, 1, sizeof record, file);
-        if (ferror(file)) return fail("cannot read %s: %s", settings->records, strerror(errno));
-        if (length == 0 && place > 0) break;
-        if (state_loan(record, length, place, first, settings) == DONE) {
-            first = false;
-        } else {
-            status = REFUSED;
-        }
+    size_t length;
+    for (;;) {
+        if (output_failed() || !read_input(file, name, record, sizeof record, &length)) return FAILED;
+        if (length < sizeof record) break;
+        state_loan(record, length, run);
+        if (run->good > 0 || run->refused < REFUSALS_AT_THE_START || is_given(ALL)) continue;
+        say("the file seems not to hold loans' records, which have 21 bytes each, the first of them 1; --all reads on");
+        return REFUSED;
     }
+    if (run->good + run->refused + length == 0) {
+        say("the file is empty: no loan's record is there");
+        return REFUSED;
+    }
+    if (run->refused > 0 || length > 0) say_what_came(run, length);
+    if (run->high_rates > 0)
+        say("%zu loan%s a rate above 1, which is 100 per cent a year; six per cent is 0.06",
+            run->high_rates, run->high_rates == 1 ? " has" : "s have");
+    return run->refused > 0 || length > 0 ? REFUSED : DONE;
+}
+
+static enum status state_file(const char *name, struct run *run) {
+    FILE *file = open_input(name);
+    if (file == NULL) return FAILED;
+    const enum status status = state_records(file, name, run);
+    close_input(file);
     return status;
 }
 
-static enum status state_file(const struct settings *settings) {
-    const bool standard_input = strcmp(settings->records, "-") == 0;
-    FILE *file = standard_input ? stdin : fopen(settings->records, "rb");
-    if (file == NULL) return fail("cannot open %s: %s", settings->records, strerror(errno));
-    const enum status status = state_records(file, settings);
-    if (!standard_input) fclose(file);
-    return status;
+/* The form that the options ask for; false where they ask for two that do not go together, which is then said. */
+static bool choose_form(enum form *form) {
+    *form = is_given(AS_BITS) ? BITS : is_given(SEPARATORS) ? SEPARATED : CENTS;
+    if (!is_given(SEPARATORS) || (!is_given(AS_CSV) && !is_given(AS_BITS))) return true;
+    fail("--separators does not go with %s", is_given(AS_CSV) ? "--csv, where a comma parts the cells" : "--bits");
+    return false;
 }
 
-/* ---- the command line ---- */
-
-/* A decimal, whole: infinity and NaN have to be meant, as `inf` and `nan`. */
-static bool read_number(const char *text, double *number) {
-    char *end;
-    errno = 0;
-    *number = strtod(text, &end);
-    return end != text && *end == '\0' && !isspace((unsigned char)*text) && !(errno == ERANGE && isinf(*number));
-}
-
-static enum status not_a_number(const char *what, const char *text) {
-    return fail("the %s '%s' is no decimal number that a binary64 holds", what, text);
-}
-
-static bool read_months(const char *text, uint32_t *months) {
-    uint64_t value = 0;
-    if (*text == '\0') return false;
-    for (; *text != '\0'; text++) {
-        if (!isdigit((unsigned char)*text)) return false;
-        value = 10 * value + (uint64_t)(*text - '0');
-        if (value > UINT32_MAX) return false;
+static enum status run_statement(char **words) {
+    static struct run run;
+    size_t count = 0;
+    if (!choose_form(&run.form)) return FAILED;
+    if (is_given(GIVEN_PAYMENT)) {
+        const char *text = options[GIVEN_PAYMENT].value, *wrong = read_decimal(text, &run.payment);
+        if (wrong != NULL) return fail("the payment '%s' %s", text, wrong);
     }
-    *months = (uint32_t)value;
-    return true;
-}
-
-static enum status state_words(char *const words[3], const struct settings *settings) {
-    uint8_t record[SENYOLANDA_LOAN_BYTES];
-    double principal, rate;
-    uint32_t months;
-    if (!read_number(words[0], &principal)) return not_a_number("principal", words[0]);
-    if (!read_number(words[1], &rate)) return not_a_number("rate", words[1]);
-    if (!read_months(words[2], &months)) return fail("the months '%s' are no whole number from 0 to 4294967295", words[2]);
-    senyolanda_write_loan(principal, rate, months, record);
-    return state_loan(record, sizeof record, 0, true, settings);
-}
-
-struct command {
-    struct settings settings;
-    char *words[3];   /* principal, rate, months */
-    int count;        /* of the words that are there */
-    bool help;
-};
-
-static enum status take_words(char **word, struct command *command) {
-    struct settings *settings = &command->settings;
-    for (; *word != NULL; word++) {
-        if (strcmp(*word, "--help") == 0) {
-            command->help = true;
-        } else if (strcmp(*word, "--csv") == 0) {
-            settings->csv = true;
-        } else if (strcmp(*word, "--bits") == 0) {
-            settings->bits = true;
-        } else if (strcmp(*word, "--records") == 0) {
-            if (*++word == NULL) return fail("--records wants a file's name");
-            settings->records = *word;
-        } else if (strcmp(*word, "--payment") == 0) {
-            if (*++word == NULL) return fail("--payment wants an amount");
-            if (!read_number(*word, &settings->payment)) return not_a_number("payment", *word);
-            settings->given = true;
-        } else if (strncmp(*word, "--", 2) == 0) {
-            return fail("there is no option %s; --help says which there are", *word);
-        } else if (command->count == 3) {
-            return fail("'%s' is a word too many; --help says what is wanted", *word);
-        } else {
-            command->words[command->count++] = *word;
-        }
+    while (words[count] != NULL) count++;
+    if (is_given(RECORDS)) {
+        if (count > 0) return fail("the loans come from --records or from the command line, not from both");
+        return state_file(options[RECORDS].value, &run);
     }
-    return DONE;
+    if (count < 3) return fail("a principal, a rate and months are wanted, or --records; see --help");
+    if (count > 3) return fail("'%s' is a word too many; --help says what is wanted", words[3]);
+    return state_words(words, &run);
 }
 
-static enum status run(char **words) {
-    struct command command = {.count = 0};
-    if (take_words(words, &command) != DONE) return FAILED;
-    if (command.help) {
-        fputs(help, stdout);
-        return DONE;
-    }
-    if (command.settings.records == NULL) {
-        if (command.count < 3) return fail("a principal, a rate and months are wanted, or --records; see --help");
-        return state_words(command.words, &command.settings);
-    }
-    if (command.count > 0) return fail("the loans come from --records or from the command line, not from both");
-    return state_file(&command.settings);
-}
-
-int main(int argc, char **argv) {
-    enum status status = run(argc > 0 ? argv + 1 : argv);
-    if (!written_out()) status = fail("cannot write to standard output: %s", strerror(errno));
-    return (int)status;
-}
+const struct command statement_command = {
+    "statement", "write loans' statements, as tables or as comma-separated rows", help, options, run_statement};
