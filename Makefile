@@ -1,13 +1,15 @@
-# make            builds in build/, for this machine's own processor: libsenyolanda.a, libsenyolanda.so and senyolanda.pc for programs
-#                 that link the library, and the programs schedule and statement; and build/x86-64/libsenyolanda.a
-# make x86-64     builds build/x86-64/libsenyolanda.a alone, on any machine
+# make            builds in build/, with a C compiler alone, from the assembly in dist/: libsenyolanda.a, libsenyolanda.so and
+#                 senyolanda.pc for programs that link the library, and the program senyolanda
 # make run        builds, draws a sample loan's schedule, and prints a sample loan's statement
-# make test       proves everything from nothing by `rt ci`, then runs every test; its last line is `rt ci`'s
+# make install    puts library, header and program under PREFIX, within DESTDIR; make uninstall takes them away
+# make test       proves everything from nothing by `rt ci`, sees that dist/ is what was proved, then runs every test; its last
+#                 line is `rt ci`'s. It needs the Rattle kit, and so do dist and impostors
+# make dist       makes dist/ anew from the proved crates
 # make impostors CRATES=..   sees that the crates' impostors (every crate's, where none is named) are refused, each where it must be
-# make test-x86-64   runs the tests in C over the library for x86-64, emulated on any other machine
+# make test-KIND  runs the tests in C over the library for KIND: aarch64, x86-64 or x86-64-v3; emulated where this machine is of
+#                 another; make KIND builds its archive build/KIND/libsenyolanda.a
 # make differential COUNT=..   compares every function with the Rust's published files, which FIN_PRIMITIVES says where they are
-# make bench      times jobs beside the Rust, both for this machine's own processor
-# make install    puts library, header and programs under PREFIX, within DESTDIR; make uninstall takes them away
+# make bench      times jobs beside the Rust, which is compiled for this machine's own processor
 SHELL := /bin/sh
 CFLAGS ?= -O2
 PREFIX ?= /usr/local
@@ -15,60 +17,110 @@ BINDIR ?= $(PREFIX)/bin
 LIBDIR ?= $(PREFIX)/lib
 INCLUDEDIR ?= $(PREFIX)/include
 FIN_PRIMITIVES ?= ../shared/docs/src
-SOURCES := crates.txt $(shell find crates -name '*.rt' -o -name '*.antt')
 WARNINGS := -pedantic -Wall -Wextra
 
-VERSION := 0.1.0
+# The version stands in the header.
+part = $(shell sed -n 's/^\#define SENYOLANDA_VERSION_$(1) //p' include/senyolanda.h)
+VERSION := $(call part,MAJOR).$(call part,MINOR).$(call part,PATCH)
 # The number goes up when a program that was linked before would no longer run as it did.
 SONAME := libsenyolanda.so.0
 
-.PHONY: all x86-64 run test tests bench install uninstall clean kit always
+# The kinds of processor that dist/ has assembly for, and the one that CC compiles for.
+KINDS := aarch64 x86-64 x86-64-v3
+MACHINE := $(firstword $(subst -, ,$(or $(shell $(CC) -dumpmachine 2>/dev/null),$(shell uname -m))))
+KIND := $(subst _,-,$(MACHINE))
+# An x86-64 processor with AVX2 is better served by a build of its own, which the loader finds by itself.
+FASTER := $(if $(filter x86-64,$(KIND)),x86-64-v3)
+# What a kind's tools are called where it is not this machine's own.
+CROSS_aarch64 := aarch64-linux-gnu-
+CROSS_x86-64 := x86_64-linux-gnu-
+CROSS_x86-64-v3 := x86_64-linux-gnu-
+$(foreach kind,$(KIND) $(FASTER),$(eval CROSS_$(kind) :=))
+compiler = $(if $(CROSS_$(1)),$(CROSS_$(1))gcc,$(CC))
+archiver = $(if $(CROSS_$(1)),$(CROSS_$(1))ar,$(AR))
+
+LIBRARIES := build/libsenyolanda.a build/libsenyolanda.so $(FASTER:%=build/glibc-hwcaps/%/$(SONAME))
+
+.PHONY: all $(KINDS) run dist test tests bench install uninstall clean cc kit always
 # Two proofs at a time would write the same files under target/.
 .NOTPARALLEL:
+.SECONDARY:
 
-all: build/libsenyolanda.a build/libsenyolanda.so build/senyolanda.pc build/x86-64/libsenyolanda.a build/schedule build/statement
+all: $(LIBRARIES) build/senyolanda.pc build/senyolanda
 
-kit:
+cc:
+	@$(if $(filter $(KIND),$(KINDS)),,echo "make: dist/ has no assembly for $(KIND), only for $(KINDS)" >&2; exit 1)
+	@tools/need $(firstword $(CC)) gcc libc6-dev
+
+kit: cc
 	@command -v rt >/dev/null || { echo "make: please install the Rattle kit (its command is rt)" >&2; exit 1; }
-	@tools/need cc gcc libc6-dev
 
-build/schedule: $(SOURCES) tools/native | kit
-	tools/native schedule $@
+# ---- from dist/, with a C compiler
 
-build/libsenyolanda.a: $(SOURCES) tools/native | kit
-	tools/native senyolanda $@
+build/%/senyolanda.o: dist/%.s | cc
+	@mkdir -p $(@D)
+	$(if $(CROSS_$*),@tools/need $(call compiler,$*) gcc-$(subst _,-,$(CROSS_$*:-=)) libc6-dev-$(if $(filter aarch64,$*),arm64,amd64)-cross)
+	$(call compiler,$*) -c $< -o $@
 
-build/x86-64/libsenyolanda.a: $(SOURCES) tools/native | kit
-	tools/native senyolanda $@ x86-64
+build/%/libsenyolanda.a: build/%/senyolanda.o
+	rm -f $@
+	$(call archiver,$*) rcs $@ $<
 
-build/$(SONAME): build/libsenyolanda.a
-	echo '{ global: senyolanda_*; local: *; };' >build/exported
-	$(CC) -shared -o $@ -Wl,-soname,$(SONAME),--version-script=build/exported,-Bsymbolic,-z,defs,-z,text \
-	    -Wl,--whole-archive $< -Wl,--no-whole-archive
+build/%/$(SONAME): build/%/senyolanda.o
+	echo '{ global: senyolanda_*; local: *; };' >build/$*/exported
+	$(call compiler,$*) -shared -o $@ -Wl,-soname,$(SONAME),--version-script=build/$*/exported,-Bsymbolic,-z,defs,-z,text $<
 
-build/libsenyolanda.so: build/$(SONAME)
+$(KINDS): %: build/%/libsenyolanda.a
+
+# This machine's own stand in build/ itself, and where the loader looks for a faster one.
+build/libsenyolanda.a: build/$(KIND)/libsenyolanda.a
+	ln -sf $(KIND)/libsenyolanda.a $@
+
+build/libsenyolanda.so: build/$(KIND)/$(SONAME)
+	ln -sf $(KIND)/$(SONAME) build/$(SONAME)
 	ln -sf $(SONAME) $@
+
+build/glibc-hwcaps/%/$(SONAME): build/%/$(SONAME)
+	@mkdir -p $(@D)
+	ln -sf ../../$*/$(SONAME) $@
 
 # Written each time, since PREFIX may be another.
 build/senyolanda.pc: senyolanda.pc.in always
 	@mkdir -p build
 	@sed 's|@PREFIX@|$(PREFIX)|; s|@LIBDIR@|$(LIBDIR)|; s|@INCLUDEDIR@|$(INCLUDEDIR)|; s|@VERSION@|$(VERSION)|' $< >$@
 
-build/statement: host/statement.c include/senyolanda.h build/libsenyolanda.a
-	$(CC) -std=c99 $(WARNINGS) $(CFLAGS) -Iinclude host/statement.c build/libsenyolanda.a -o $@
+PROGRAM := $(wildcard host/*.c) include/senyolanda.h build/libsenyolanda.a
+build/senyolanda: $(PROGRAM) $(wildcard host/*.h)
+	$(CC) -std=c99 $(WARNINGS) $(CFLAGS) -Iinclude $(filter %.c %.a,$(PROGRAM)) -o $@
 
-# The same, watching its memory where the compiler can.
-build/test/statement: host/statement.c include/senyolanda.h build/libsenyolanda.a test/sanitizer
-	@mkdir -p build/test
-	$(CC) -std=c99 $(WARNINGS) -Werror -g $$(test/sanitizer "$(CC)") -Iinclude host/statement.c build/libsenyolanda.a -o $@
+run: build/senyolanda
+	printf '\001\0\0\0\0\0\300\222\100\0\0\0\0\0\0\0\0\003\0\0\0' | build/senyolanda schedule
+	build/senyolanda statement 12000 0.06 12
 
-x86-64: build/x86-64/libsenyolanda.a
+install: all
+	install -d $(DESTDIR)$(BINDIR) $(DESTDIR)$(LIBDIR)/pkgconfig $(DESTDIR)$(INCLUDEDIR)
+	install -m 644 include/senyolanda.h $(DESTDIR)$(INCLUDEDIR)
+	install -m 644 build/libsenyolanda.a $(DESTDIR)$(LIBDIR)
+	install -m 755 build/$(SONAME) $(DESTDIR)$(LIBDIR)
+	ln -sf $(SONAME) $(DESTDIR)$(LIBDIR)/libsenyolanda.so
+	$(foreach kind,$(FASTER),install -D -m 755 build/$(kind)/$(SONAME) $(DESTDIR)$(LIBDIR)/glibc-hwcaps/$(kind)/$(SONAME))
+	install -m 644 build/senyolanda.pc $(DESTDIR)$(LIBDIR)/pkgconfig
+	install -m 755 build/senyolanda $(DESTDIR)$(BINDIR)
 
-run: build/schedule build/statement
-	test/record 1200 0 3 | build/schedule
-	build/statement 12000 0.06 12
+uninstall:
+	rm -f $(DESTDIR)$(INCLUDEDIR)/senyolanda.h $(DESTDIR)$(LIBDIR)/libsenyolanda.a
+	rm -f $(DESTDIR)$(LIBDIR)/$(SONAME) $(DESTDIR)$(LIBDIR)/libsenyolanda.so $(DESTDIR)$(LIBDIR)/pkgconfig/senyolanda.pc
+	rm -f $(FASTER:%=$(DESTDIR)$(LIBDIR)/glibc-hwcaps/%/$(SONAME)) $(DESTDIR)$(BINDIR)/senyolanda
 
-# The gate comes first: it proves from nothing, and what it proved the builds after it take as it stands. Its last line is the last here too.
+clean:
+	rm -rf build target
+
+# ---- from the crates, with the kit
+
+dist: kit
+	tools/compile --assembly dist
+
+# The gate comes first: it proves from nothing, and what it proved is compiled after it and held to dist/. Its last line is the last here too.
 test: kit
 	@tools/need objdump binutils
 	@tools/need c++ g++
@@ -81,8 +133,17 @@ test: kit
 	@tail -n 1 build/gate.log
 
 # Every test but the gate, as many at once as there are processors; what each prints is shown whole, when it ends.
-tests: all build/test/statement
-	$(MAKE) -f test/Makefile -j"$$(nproc)" --output-sync=target
+tests: all build/test/senyolanda build/test/schedule $(FASTER:%=build/%/libsenyolanda.a)
+	$(MAKE) -f test/Makefile -j"$$(nproc)" --output-sync=target FASTER=$(FASTER)
+
+# The program, watching its memory where the compiler can.
+build/test/senyolanda: $(PROGRAM) $(wildcard host/*.h) test/sanitizer
+	@mkdir -p build/test
+	$(CC) -std=c99 $(WARNINGS) -Werror -g $$(test/sanitizer "$(CC)") -Iinclude $(filter %.c %.a,$(PROGRAM)) -o $@
+
+# The program in Rattle, whose bytes the command `senyolanda schedule` writes.
+build/test/schedule: crates.txt $(shell find crates/schedule crates/listing -name '*.rt') tools/compile | kit
+	tools/compile schedule $@
 
 # Wrong programs that must be refused beyond those that the gate tries. Before a landing: for every crate that it touched.
 .PHONY: impostors
@@ -90,16 +151,11 @@ impostors: kit
 	@tools/need python3 python3
 	tools/impostors $(CRATES)
 
-# The tests in C once more, over the library for x86-64; elsewhere they are cross-compiled and emulated.
-.PHONY: test-x86-64
-test-x86-64: build/x86-64/libsenyolanda.a
-ifeq ($(shell uname -m),x86_64)
-	test/c/run $<
-else
-	@tools/need x86_64-linux-gnu-gcc gcc-x86-64-linux-gnu libc6-dev-amd64-cross
-	@tools/need qemu-x86_64 qemu-user
-	test/c/run $< x86_64-linux-gnu-gcc "qemu-x86_64 -L /usr/x86_64-linux-gnu"
-endif
+# The tests in C once more, over the library for a kind of processor; elsewhere they are cross-compiled and emulated.
+.PHONY: $(KINDS:%=test-%)
+$(KINDS:%=test-%): test-%: build/%/libsenyolanda.a
+	$(if $(CROSS_$*),@tools/need qemu-$(CROSS_$*:-linux-gnu-=) qemu-user)
+	test/c/run $< $(call compiler,$*) $(if $(CROSS_$*),"qemu-$(CROSS_$*:-linux-gnu-=) -cpu max -L /usr/$(CROSS_$*:-=)")
 
 # Beside the Rust's published files, COUNT cases a family (10,000, and 100 for pools and bootstraps).
 differential: build/libsenyolanda.a
@@ -121,27 +177,10 @@ differential-if-there:
 	@if [ "$(origin FIN_PRIMITIVES)" != file ] || [ -d "$(FIN_PRIMITIVES)/src/fixed_income" ]; then $(MAKE) differential; \
 	else echo "differential: the Rust's files are not at $(FIN_PRIMITIVES); the replayed list stands in"; fi
 
-# What is missing is said before minutes go into the library.
+# What is missing is said before time goes into anything else.
 .PHONY: bench-needs
 bench-needs:
 	@bench/needs "$(FIN_PRIMITIVES)"
 
-bench: bench-needs build/libsenyolanda.a
-	bench/run build/libsenyolanda.a "$(FIN_PRIMITIVES)"
-
-install: all
-	install -d $(DESTDIR)$(BINDIR) $(DESTDIR)$(LIBDIR)/pkgconfig $(DESTDIR)$(INCLUDEDIR)
-	install -m 644 include/senyolanda.h $(DESTDIR)$(INCLUDEDIR)
-	install -m 644 build/libsenyolanda.a $(DESTDIR)$(LIBDIR)
-	install -m 755 build/$(SONAME) $(DESTDIR)$(LIBDIR)
-	ln -sf $(SONAME) $(DESTDIR)$(LIBDIR)/libsenyolanda.so
-	install -m 644 build/senyolanda.pc $(DESTDIR)$(LIBDIR)/pkgconfig
-	install -m 755 build/schedule build/statement $(DESTDIR)$(BINDIR)
-
-uninstall:
-	rm -f $(DESTDIR)$(INCLUDEDIR)/senyolanda.h $(DESTDIR)$(LIBDIR)/libsenyolanda.a
-	rm -f $(DESTDIR)$(LIBDIR)/$(SONAME) $(DESTDIR)$(LIBDIR)/libsenyolanda.so $(DESTDIR)$(LIBDIR)/pkgconfig/senyolanda.pc
-	rm -f $(DESTDIR)$(BINDIR)/schedule $(DESTDIR)$(BINDIR)/statement
-
-clean:
-	rm -rf build target
+bench: bench-needs build/libsenyolanda.a $(FASTER:%=build/%/libsenyolanda.a)
+	bench/run build/libsenyolanda.a "$(FIN_PRIMITIVES)" $(FASTER:%=build/%/libsenyolanda.a)
