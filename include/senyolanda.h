@@ -66,6 +66,9 @@ extern "C" {
 #define SENYOLANDA_ROW_BYTES 37
 #define SENYOLANDA_SWAP_BYTES 30
 
+/* Bytes enough for the listing of any loan. */
+#define SENYOLANDA_LISTING_BYTES 96000
+
 /* Places of a row in a draw's room, and of a month in a pool's. */
 #define SENYOLANDA_ROW_PLACES 5
 #define SENYOLANDA_POOL_MONTH_PLACES 3
@@ -292,6 +295,14 @@ senyolanda_result senyolanda_prepayment_savings(
 senyolanda_result senyolanda_refinance_breakeven(
     const uint8_t *old_record, size_t old_length, const uint8_t *new_record, size_t new_length,
     double cost, uint32_t elapsed, uint32_t *SENYOLANDA_RESTRICT month);
+
+/* The whole schedule at the worked-out payment, as text: a line of column names; a line for each row, its month in decimal and each
+   amount as the 16 hexadecimal digits of its binary64, a NaN as 7ff8000000000000; and a line that counts the rows and how many are
+   left. Spaces stand between, and a newline ends each line. size is how many bytes the text has: no zero byte is put at its end, and
+   the bytes past size stay. Refuses 1, 2, 11. */
+senyolanda_result senyolanda_listing(
+    const uint8_t *record, size_t length,
+    uint8_t text[SENYOLANDA_FILLED SENYOLANDA_LISTING_BYTES], uint32_t *SENYOLANDA_RESTRICT size);
 
 /* A loan in hand. Open it, draw from it, keep it as long as you like; only an opening fills it. */
 struct senyolanda_loan {
