@@ -1,5 +1,5 @@
 #!/bin/sh
-# statement.sh PROGRAM: build/statement as its user meets it: what it writes, what it says on standard error, and its exit status.
+# statement.sh PROGRAM: `senyolanda statement` as its user meets it: what it writes, what it says on standard error, its exit status.
 set -eu
 program=$(readlink -f "${1:?usage: test/statement.sh PROGRAM}")
 cd "$(dirname "$0")/.."
@@ -22,7 +22,7 @@ gives() {
     shift
     last=$*
     status=0
-    "$program" "$@" >"$room/wrote" 2>"$room/said" || status=$?
+    "$program" statement "$@" >"$room/wrote" 2>"$room/said" || status=$?
     [ "$status" = "$want" ] || fails "exit status $status and not $want"
     count=$((count + 1))
 }
@@ -31,11 +31,16 @@ gives() {
 writes() { cmp -s - "$room/wrote" || fails "other output than wanted"; }
 says() { cmp -s - "$room/said" || fails "other words on standard error than wanted"; }
 
-# refused NUMBER PLACE: no row, and one line that gives the refusal
+# says_once PATTERN: one line on standard error, of the pattern
+says_once() {
+    [ "$(wc -l <"$room/said")" = 1 ] || fails "not one line on standard error"
+    grep -q "^senyolanda statement: $1" "$room/said" || fails "standard error does not say $1"
+}
+
+# refused NUMBER: no row, and one line that gives the refusal of the only loan
 refused() {
     writes </dev/null
-    [ "$(wc -l <"$room/said")" = 1 ] || fails "not one line on standard error"
-    grep -q "^statement: refused $1 at $2: [a-z]" "$room/said" || fails "not refused with $1 at $2"
+    says_once "loan 1: refused $1 at 0: [a-z]"
 }
 
 # stated WORDS..: every loan has its statement, and there is nothing on standard error
@@ -44,11 +49,17 @@ stated() {
     says </dev/null
 }
 
+# warned WORDS..: the same with one line, that the rate is above 1
+warned() {
+    gives 0 "$@"
+    says_once "a rate of .* is .* per cent a year; six per cent is 0\.06$"
+}
+
 # ---- document 01's figures
 
 stated 1200 0 3
 writes <<END
-Loan 0: principal 1200.00, rate 0, months 3
+Loan 1: principal 1200.00, rate 0, months 3
 month  payment  principal  interest  balance
     1   400.00     400.00      0.00   800.00
     2   400.00     400.00      0.00   400.00
@@ -58,7 +69,7 @@ END
 
 stated --bits 1200 0 3
 writes <<END
-Loan 0: principal 4092c00000000000, rate 0, months 3
+Loan 1: principal 4092c00000000000, rate 0, months 3
 month           payment         principal          interest           balance
     1  4079000000000000  4079000000000000  0000000000000000  4089000000000000
     2  4079000000000000  4079000000000000  0000000000000000  4079000000000000
@@ -66,22 +77,26 @@ month           payment         principal          interest           balance
 total  4092c00000000000  4092c00000000000  0000000000000000  0000000000000000
 END
 
-stated --csv 1000 6 2
+# a rate of 6 is document 01's, and nobody's at a desk
+gives 0 --csv 1000 6 2
 writes <<END
 loan,month,payment,principal,interest,balance
-0,1,900.00,400.00,500.00,600.00
-0,2,900.00,600.00,300.00,0.00
+1,1,900.00,400.00,500.00,600.00
+1,2,900.00,600.00,300.00,0.00
+END
+says <<END
+senyolanda statement: a rate of 6 is 600 per cent a year; six per cent is 0.06
 END
 
-stated --csv --bits 1000 6 1
+warned --csv --bits 1000 6 1
 writes <<END
 loan,month,payment,principal,interest,balance
-0,1,4097700000000000,408f400000000000,407f400000000000,0000000000000000
+1,1,4097700000000000,408f400000000000,407f400000000000,0000000000000000
 END
 
-stated --payment 100 1000 6 2
+warned --payment 100 1000 6 2
 writes <<END
-Loan 0: principal 1000.00, rate 6, months 2
+Loan 1: principal 1000.00, rate 6, months 2
 month  payment  principal  interest  balance
     1   100.00       0.00    500.00  1000.00
     2  1500.00    1000.00    500.00     0.00
@@ -91,37 +106,65 @@ END
 stated --payment 2000 --csv 1000 0 3
 writes <<END
 loan,month,payment,principal,interest,balance
-0,1,2000.00,1000.00,0.00,0.00
-0,2,2000.00,0.00,0.00,0.00
-0,3,0.00,0.00,0.00,0.00
+1,1,2000.00,1000.00,0.00,0.00
+1,2,2000.00,0.00,0.00,0.00
+1,3,0.00,0.00,0.00,0.00
 END
+
+# the total of comma-separated rows, where it is asked for
+warned --csv --total 1000 6 2
+writes <<END
+loan,month,payment,principal,interest,balance
+1,1,900.00,400.00,500.00,600.00
+1,2,900.00,600.00,300.00,0.00
+1,total,1800.00,1000.00,800.00,0.00
+END
+stated --csv --total --bits 1200 0 1
+writes <<END
+loan,month,payment,principal,interest,balance
+1,1,4092c00000000000,4092c00000000000,0000000000000000,0000000000000000
+1,total,4092c00000000000,4092c00000000000,0000000000000000,0000000000000000
+END
+
+# a table has its total whether or not it is asked for
+stated 1200 0 3
+cp "$room/wrote" "$room/want"
+stated --total 1200 0 3
+writes <"$room/want"
 
 # a rate or a payment nobody filled in: every NaN is written alike
 stated --csv 1000 nan 2
 writes <<END
 loan,month,payment,principal,interest,balance
-0,1,nan,0.00,nan,1000.00
-0,2,nan,1000.00,nan,0.00
+1,1,nan,0.00,nan,1000.00
+1,2,nan,1000.00,nan,0.00
 END
 for nan in nan -nan 'nan(5)'; do
     stated --csv --payment "$nan" 1000 0 2
     writes <<END
 loan,month,payment,principal,interest,balance
-0,1,nan,0.00,0.00,1000.00
-0,2,1000.00,1000.00,0.00,0.00
+1,1,nan,0.00,0.00,1000.00
+1,2,1000.00,1000.00,0.00,0.00
 END
     stated --csv --bits --payment "$nan" 1000 0 2
     writes <<END
 loan,month,payment,principal,interest,balance
-0,1,7ff8000000000000,0000000000000000,0000000000000000,408f400000000000
-0,2,408f400000000000,408f400000000000,0000000000000000,0000000000000000
+1,1,7ff8000000000000,0000000000000000,0000000000000000,408f400000000000
+1,2,408f400000000000,408f400000000000,0000000000000000,0000000000000000
 END
 done
 
-# a title's rate is the shortest decimal that reads back as what was typed
-for rate in 0.06 0.1 1e-300 -0.05 3.0000000000000004 nan inf; do
+# a title's rate is the shortest decimal that reads back as what was typed; above 1 it gets a warning
+titled() {
+    [ "$(head -n 1 "$room/wrote")" = "Loan 1: principal 1000.00, rate $1, months 1" ] || fails "another rate in the title"
+}
+for rate in 0.06 0.1 1e-300 5e-324 -0.05 1 nan -inf; do
     stated 1000 $rate 1
-    [ "$(head -n 1 "$room/wrote")" = "Loan 0: principal 1000.00, rate $rate, months 1" ] || fails "another rate in the title"
+    titled $rate
+done
+for rate in 1.0000000000000002 3.0000000000000004 inf; do
+    warned 1000 $rate 1
+    titled $rate
 done
 
 # ---- cents: each binary64 to the nearest, and a half that it holds exactly to the even cent
@@ -131,7 +174,7 @@ cents() {
     stated --csv "$1" 0 1
     writes <<END
 loan,month,payment,principal,interest,balance
-0,1,$2,$2,0.00,0.00
+1,1,$2,$2,0.00,0.00
 END
 }
 cents 0.125 0.12
@@ -140,16 +183,48 @@ cents 0.005 0.01
 cents 0.015 0.01
 cents 1.005 1.00
 cents 2.675 2.67
+cents 0.995 0.99
+cents 0.9999 1.00
 cents 1234567.885 1234567.89
 cents 1e22 10000000000000000000000.00
 cents 2251799813685249.5 2251799813685249.50
+cents 18446744073709549568 18446744073709549568.00
+cents 18446744073709551616 18446744073709551616.00
 cents 5e-324 0.00
 cents 2.2250738585072009e-308 0.00
 cents -0 0.00
 cents 1.7976931348623157e308 $largest.00
 
-# ---- the table in whatever portions: every line equally wide, totals that add the columns from the top down, the bits of the
-# proved listing
+# ---- separators
+
+warned --separators --payment 1234.5 1000000 12 2
+writes <<END
+Loan 1: principal 1,000,000.00, rate 12, months 2
+month       payment     principal      interest       balance
+    1      1,234.50          0.00  1,000,000.00  1,000,000.00
+    2  2,000,000.00  1,000,000.00  1,000,000.00          0.00
+total  2,001,234.50  1,000,000.00  2,000,000.00          0.00
+END
+separated() {
+    stated --separators "$1" 0 1
+    head -n 1 "$room/wrote" | grep -q "principal $2, rate" || fails "the principal is not written $2"
+}
+separated 0 0.00
+separated 999.994 999.99
+separated 999.996 1,000.00
+separated 12345 12,345.00
+separated 123456 123,456.00
+separated 1234567.885 1,234,567.89
+separated 1e21 1,000,000,000,000,000,000,000.00
+separated 1.7976931348623157e308 "$(echo $largest | perl -pe '1 while s/^(\d+)(\d{3})/$1,$2/').00"
+stated --separators --payment -1234567.25 1000 0 2
+grep -q '^    1  -1,234,567.25 ' "$room/wrote" || fails "a payment below zero is not separated"
+stated --separators --payment -123 1000 0 2
+grep -q '^    1   -123.00 ' "$room/wrote" || fails "a payment of three digits is separated"
+stated --separators --payment nan 1000 0 2
+grep -q '^    1       nan ' "$room/wrote" || fails "a NaN is not written as it is"
+
+# ---- the table: every line equally wide, totals that add the columns from the top down, the bits of the proved listing
 
 # added: reads a table of bits, and sees whether its last line adds up the lines above
 added() {
@@ -166,117 +241,300 @@ added() {
     '
 }
 
-table() {
-    stated "$@"
-    [ "$(wc -l <"$room/wrote")" = $(($3 + 3)) ] || fails "not a line for each month"
-    [ "$(sed 1d "$room/wrote" | awk '{ print length }' | sort -u | wc -l)" = 1 ] || fails "lines of unequal width"
-    stated --bits "$@"
-    added <"$room/wrote" || fails "the totals do not add up the columns"
-    stated --csv --bits "$@"
-    test/record "$@" | build/schedule | sed '1d; $d; s/ /,/g; s/^/0,/' >"$room/listed"
-    sed 1d "$room/wrote" | cmp -s - "$room/listed" || fails "other bits than build/schedule"
+# footed: reads a table, and sees whether it says at its foot that a printed column does not add up to its printed total just where
+# one does not; of amounts above 2^64 nothing is said
+footed() {
+    perl -e '
+        use bigint;
+        my ($title, $names, @rows) = <STDIN>;
+        my $foot = "Totals add the unrounded amounts: they can differ by some cents from the sum of the amounts above.\n";
+        my $said = $rows[-1] eq $foot ? 1 : 0;
+        pop @rows if $said;
+        my @last = split " ", pop @rows;
+        my $differs = 0;
+        for my $column (1 .. 3) {
+            my $sum = 0;
+            $sum += s/\.//r for grep !/nan/, map { (split " ", $_)[$column] } @rows;
+            my $total = $last[$column];
+            $differs = 1 if $total =~ /^-?\d{1,19}\.\d\d$/ && $sum != $total =~ s/\.//r;
+        }
+        exit($said != $differs);
+    '
 }
-table 100 0.05 1
-table 0.01 0.3 5
-table 99999.99 0.0425 6
-table 1e15 0.02 7
-table 1e300 1e5 12
-table 7 -0.5 13
-table 1000 nan 18
-table 250000 0.06 360
-table 5 0.07 1200
+
+# table WAY PRINCIPAL RATE MONTHS: WAY is stated, or warned
+table() {
+    way=$1
+    shift
+    $way "$@"
+    footed <"$room/wrote" || fails "the foot does not say whether the columns add up"
+    grep -v '^Totals' "$room/wrote" >"$room/table"
+    [ "$(wc -l <"$room/table")" = $(($3 + 3)) ] || fails "not a line for each month"
+    [ "$(sed 1d "$room/table" | awk '{ print length }' | sort -u | wc -l)" = 1 ] || fails "lines of unequal width"
+    $way --bits "$@"
+    [ "$(wc -l <"$room/wrote")" = $(($3 + 3)) ] || fails "not a line for each month, and no other"
+    added <"$room/wrote" || fails "the totals do not add up the columns"
+    $way --csv --bits "$@"
+    test/record "$@" | "$program" schedule | sed '1d; $d; s/ /,/g; s/^/1,/' >"$room/listed"
+    sed 1d "$room/wrote" | cmp -s - "$room/listed" || fails "other bits than the listing"
+}
+table stated 100 0.05 1
+table stated 0.01 0.3 5
+table stated 99999.99 0.0425 6
+table stated 1e15 0.02 7
+table stated 1e18 0.02 7
+table warned 1e300 1e5 12
+table stated 7 -0.5 13
+table stated 1000 nan 18
+table stated 250000 0.06 360
+table stated 5 0.07 1200
+
+# a foot, and none
+stated 100 0 3
+writes <<END
+Loan 1: principal 100.00, rate 0, months 3
+month  payment  principal  interest  balance
+    1    33.33      33.33      0.00    66.67
+    2    33.33      33.33      0.00    33.33
+    3    33.33      33.33      0.00     0.00
+total   100.00     100.00      0.00     0.00
+Totals add the unrounded amounts: they can differ by some cents from the sum of the amounts above.
+END
+for principal in 99.99 1e20; do
+    stated $principal 0 3
+    tail -n 1 "$room/wrote" | grep -q '^total ' || fails "a foot that nothing calls for"
+done
 
 # ---- refusals
 
 gives 1 -0.01 0.05 360
-refused 1 0
+refused 1
 gives 1 --csv nan 0.05 0
-refused 1 0
+refused 1
 gives 1 inf 0.05 360
-refused 1 0
+refused 1
 gives 1 1000 0.05 0
-refused 2 0
+refused 2
 gives 1 --bits --payment 5 1000 0.05 1201
-refused 2 0
+refused 2
 gives 1 1000 0.05 4294967295
-refused 2 0
-gives 1 -1 0.05 360
+refused 2
+gives 1 -1 6 360
 says <<END
-statement: refused 1 at 0: the amount is below zero or not finite
+senyolanda statement: loan 1: refused 1 at 0: the amount is below zero or not finite
 END
 
 # ---- records
 
 test/record 1200 0 3 >"$room/a"
 test/record 1000 6 2 >"$room/b"
+test/record 1000 0 2 >"$room/c"
 test/record -1 0 3 >"$room/bad"
 { printf '\002'; tail -c 20 "$room/a"; } >"$room/other"
+
+# repeated COUNT FILE: the file so often, end to end
+repeated() {
+    k=0
+    while [ "$k" -lt "$1" ]; do
+        cat "$2"
+        k=$((k + 1))
+    done
+}
 
 stated --records "$room/a"
 cp "$room/wrote" "$room/want"
 stated 1200 0 3
 writes <"$room/want"
+stated --records="$room/a"
+writes <"$room/want"
 
 cat "$room/a" "$room/b" >"$room/records"
-stated --records "$room/records"
+gives 0 --records "$room/records"
 writes <<END
-Loan 0: principal 1200.00, rate 0, months 3
+Loan 1: principal 1200.00, rate 0, months 3
 month  payment  principal  interest  balance
     1   400.00     400.00      0.00   800.00
     2   400.00     400.00      0.00   400.00
     3   400.00     400.00      0.00     0.00
 total  1200.00    1200.00      0.00     0.00
 
-Loan 1: principal 1000.00, rate 6, months 2
+Loan 2: principal 1000.00, rate 6, months 2
 month  payment  principal  interest  balance
     1   900.00     400.00    500.00   600.00
     2   900.00     600.00    300.00     0.00
 total  1800.00    1000.00    800.00     0.00
 END
+says <<END
+senyolanda statement: 1 loan has a rate above 1, which is 100 per cent a year; six per cent is 0.06
+END
 
-# from standard input: a refused loan takes nothing from those after it
-cat "$room/bad" "$room/a" "$room/other" "$room/b" >"$room/records"
+gives 0 --csv --total --records "$room/records"
+writes <<END
+loan,month,payment,principal,interest,balance
+1,1,400.00,400.00,0.00,800.00
+1,2,400.00,400.00,0.00,400.00
+1,3,400.00,400.00,0.00,0.00
+1,total,1200.00,1200.00,0.00,0.00
+2,1,900.00,400.00,500.00,600.00
+2,2,900.00,600.00,300.00,0.00
+2,total,1800.00,1000.00,800.00,0.00
+END
+
+cat "$room/b" "$room/a" "$room/b" >"$room/records"
+gives 0 --records "$room/records"
+says <<END
+senyolanda statement: 2 loans have a rate above 1, which is 100 per cent a year; six per cent is 0.06
+END
+
+# from standard input: a refused loan takes nothing from those after it, and its rate counts for nothing
+{ cat "$room/bad" "$room/a" "$room/other" "$room/c"; test/record -1 6 3; } >"$room/records"
 gives 1 --csv --records - <"$room/records"
 writes <<END
 loan,month,payment,principal,interest,balance
-1,1,400.00,400.00,0.00,800.00
-1,2,400.00,400.00,0.00,400.00
-1,3,400.00,400.00,0.00,0.00
-3,1,900.00,400.00,500.00,600.00
-3,2,900.00,600.00,300.00,0.00
+2,1,400.00,400.00,0.00,800.00
+2,2,400.00,400.00,0.00,400.00
+2,3,400.00,400.00,0.00,0.00
+4,1,500.00,500.00,0.00,500.00
+4,2,500.00,500.00,0.00,0.00
 END
 says <<END
-statement: refused 1 at 0: the amount is below zero or not finite
-statement: refused 11 at 2: the record is of another kind or length, or has an unknown code
+senyolanda statement: loan 1: refused 1 at 0: the amount is below zero or not finite
+senyolanda statement: loan 3: refused 11 at 2: the record is of another kind or length, or has an unknown code
+senyolanda statement: loan 5: refused 1 at 4: the amount is below zero or not finite
+senyolanda statement: 2 loans good, 3 refused
 END
 
 # where both go to one place, a refusal stands between the loans before and after it
-last="--csv --records - 2>&1"
-"$program" --csv --records - <"$room/records" >"$room/wrote" 2>&1 || :
+last="--csv --records=- 2>&1"
+"$program" statement --csv --records=- <"$room/records" >"$room/wrote" 2>&1 || :
 writes <<END
-statement: refused 1 at 0: the amount is below zero or not finite
+senyolanda statement: loan 1: refused 1 at 0: the amount is below zero or not finite
 loan,month,payment,principal,interest,balance
-1,1,400.00,400.00,0.00,800.00
-1,2,400.00,400.00,0.00,400.00
-1,3,400.00,400.00,0.00,0.00
-statement: refused 11 at 2: the record is of another kind or length, or has an unknown code
-3,1,900.00,400.00,500.00,600.00
-3,2,900.00,600.00,300.00,0.00
+2,1,400.00,400.00,0.00,800.00
+2,2,400.00,400.00,0.00,400.00
+2,3,400.00,400.00,0.00,0.00
+senyolanda statement: loan 3: refused 11 at 2: the record is of another kind or length, or has an unknown code
+4,1,500.00,500.00,0.00,500.00
+4,2,500.00,500.00,0.00,0.00
+senyolanda statement: loan 5: refused 1 at 4: the amount is below zero or not finite
+senyolanda statement: 2 loans good, 3 refused
 END
 
-# a file that ends within a record
+# a file that ends inside a record
 { cat "$room/b"; head -c 20 "$room/a"; } >"$room/records"
 gives 1 --payment 100 --csv --records "$room/records"
 writes <<END
 loan,month,payment,principal,interest,balance
-0,1,100.00,0.00,500.00,1000.00
-0,2,1500.00,1000.00,500.00,0.00
+1,1,100.00,0.00,500.00,1000.00
+1,2,1500.00,1000.00,500.00,0.00
 END
 says <<END
-statement: refused 11 at 1: the record is of another kind or length, or has an unknown code
+senyolanda statement: the file ends inside a record, 20 bytes left over after 1 record: 1 loan good, 0 refused
+senyolanda statement: 1 loan has a rate above 1, which is 100 per cent a year; six per cent is 0.06
 END
-gives 1 --records /dev/null
-refused 11 0
+{ cat "$room/a" "$room/bad" "$room/c"; echo; } >"$room/records"
+gives 1 --csv --records "$room/records"
+[ "$(wc -l <"$room/wrote")" = 6 ] || fails "not the rows of the good loans"
+says <<END
+senyolanda statement: loan 2: refused 1 at 1: the amount is below zero or not finite
+senyolanda statement: the file ends inside a record, 1 byte left over after 3 records: 2 loans good, 1 refused
+END
+head -c 5 "$room/a" >"$room/records"
+gives 1 --records "$room/records"
+writes </dev/null
+says <<END
+senyolanda statement: the file ends inside a record, 5 bytes left over after 0 records: 0 loans good, 0 refused
+END
+
+# an empty file, and an empty standard input
+for file in /dev/null -; do
+    gives 1 --all --records $file </dev/null
+    writes </dev/null
+    says <<END
+senyolanda statement: the file is empty: no loan's record is there
+END
+done
+
+# a file that is none of ours: read no further than its first ten records, were it without end
+strange="senyolanda statement: the file seems not to hold loans' records, which have 21 bytes each, the first of them 1; --all reads on"
+head -c 2100000 /dev/zero >"$room/zeros"
+for file in "$room/zeros" /dev/zero README.md; do
+    gives 1 --csv --records "$file"
+    writes </dev/null
+    [ "$(wc -l <"$room/said")" = 11 ] || fails "not ten refusals and a line about the file"
+    [ "$(grep -c "^senyolanda statement: loan [0-9]*: refused 11 at [0-9]: " "$room/said")" = 10 ] || fails "not ten refusals"
+    [ "$(tail -n 1 "$room/said")" = "$strange" ] || fails "what the file seems not to be is not said"
+done
+repeated 10 "$room/bad" >"$room/records"
+gives 1 --records "$room/records"
+[ "$(tail -n 1 "$room/said")" = "$strange" ] || fails "ten refusals from the start are not enough"
+{ repeated 9 "$room/bad"; cat "$room/a"; } >"$room/records"
+gives 1 --csv --records "$room/records"
+[ "$(wc -l <"$room/wrote")" = 4 ] || fails "no statement after nine refusals"
+[ "$(tail -n 1 "$room/said")" = "senyolanda statement: 1 loan good, 9 refused" ] || fails "not nine refusals"
+
+# all of them, where it is asked for
+{ repeated 30 "$room/bad"; cat "$room/a"; } >"$room/records"
+gives 1 --all --csv --records "$room/records"
+[ "$(wc -l <"$room/wrote")" = 4 ] || fails "no statement after 30 refusals"
+[ "$(wc -l <"$room/said")" = 31 ] || fails "not a line for each refusal"
+[ "$(tail -n 1 "$room/said")" = "senyolanda statement: 1 loan good, 30 refused" ] || fails "not 30 refusals"
+
+# refusals after a good loan: twenty are listed, the others counted
+{ cat "$room/a"; repeated 20 "$room/bad"; cat "$room/a"; } >"$room/records"
+gives 1 --csv --records "$room/records"
+[ "$(wc -l <"$room/said")" = 21 ] || fails "not twenty refusals and a line"
+[ "$(tail -n 1 "$room/said")" = "senyolanda statement: 2 loans good, 20 refused" ] || fails "twenty refusals are not all listed"
+{ cat "$room/a"; repeated 25 "$room/bad"; cat "$room/a"; } >"$room/records"
+gives 1 --csv --records "$room/records"
+[ "$(wc -l <"$room/wrote")" = 7 ] || fails "no statement after 25 refusals"
+[ "$(grep -c "^senyolanda statement: loan [0-9]*: refused 1 at " "$room/said")" = 20 ] || fails "not twenty refusals"
+[ "$(sed -n '21,$p' "$room/said")" = "senyolanda statement: 2 loans good, 25 refused, the last 5 of them not listed above; --all lists them" ] ||
+    fails "the refusals past the limit are not counted"
+gives 1 --csv --all --records "$room/records"
+[ "$(sed -n '25,$p' "$room/said")" = "senyolanda statement: loan 26: refused 1 at 25: the amount is below zero or not finite
+senyolanda statement: 2 loans good, 25 refused" ] || fails "not every refusal is listed"
+
+# ---- options in every form
+
+stated --csv 1200 0 3
+cp "$room/wrote" "$room/want"
+for words in "1200 --csv 0 3" "1200 0 3 --csv" "--csv -- 1200 0 3" "--csv --csv 1200 0 3"; do
+    # shellcheck disable=SC2086
+    stated $words
+    writes <"$room/want"
+done
+stated --csv --payment=400 1200 0 3
+writes <"$room/want"
+stated --payment 5 --payment=400 --csv 1200 0 3
+writes <"$room/want"
+cp "$room/a" "$room/--csv"
+last="--csv --records=--csv, and --records --csv"
+(cd "$room" && "$program" statement --csv --records=--csv >wrote 2>said && "$program" statement --csv --records --csv >>wrote 2>>said) ||
+    fails "a file named --csv is not read"
+cat "$room/want" "$room/want" >"$room/twice"
+writes <"$room/twice"
+for words in "-5 0.05 360" "-.5 0.05 360" "-inf 0.05 360" "-Infinity 0.05 360" "-nan 0.05 360" "-- -5 0.05 360"; do
+    # shellcheck disable=SC2086
+    gives 1 $words
+    refused 1
+done
+stated --payment -5 --csv 1000 -0.05 2
+cp "$room/wrote" "$room/want"
+stated --payment=-5 --csv 1000 -0.05 2
+writes <"$room/want"
+
+stated --help
+cp "$room/wrote" "$room/want"
+grep -q "Exit status: 0" "$room/wrote" || fails "no help"
+for words in -h "1000 -h" "--csv --help 5"; do
+    # shellcheck disable=SC2086
+    stated $words
+    writes <"$room/want"
+done
+for option in --records --payment --csv --total --separators --bits --all --help; do
+    grep -q -e "^  .*$option " "$room/want" || fails "the help does not have $option"
+done
 
 # ---- bad usage, and failures to read and write: status 2, one line, no row
 
@@ -286,44 +544,106 @@ wrong() {
     shift
     gives 2 "$@"
     writes </dev/null
-    [ "$(wc -l <"$room/said")" = 1 ] || fails "not one line on standard error"
-    grep -q "^statement: .*$word" "$room/said" || fails "standard error does not name $word"
+    says_once ".*$word"
 }
-wrong "principal '12x'" 12x 0.05 360
+wrong "principal '12x' is no decimal number" 12x 0.05 360
 wrong "principal ''" "" 0.05 360
 wrong "principal ' 5'" " 5" 0.05 360
 wrong "principal '1,000'" 1,000 0.05 360
-wrong "principal '1e999'" 1e999 0.05 360
+wrong "principal '1e999' is too large" 1e999 0.05 360
 wrong "rate '5%'" 1000 5% 360
 wrong "rate '0.05 '" 1000 "0.05 " 360
-wrong "payment '-1e999'" --payment -1e999 1000 0.05 360
+wrong "payment '-1e999' is too large" --payment -1e999 1000 0.05 360
+for small in 1e-400 -1e-400 2e-324; do
+    wrong "rate '$small' is too small for a binary64" 1000 $small 360
+    wrong "principal '$small' is too small for a binary64" $small 0.05 360
+    wrong "payment '$small' is too small for a binary64" --payment $small 1000 0.05 360
+done
+for hexadecimal in 0x10 0X10 -0x10 +0x1p3 0x1p-2000 0x0; do
+    wrong "principal '$hexadecimal' is no decimal number" $hexadecimal 0.05 360
+    wrong "rate '$hexadecimal' is no decimal number" 1000 $hexadecimal 360
+    wrong "payment '$hexadecimal' is no decimal number" --payment=$hexadecimal 1000 0.05 360
+done
 for months in 3.5 -1 +3 "" " 3" "3 " 0x3 1e2 4294967296 18446744073709551619 nan; do
     wrong "months '$months'" 1000 0.05 "$months"
 done
 wrong principal
 wrong principal 1000 0.05
 wrong "'4'" 1000 0.05 360 4
-wrong --months --months 5 1000 0.05 360
-wrong --payment 1000 0.05 360 --payment
-wrong --records --records
+wrong "'--csv'" -- 1000 0.05 360 --csv
+wrong "no option --months;" --months 5 1000 0.05 360
+wrong "no option --record;" --record "$room/a"
+wrong "no option --records2=5;" --records2=5
+wrong "no option -x;" -x 1000 0.05 360
+wrong "no option -c;" 1000 0.05 360 -c
+wrong "--csv takes no value, and '5' was given" --csv=5 1000 0.05 360
+wrong "--payment wants an amount" 1000 0.05 360 --payment
+wrong "payment ''" --payment= 1000 0.05 360
+wrong "payment '--csv'" --payment --csv 1000 0.05 360
+wrong "--records wants a file's name" --records
 wrong --records --records "$room/a" 1000 0.05 360
+wrong "--separators does not go with --csv" --separators --csv 1000 0.05 360
+wrong "--separators does not go with --bits" --separators --bits 1000 0.05 360
 wrong "$room: Is a directory" --records "$room"
 wrong "$room/none: No such file" --records "$room/none"
+wrong "cannot open : No such file" --records=
 
 last="closed standard input"
 status=0
-"$program" --records - <&- >"$room/wrote" 2>"$room/said" || status=$?
+"$program" statement --records - <&- >"$room/wrote" 2>"$room/said" || status=$?
 [ "$status" = 2 ] || fails "exit status $status and not 2"
+says_once "cannot read standard input: "
 
-for words in "1200 0 3" "1200 0 1200" "--csv 1200 0 1200" "--help"; do
+# unwritten WHY: the last run says why its output could not be written
+unwritten() {
+    [ "$status" = 2 ] || fails "exit status $status and not 2"
+    says_once "cannot write to standard output: $1\$"
+    count=$((count + 1))
+}
+repeated 2000 "$room/a" >"$room/many"
+for words in "1200 0 3" "1200 0 1200" "--csv 1200 0 1200" "--csv 1200 0 3" "--help" "--records $room/many" "--csv --records $room/many"; do
     last="$words, on a full device"
     status=0
     # shellcheck disable=SC2086
-    "$program" $words >/dev/full 2>"$room/said" || status=$?
-    [ "$status" = 2 ] || fails "exit status $status and not 2"
-    grep -q "^statement: cannot write to standard output: No space left on device$" "$room/said" || fails "the device is not said to be full"
+    "$program" statement $words >/dev/full 2>"$room/said" || status=$?
+    unwritten "No space left on device"
+    last="$words, with standard output closed"
+    status=0
+    # shellcheck disable=SC2086
+    "$program" statement $words >&- 2>"$room/said" || status=$?
+    unwritten "Bad file descriptor"
 done
 
-stated --help
-grep -q "Exit status: 0" "$room/wrote" || fails "no help"
+# a disk that is full in the middle: the rows that were written are the first ones
+last="--csv --records $room/many, in a file that may not grow"
+"$program" statement --csv --records "$room/many" >"$room/want"
+status=0
+(
+    trap '' XFSZ
+    ulimit -f 200
+    exec "$program" statement --csv --records "$room/many" >"$room/wrote" 2>"$room/said"
+) || status=$?
+unwritten "File too large"
+size=$(wc -c <"$room/wrote")
+[ "$size" -gt 0 ] && [ "$size" -lt "$(wc -c <"$room/want")" ] || fails "nothing, or everything, was written"
+head -c "$size" "$room/want" | cmp -s - "$room/wrote" || fails "other bytes were written than the first ones"
+
+# a full disk ends the work: of loans without end no more is read
+last="--csv --records - of loans without end, on a full device"
+perl -e 'my $loan = <STDIN>; print $loan x 1000 while 1' <"$room/a" 2>/dev/null |
+    { "$program" statement --csv --records - >/dev/full 2>"$room/said" || echo "$?" >"$room/status"; }
+status=$(cat "$room/status")
+unwritten "No space left on device"
+
+# a reader that goes away ends it too
+last="--csv --records $room/many | head -n 1"
+{
+    status=0
+    "$program" statement --csv --records "$room/many" 2>"$room/said" || status=$?
+    echo "$status" >"$room/status"
+} | head -n 1 >"$room/wrote"
+writes <<END
+loan,month,payment,principal,interest,balance
+END
+[ "$(cat "$room/status")" -gt 1 ] || fails "it writes on where nobody reads"
 echo "statement: $count runs as they should be"
