@@ -1,6 +1,6 @@
 #!/usr/bin/env python3
-"""header.py LIBRARY: include/senyolanda.h, the crate's exported functions and the library's symbols are one list, and what the header
-says beside them holds.
+"""header.py LIBRARY: include/senyolanda.h, the crate's exported functions and the library's symbols are one list. The header asks for a
+warning of a dropped result exactly where the sentence before a function names refusals, and its version is the one that make reads.
 
 A function has the same name, the same answer and the same parameters in the header as in the crate: their order, their names,
 their types and their lengths.
@@ -11,9 +11,6 @@ their types and their lengths.
     &mut f64           double *restrict           one number to write
     &[f64; 4]          const double [static 4]
     &mut [u8; 21]      uint8_t [restrict static 21]
-
-The compiler is asked to warn of a dropped result exactly where the sentence before a function names refusals, the header's own
-functions over structs among them. The version as a string is that of the three numbers, and the one that the Makefile reads.
 
 It also has to find fault with altered copies of the header.
 """
