@@ -188,7 +188,7 @@ static inline const char *senyolanda_refusal_text(uint32_t number) {
 /* e to the x: infinity above 709, 0 below -708. */
 senyolanda_result senyolanda_exp(double x, double *SENYOLANDA_RESTRICT answer);
 
-/* Each number of the list becomes its exp: the same bits, in less time than one by one. */
+/* Each number of the list becomes its exp: the same bits, faster than one by one. */
 senyolanda_result senyolanda_exp_each(double *SENYOLANDA_RESTRICT numbers, size_t count);
 
 /* The natural logarithm of x: NaN below zero, -infinity at zero. */
@@ -299,12 +299,12 @@ senyolanda_result senyolanda_next_row(
     uint32_t *SENYOLANDA_RESTRICT written, uint32_t *SENYOLANDA_RESTRICT owed) SENYOLANDA_CHECKED;
 
 /* Draws a book: loans as their records end to end, at most 256, each opened with its worked-out payment and drawn whole, the rows
-   of one behind those of the other in one room. The rows are those of the loans drawn one by one; it takes less time, as two
-   loans are worked on at once. A loan's answer is 0, or the number that it alone would be refused with: it has no rows then, and
-   the others go on. finished counts the loans that are done, refused ones too; where the room ended inside the next one, cut is
-   how many of its rows were written, else 0; waiting counts the loans behind, which have no rows and whose answers stay. To go
-   on, hand over the records from finished on: a loan that was cut starts again at its first row. Fewer answers than loans, or no
-   room for the first row, is 3; bytes that do not divide into records, or too many, are 11. Refuses 3, 11. */
+   of one behind those of the other in one room. The rows are those of the loans drawn one by one; it is faster, since two loans
+   are worked on at once. A loan's answer is 0, or the number that it alone would be refused with: it has no rows then, and the
+   others go on. finished counts the loans that are done, refused ones too; where the room ended inside the next one, cut is how
+   many of its rows were written, else 0; waiting counts the loans behind, which have no rows and whose answers stay. To go on,
+   hand over the records from index finished on: a loan that was cut starts again at its first row. Fewer answers than loans, or
+   no room for the first row, is 3; bytes that do not divide into records, or too many, are 11. Refuses 3, 11. */
 senyolanda_result senyolanda_draw_book(
     const uint8_t *records, size_t length, uint32_t *SENYOLANDA_RESTRICT answers, size_t answers_count,
     double *SENYOLANDA_RESTRICT room, size_t places, uint32_t *SENYOLANDA_RESTRICT finished,
@@ -396,8 +396,8 @@ static inline struct senyolanda_row senyolanda_row_at(const double *room, size_t
    A bad loan's place is its index; a length that does not divide into records is 11 at 0, and so is an unknown speed, beside a
    record of another kind too. ---- */
 
-/* The part of a balance that is prepaid in a month, a decimal; months count from 1. Month 0 reads a history's first number, and
-   past a history's end it is 0; a CPR above 1 gives NaN. Refuses 11. */
+/* The part of a balance that is prepaid in a month, a decimal; months count from 1. Of a history, month 0 reads the first number
+   and months past its end are 0; of PSA, month 0 is 0. A CPR above 1 gives NaN. Refuses 11. */
 senyolanda_result senyolanda_monthly_smm(
     uint32_t speed, double number, const double *history, size_t history_count,
     uint32_t month, double *SENYOLANDA_RESTRICT smm) SENYOLANDA_CHECKED;
@@ -416,28 +416,28 @@ senyolanda_result senyolanda_pool_price(
     const uint8_t *records, size_t length, uint32_t speed, double number, const double *history, size_t history_count,
     double rate, double *SENYOLANDA_RESTRICT price) SENYOLANDA_CHECKED;
 
-/* How fast the price falls as the rate rises, as a part of the price for a rise of 1, which is years: the price a basis point
-   below less the price a basis point above, over 0.0002 times the price. The months stay the same; 0 for a price of 0.
-   Refuses 1, 2, 7, 11. */
+/* How fast the price falls as the rate rises, over the price, in years: 5 means that a basis point takes about 0.0005 of the
+   price. It is (below - above) / (0.0002 * price), by the prices a basis point below and above, over the same months; 0 for a
+   price of 0. Refuses 1, 2, 7, 11. */
 senyolanda_result senyolanda_pool_duration(
     const uint8_t *records, size_t length, uint32_t speed, double number, const double *history, size_t history_count,
     double rate, double *SENYOLANDA_RESTRICT duration) SENYOLANDA_CHECKED;
 
-/* The second derivative of the price over the price, in years squared: the prices a basis point below and above, less twice the
-   price, over 0.0001 squared times the price; 0 for a price of 0. Refuses 1, 2, 7, 11. */
+/* The second derivative of the price by the rate, over the price, in years squared: by the same prices,
+   (below + above - 2 * price) / (0.0001 * 0.0001 * price); 0 for a price of 0. Refuses 1, 2, 7, 11. */
 senyolanda_result senyolanda_pool_convexity(
     const uint8_t *records, size_t length, uint32_t speed, double number, const double *history, size_t history_count,
     double rate, double *SENYOLANDA_RESTRICT convexity) SENYOLANDA_CHECKED;
 
-/* Three numbers: the sum of the principals, and the mean rate, a decimal a year, and mean term, in months, each weighed by the
-   principals and 0 for a sum of 0. Refuses 1, 2, 7, 11. */
+/* Three numbers: the sum of the principals; the mean rate, a decimal a year; the mean term, in months. The means weigh each loan
+   by its principal and are 0 where the sum is 0. Refuses 1, 2, 7, 11. */
 senyolanda_result senyolanda_pool_totals(
     const uint8_t *records, size_t length, double totals[SENYOLANDA_FILLED 3]) SENYOLANDA_CHECKED;
 
 /* ---- bonds: the bond comes as its record. It has as many whole periods as its maturity is nearest to, halves up, pays a coupon
    at the end of each and its face with the last. A price is that of a coupon's day, so that no interest has accrued and it is
-   clean and full at once. A bond of less than half a period, or of a maturity of 0 or below, has none: its price is its face at
-   every yield, its durations and its convexity are 0. ---- */
+   clean and full at once. A bond of less than half a period, or of a maturity of 0 or below, has no period: its price is its face
+   at every yield. Durations and convexity are 0 without a period, and for a price below 2^-52 in size. ---- */
 
 /* The price at a yield; at a yield of 0 all that the bond pays. Refuses 1, 7, 9, 11. */
 senyolanda_result senyolanda_bond_price(
@@ -447,22 +447,21 @@ senyolanda_result senyolanda_bond_price(
 senyolanda_result senyolanda_bond_dv01(
     const uint8_t *record, size_t length, double ytm, double *SENYOLANDA_RESTRICT dv01) SENYOLANDA_CHECKED;
 
-/* A year's coupons over the market price, a decimal; 0 for a price below 2.3e-16 in size. Refuses 1, 7, 9, 11. */
+/* A year's coupons over the market price, a decimal; 0 for a price below 2^-52 in size. Refuses 1, 7, 9, 11. */
 senyolanda_result senyolanda_bond_current_yield(
     const uint8_t *record, size_t length, double market, double *SENYOLANDA_RESTRICT current) SENYOLANDA_CHECKED;
 
-/* The yield at which the bond has the market price, searched to about 1e-8 from 0.001 to 0.999 or else from 0.000001 to 50; a bond
-   without a period, which has its face at every yield, gives 0.999 for it. Refuses 1, 7, 9, 11, 12. */
+/* The yield at which the bond has the market price, to about 1e-8; it is searched from 0.001 to 0.999, or else from 0.000001 to
+   50. Where every yield has it, as at the face of a bond without a period, it is 0.999. Refuses 1, 7, 9, 11, 12. */
 senyolanda_result senyolanda_bond_yield_to_maturity(
     const uint8_t *record, size_t length, double market, double *SENYOLANDA_RESTRICT ytm) SENYOLANDA_CHECKED;
 
-/* The mean time of the bond's payments, weighed by their present values, in years; 0 for a price below 2.3e-16 in size, as are the
-   two after it. Refuses 1, 7, 9, 11. */
+/* The mean time of the bond's payments, weighed by their present values, in years. Refuses 1, 7, 9, 11. */
 senyolanda_result senyolanda_bond_macaulay_duration(
     const uint8_t *record, size_t length, double ytm, double *SENYOLANDA_RESTRICT duration) SENYOLANDA_CHECKED;
 
-/* How fast the price falls as the yield rises, as a part of the price for a rise of 1, which is years: Macaulay's duration over
-   1 plus a period's yield. Refuses 1, 7, 9, 11. */
+/* How fast the price falls as the yield rises, over the price, in years: 5 means that a basis point takes about 0.0005 of the
+   price. It is Macaulay's duration over 1 plus the yield of a period. Refuses 1, 7, 9, 11. */
 senyolanda_result senyolanda_bond_modified_duration(
     const uint8_t *record, size_t length, double ytm, double *SENYOLANDA_RESTRICT duration) SENYOLANDA_CHECKED;
 
@@ -470,8 +469,9 @@ senyolanda_result senyolanda_bond_modified_duration(
 senyolanda_result senyolanda_bond_convexity(
     const uint8_t *record, size_t length, double ytm, double *SENYOLANDA_RESTRICT convexity) SENYOLANDA_CHECKED;
 
-/* What part of its price the bond gains, or below 0 loses, when the yield rises by delta, a decimal: half the convexity times
-   delta squared, less the modified duration times delta. -0.05 is a price five per cent lower. Refuses 1, 7, 9, 11. */
+/* What part of its price, and no amount, the bond gains, or below 0 loses, when the yield rises by delta, a decimal: -0.05 is a
+   price five per cent lower. It is -duration * delta + 0.5 * convexity * delta * delta, by the modified duration.
+   Refuses 1, 7, 9, 11. */
 senyolanda_result senyolanda_bond_price_change(
     const uint8_t *record, size_t length, double ytm, double delta, double *SENYOLANDA_RESTRICT change) SENYOLANDA_CHECKED;
 
@@ -513,7 +513,7 @@ senyolanda_result senyolanda_yield_curve_discount_factor(
     const double *times, size_t times_count, const double *rates, size_t rates_count,
     double t, double *SENYOLANDA_RESTRICT factor) SENYOLANDA_CHECKED;
 
-/* Each time of the list becomes its factor, in less time than one by one; a bad time's place is its index. Refuses 4, 5, 6, 7. */
+/* Each time of the list becomes its factor, faster than one by one; a bad time's place is its index. Refuses 4, 5, 6, 7. */
 senyolanda_result senyolanda_yield_curve_discount_factor_each(
     const double *times, size_t times_count, const double *rates, size_t rates_count,
     double *SENYOLANDA_RESTRICT asked, size_t asked_count) SENYOLANDA_CHECKED;
@@ -532,17 +532,17 @@ senyolanda_result senyolanda_par_yield(
     double t, double *SENYOLANDA_RESTRICT par) SENYOLANDA_CHECKED;
 
 /* The Nelson-Siegel model nearest to the points by least squares, as four numbers: beta0, beta1, beta2, and decay, always 0.5
-   years. One point gives a flat model; where the points do not tell three betas, as two points or only
-   long times do not, the betas are 0. Refuses 4, 5, 6. */
+   years. One point gives a flat model; where the points do not tell three betas, as two points or long times
+   alone do not, the betas are 0. Refuses 4, 5, 6. */
 senyolanda_result senyolanda_nelson_siegel_fit(
     const double *times, size_t times_count, const double *rates, size_t rates_count,
     double model[SENYOLANDA_FILLED 4]) SENYOLANDA_CHECKED;
 
-/* The model's yield at t; beta0 + beta1 at 0 and before. Refuses 7. */
+/* The model's yield at t; for a t below 1e-10, beta0 + beta1. Refuses 7. */
 senyolanda_result senyolanda_nelson_siegel_yield(
     const double model[SENYOLANDA_READ 4], double t, double *SENYOLANDA_RESTRICT rate) SENYOLANDA_CHECKED;
 
-/* The model's forward rate of the moment t; beta0 + beta1 at 0 and before. Refuses 7. */
+/* The model's forward rate at t, for a moment from then on; for a t below 1e-10, beta0 + beta1. Refuses 7. */
 senyolanda_result senyolanda_nelson_siegel_forward_rate(
     const double model[SENYOLANDA_READ 4], double t, double *SENYOLANDA_RESTRICT rate) SENYOLANDA_CHECKED;
 
@@ -555,16 +555,16 @@ senyolanda_result senyolanda_nelson_siegel_metrics(
     const double model[SENYOLANDA_READ 4], double metrics[SENYOLANDA_FILLED 3]);
 
 /* ---- swaps: the swap comes as its record, its discount curve as tenors and zero rates, flat outside; receive_fixed is 0 for the
-   side that pays the fixed rate, and anything else for the other. A swap pays at the end of each of its periods, as many as its
-   tenor is nearest to, halves up; each is as many days as 365 over the frequency is nearest to, by the day count. ---- */
+   side that pays the fixed rate, anything else for the other. A swap has as many periods of 1 / frequency years as its tenor is
+   nearest to, halves up. It pays at the end of each, for the whole days nearest to 365 / frequency, by its day count. ---- */
 
 /* What part of a year so many days are, a decimal; day_count is an enum senyolanda_day_count. Refuses 11. */
 senyolanda_result senyolanda_day_count_fraction(
     uint32_t day_count, uint32_t days, double *SENYOLANDA_RESTRICT fraction) SENYOLANDA_CHECKED;
 
 /* The zero rates at which par swaps of these rates, which pay once a year and at the tenor, are worth nothing, one for each tenor;
-   places past the last tenor stay. Where no rate from -1 to 5 serves it is ln(1 + par rate), which a par rate of -1 or below makes
-   infinite or NaN. Refuses 4, 5, 6. */
+   places past the last tenor stay. Where no rate from -1 to 5 serves, it is ln(1 + par rate): infinite or NaN for a par rate of -1
+   or below. Refuses 4, 5, 6. */
 senyolanda_result senyolanda_bootstrap(
     const double *tenors, size_t tenors_count, const double *par_rates, size_t par_rates_count,
     double zero_rates[SENYOLANDA_FILLED SENYOLANDA_MOST_KNOTS]) SENYOLANDA_CHECKED;
@@ -585,7 +585,7 @@ senyolanda_result senyolanda_discount_curve_factor(
     const double *tenors, size_t tenors_count, const double *zeros, size_t zeros_count,
     double t, double *SENYOLANDA_RESTRICT factor) SENYOLANDA_CHECKED;
 
-/* Each time of the list becomes its factor, in less time than one by one; a bad time's place is its index. Refuses 4, 5, 6, 7. */
+/* Each time of the list becomes its factor, faster than one by one; a bad time's place is its index. Refuses 4, 5, 6, 7. */
 senyolanda_result senyolanda_discount_curve_factor_each(
     const double *tenors, size_t tenors_count, const double *zeros, size_t zeros_count,
     double *SENYOLANDA_RESTRICT asked, size_t asked_count) SENYOLANDA_CHECKED;
@@ -609,7 +609,7 @@ senyolanda_result senyolanda_swap_npv(
     const double *tenors, size_t tenors_count, const double *zeros, size_t zeros_count,
     uint32_t receive_fixed, double *SENYOLANDA_RESTRICT npv) SENYOLANDA_CHECKED;
 
-/* The fixed rate at which the swap is worth nothing, if its tenor is whole periods; infinite or NaN for a swap of none.
+/* The fixed rate at which the swap is worth nothing, if its tenor is whole periods; infinite or NaN for a swap without a period.
    Refuses 1, 4, 5, 6, 7, 8, 9, 11. */
 senyolanda_result senyolanda_par_swap_rate(
     const uint8_t *record, size_t length,
@@ -665,7 +665,7 @@ senyolanda_result senyolanda_zero_curve_discount_factor(
     const double *tenors, size_t tenors_count, const double *rates, size_t rates_count,
     double t, double *SENYOLANDA_RESTRICT factor) SENYOLANDA_CHECKED;
 
-/* Each time of the list becomes its factor, in less time than one by one; a bad time's place is its index. Refuses 4, 5, 6, 7. */
+/* Each time of the list becomes its factor, faster than one by one; a bad time's place is its index. Refuses 4, 5, 6, 7. */
 senyolanda_result senyolanda_zero_curve_discount_factor_each(
     const double *tenors, size_t tenors_count, const double *rates, size_t rates_count,
     double *SENYOLANDA_RESTRICT asked, size_t asked_count) SENYOLANDA_CHECKED;
@@ -677,15 +677,16 @@ senyolanda_result senyolanda_zero_curve_forward_rate(
     double t1, double t2, double *SENYOLANDA_RESTRICT rate) SENYOLANDA_CHECKED;
 
 /* A bond's cash flows into two lists, times in years and amounts in money, a place in both for each flow; places behind them stay.
-   flows says how many there are: as many as the tenor is nearest to, halves up, none for a tenor of 0 or below, and the face comes
-   with the last. frequency is the number of payments a year and no code, 0 is read as 1. Refuses 1, 3, 7, 9. */
+   flows says how many there are: as many as tenor * frequency is nearest to, halves up. The face comes with the last; where there
+   is no flow, as for a tenor of 0 or below, there is no face either. frequency is the number of payments a year and no code, 0 is
+   read as 1. Refuses 1, 3, 7, 9. */
 senyolanda_result senyolanda_bond_cash_flows(
     double face, double coupon, double tenor, uint32_t frequency,
     double *SENYOLANDA_RESTRICT times, size_t times_count, double *SENYOLANDA_RESTRICT amounts, size_t amounts_count,
     uint32_t *SENYOLANDA_RESTRICT flows) SENYOLANDA_CHECKED;
 
-/* The present value of cash flows over the curve raised by so many points: the sum of amount * exp(-(rate + points / 10000) *
-   time), 0 for no flows. Refuses 4, 5, 6, 7, 9. */
+/* The present value of cash flows over the curve raised by so many points: the sum of
+   amount * exp(-(rate + points / 10000) * time), 0 for no flows. Refuses 4, 5, 6, 7, 9. */
 senyolanda_result senyolanda_pv_cash_flows(
     const double *times, size_t times_count, const double *amounts, size_t amounts_count,
     const double *tenors, size_t tenors_count, const double *rates, size_t rates_count,
@@ -700,8 +701,8 @@ senyolanda_result senyolanda_z_spread(
     double market, double *SENYOLANDA_RESTRICT points, uint32_t *SENYOLANDA_RESTRICT found) SENYOLANDA_CHECKED;
 
 /* Two numbers of cash flows over the curve raised by so many points: duration, the mean time weighed by present values, in years,
-   and convexity, the mean of the times squared, in years squared; both 0 for a worth below 1e-12 in size. Refuses 4, 5, 6, 7, 9.
-   */
+   and convexity, the mean of the times squared, in years squared; both 0 for a worth below 1e-12 in size.
+   Refuses 4, 5, 6, 7, 9. */
 senyolanda_result senyolanda_duration_convexity(
     const double *times, size_t times_count, const double *amounts, size_t amounts_count,
     const double *tenors, size_t tenors_count, const double *rates, size_t rates_count,
@@ -730,8 +731,7 @@ struct senyolanda_cash_flow {
     double time, amount;
 };
 
-/* The three functions over dated amounts, for lists of cash flows; 4 is for the curve's lists alone. Each refuses 4, 5, 6, 7, 9.
-   */
+/* The three functions over dated amounts, for lists of cash flows; 4 is for the curve's lists. Each refuses 4, 5, 6, 7, 9. */
 static inline SENYOLANDA_CHECKED senyolanda_result senyolanda_flows_pv(
     const struct senyolanda_cash_flow *flows, size_t flows_count,
     const double *tenors, size_t tenors_count, const double *rates, size_t rates_count,
