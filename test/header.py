@@ -110,7 +110,7 @@ def functions_of_header(text):
     text = preprocessed(text)
     types = {new: old for old, new in re.findall(r"typedef (\w+) (senyolanda_\w+);", text)}
     return {name: (types[answer], with_lists([parameter_of_header(one.strip()) for one in parameters.split(",")]))
-            for answer, name, parameters in re.findall(rf"(senyolanda_\w+) (senyolanda_\w+)\(([^()]*)\)(?: {WARNS})?;", text)}
+            for answer, name, parameters in re.findall(rf"(senyolanda_\w+) (senyolanda_\w+)\(([^()]*)\)(?: {WARNS})? ?;", text)}
 
 
 def refusals_in(text):
