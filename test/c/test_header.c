@@ -164,6 +164,18 @@ static void book(void) {
     CHECK(memcmp(rest, room + 2 * SENYOLANDA_ROW_PLACES, sizeof *rest * SENYOLANDA_ROW_PLACES) == 0);
 }
 
+/* The worked-out payment at a rate of 0, at one that 1 does not feel, and at one whose power overflows. */
+static void worked_out(void) {
+    static const double rates[] = { 0, 1e-15, 12 }, wanted[] = { 1, INFINITY, NAN };
+    uint8_t loan[SENYOLANDA_LOAN_BYTES];
+    for (size_t i = 0; i < 3; i++) {
+        double payment = 0;
+        senyolanda_write_loan(1200, rates[i], SENYOLANDA_MOST_MONTHS, loan);
+        CHECK(senyolanda_monthly_payment(loan, sizeof loan, &payment) == 0);
+        IS(payment, wanted[i]);
+    }
+}
+
 static void savings(void) {
     struct record record = loan_record();
     uint32_t months = 9;
@@ -280,6 +292,7 @@ int main(int arguments, char **words) {
     flows();
     payments();
     book();
+    worked_out();
     savings();
     bond_units();
     pool_months();
