@@ -33,15 +33,14 @@ static uint32_t answers[BOOK];
 
 #define OF(array) (array), sizeof(array) / sizeof *(array)
 
-static void set_out(void) {
+/* Whether every record could be written. */
+static int set_out(void) {
     senyolanda_write_loan(250000.0, 0.06, MONTHS, loan);
     senyolanda_write_loan(250000.0, 0.05, MONTHS, new_loan);
     for (int i = 0; i < LOANS; i++) memcpy(pool + i * SENYOLANDA_LOAN_BYTES, loan, sizeof loan);
     for (int i = 0; i < BOOK; i++) memcpy(book + i * SENYOLANDA_LOAN_BYTES, loan, sizeof loan);
     for (int i = 0; i < MONTHS; i++) asked[i] = i / 12.0;
-    senyolanda_write_bond(1000.0, 0.05, 100.0, SENYOLANDA_MONTHLY, bond);
     senyolanda_write_row(1, 1500.0, 250.0, 1250.0, 249750.0, row);
-    senyolanda_write_swap(1e6, 0.04, 100.0, 12, SENYOLANDA_ACTUAL_360, swap);
     for (int i = 0; i < KNOTS; i++) {
         times[i] = 0.75 * (i + 1);
         rates[i] = 0.03 + 0.0001 * i;
@@ -51,6 +50,8 @@ static void set_out(void) {
         dated[2 * i + 1] = amounts[i] = 10.0;
     }
     for (int i = 0; i < MONTHS; i++) history[i] = 0.005;
+    return senyolanda_write_bond(1000.0, 0.05, 100.0, SENYOLANDA_MONTHLY, bond) == 0
+        && senyolanda_write_swap(1e6, 0.04, 100.0, 12, SENYOLANDA_ACTUAL_360, swap) == 0;
 }
 
 /* ---- every function, with its arguments ---- */
@@ -187,7 +188,10 @@ static size_t touched(call *function) {
 }
 
 int main(void) {
-    set_out();
+    if (!set_out()) {
+        fputs("stack: a record is refused\n", stderr);
+        return 1;
+    }
     size_t nothing = touched(call_nothing);
     for (size_t i = 0; i < sizeof calls / sizeof *calls; i++) {
         size_t bytes = touched(calls[i].called) - nothing;

@@ -2,12 +2,13 @@
  * Senyolanda: loans, bonds, curves, swaps and spreads in binary64, every answer proved to the bit. For C99 and C++11, and for
  * every language that can call C.
  *
- * RESULTS. Every function returns a senyolanda_result. 0 means accepted: the answer stands in the memory that you lent. Anything
- * else is a refusal, and all lent memory is as it was before the call. A refusal has a number (enum senyolanda_refusal says which
- * there are) and a place: in a list the index, from 0, of the first bad item, else 0. Read them by senyolanda_number(result) and
- * senyolanda_place(result); senyolanda_refusal_text(number) has the words. Where several causes are there the lowest number is
- * given. The sentence at each function ends with the refusals that it knows; a number that no refusal names, such as a loan's
- * rate, is taken as it stands, NaN and infinity too.
+ * RESULTS. Every function of the library returns a senyolanda_result. 0 means accepted: the answer stands in the memory that you
+ * lent. Anything else is a refusal, and all lent memory is as it was before the call. A refusal has a number (enum
+ * senyolanda_refusal says which there are) and a place: in a list the index, from 0, of the first bad item, else 0. Read them by
+ * senyolanda_number(result) and senyolanda_place(result); senyolanda_refusal_text(number) has the words. Where several causes are
+ * there the lowest number is given. The sentence at each function ends with the refusals that it knows; a number that no refusal
+ * names, such as a loan's rate, is taken as it stands, NaN and infinity too. A function that knows a refusal is marked
+ * SENYOLANDA_CHECKED: GCC and clang warn of a call whose result nobody looks at.
  *
  * LISTS. A list is a pointer and a count, the count in numbers, or in bytes for records. An empty list may be null with count 0.
  * Every other pointer points to one number or to an array of the length that is written in its brackets, and may not be null.
@@ -15,11 +16,14 @@
  * OVERLAP. Memory that a function writes is marked SENYOLANDA_RESTRICT, or SENYOLANDA_FILLED in brackets: it may overlap nothing
  * else that is handed over in that call. Lists that are only read may be the same list.
  *
- * RECORDS. Loans, bonds, rows and swaps cross as bytes: one byte of kind, then a fixed body, little-endian, so that what one machine
- * wrote every other reads. A record of another kind or length is refused with 11 before anything else is looked at.
+ * RECORDS. Loans, bonds, rows and swaps cross as bytes: one byte of kind, then a fixed body, little-endian, so that what one
+ * machine wrote every other reads. The body is what the kind's senyolanda_write_.. takes, in that order: 8 bytes for a double, 4
+ * for a count, 1 for a code. A record of another kind or length is refused with 11 before anything else is looked at.
  *
  * UNITS. Rates, yields and coupons are decimals a year (0.06 is six per cent), spreads are basis points, times are years and a
- * loan's term is months.
+ * loan's term is months. Amounts are in your own money, and a price is for the whole face, not for 100 of it; nothing is rounded
+ * to cents. A loan's rate is compounded monthly, a bond's yield as often as the bond pays, and the rates of curves continuously: 1
+ * at time t is worth exp(-rate * t) today.
  *
  * SCHEDULES. A loan is opened once and drawn in portions, through as little room as one row. Written plus owed is always what
  * was owed before; draw until nothing is. The loan is yours to keep between draws, in a struct or in an archive:
@@ -47,6 +51,27 @@
 
 #include <stddef.h>
 #include <stdint.h>
+
+/* The version of the header and of the library beside it. */
+#define SENYOLANDA_VERSION_MAJOR 0
+#define SENYOLANDA_VERSION_MINOR 2
+#define SENYOLANDA_VERSION_PATCH 0
+
+/* The same as a string, "major.minor.patch", and as a number that rises with it, for a program to compare:
+   #if SENYOLANDA_VERSION_NUMBER >= SENYOLANDA_VERSION_OF(0, 2, 0) */
+#define SENYOLANDA_VERSION SENYOLANDA_DOTTED(SENYOLANDA_VERSION_MAJOR, SENYOLANDA_VERSION_MINOR, SENYOLANDA_VERSION_PATCH)
+#define SENYOLANDA_VERSION_NUMBER \
+    SENYOLANDA_VERSION_OF(SENYOLANDA_VERSION_MAJOR, SENYOLANDA_VERSION_MINOR, SENYOLANDA_VERSION_PATCH)
+#define SENYOLANDA_VERSION_OF(major, minor, patch) ((major) * 1000000 + (minor) * 1000 + (patch))
+#define SENYOLANDA_DOTTED(major, minor, patch) SENYOLANDA_DOTTED_WORDS(major, minor, patch)
+#define SENYOLANDA_DOTTED_WORDS(major, minor, patch) #major "." #minor "." #patch
+
+/* CHECKED: the function can refuse, so that its result has to be looked at. */
+#if defined(__GNUC__) || defined(__clang__)
+#define SENYOLANDA_CHECKED __attribute__((warn_unused_result))
+#else
+#define SENYOLANDA_CHECKED
+#endif
 
 /* RESTRICT, and FILLED in brackets: written by the call, and overlapping nothing else that is handed over. READ: only read. */
 #ifdef __cplusplus
@@ -88,8 +113,8 @@ enum senyolanda_refusal {
                                         not all fit */
     SENYOLANDA_UNEQUAL_LISTS = 4,    /* two lists that belong together are not equally long */
     SENYOLANDA_BAD_KNOT_COUNT = 5,   /* a curve without a knot, or with more than 120 */
-    SENYOLANDA_BAD_KNOT = 6,         /* a knot infinite or NaN, before time 0, or not after the knot before it; to bootstrap: a
-                                        tenor of 0, or above 100 years */
+    SENYOLANDA_BAD_KNOT = 6,         /* a knot's time or rate infinite or NaN, its time before 0 or not after the knot before
+                                        it; to bootstrap: a tenor of 0, or above 100 years */
     SENYOLANDA_BAD_TIME = 7,         /* a maturity, tenor or time infinite or NaN, or of more than 1,200 periods; more than 1,200
                                         flows; more than 64 loans */
     SENYOLANDA_BAD_FREQUENCY = 8,    /* a swap that pays 0, or more than 365, times a year */
@@ -97,7 +122,8 @@ enum senyolanda_refusal {
     SENYOLANDA_PAST_THE_TERM = 10,   /* a loan in hand with more months done than its term has */
     SENYOLANDA_BAD_RECORD = 11,      /* bytes of another kind or length, or a code that stands for nothing; a book of more than
                                         256 records */
-    SENYOLANDA_NO_YIELD = 12,        /* no yield in the searched ranges, up to 50, is known to give the market price */
+    SENYOLANDA_NO_YIELD = 12,        /* the prices at both ends of both searched ranges, yields of 0.001 to 0.999 and of 0.000001
+                                        to 50, lie on one side of the market price: no yield of 0 or below is found */
     SENYOLANDA_NO_BREAK_EVEN = 13    /* the new loan saves nothing a month, or pays its cost back only after its term */
 };
 
@@ -109,7 +135,7 @@ enum senyolanda_frequency {
     SENYOLANDA_MONTHLY = 3
 };
 
-/* What part of a year a number of days is: over 360, over 365, over 360. */
+/* What a number of days is divided by, to be a part of a year: 360, 365, 360. The days are yours to count; no calendar is read. */
 enum senyolanda_day_count {
     SENYOLANDA_ACTUAL_360 = 0,
     SENYOLANDA_ACTUAL_365 = 1,
@@ -118,9 +144,11 @@ enum senyolanda_day_count {
 
 /* How fast a pool prepays, and what the number and the list beside it are. */
 enum senyolanda_speed {
-    SENYOLANDA_CPR = 0,              /* the number: the part of a balance prepaid in a year; no list is read */
-    SENYOLANDA_PSA = 1,              /* the number: so many times the PSA ramp, 1 is 100% PSA; no list is read */
-    SENYOLANDA_HISTORY = 2           /* the list: the part prepaid in month 1, 2, ..; the number is not read */
+    SENYOLANDA_CPR = 0,              /* the number: the part of a balance prepaid in a year, a decimal; no list is read */
+    SENYOLANDA_PSA = 1,              /* the number: so many times the PSA ramp, 1 is 100% PSA: a CPR that rises evenly to 0.06 in
+                                        month 30 and stays there; no list is read */
+    SENYOLANDA_HISTORY = 2           /* the list: the part of a balance prepaid in month 1, 2, .., a decimal, and past its end 0;
+                                        the number is not read */
 };
 
 /* ---- results ---- */
@@ -132,7 +160,7 @@ static inline uint32_t senyolanda_number(senyolanda_result result) {
     return (uint32_t)(result & UINT32_MAX);
 }
 
-/* The refusal's place: an index in a list, or which of two loans; else 0. */
+/* The refusal's place: an index in a list, from 0, or which of two loans, 0 or 1; else 0. */
 static inline uint32_t senyolanda_place(senyolanda_result result) {
     return (uint32_t)(result >> 32);
 }
@@ -146,13 +174,13 @@ static inline const char *senyolanda_refusal_text(uint32_t number) {
     case SENYOLANDA_NO_ROOM: return "there is too little room for the answer";
     case SENYOLANDA_UNEQUAL_LISTS: return "two lists that belong together differ in length";
     case SENYOLANDA_BAD_KNOT_COUNT: return "the curve does not have from 1 to 120 knots";
-    case SENYOLANDA_BAD_KNOT: return "a knot of the curve is not finite or out of order";
+    case SENYOLANDA_BAD_KNOT: return "a knot of the curve is not finite, out of order or out of range";
     case SENYOLANDA_BAD_TIME: return "a time is not finite or there are too many periods, flows or loans";
     case SENYOLANDA_BAD_FREQUENCY: return "the swap does not pay from 1 to 365 times a year";
     case SENYOLANDA_BAD_NUMBER: return "a price, yield, coupon, cost, flow or rate is not finite";
     case SENYOLANDA_PAST_THE_TERM: return "the loan has more months done than its term";
     case SENYOLANDA_BAD_RECORD: return "the record is of another kind or length, or has an unknown code";
-    case SENYOLANDA_NO_YIELD: return "no yield was found to search between";
+    case SENYOLANDA_NO_YIELD: return "no yield from 0.000001 to 50 was found for the market price";
     case SENYOLANDA_NO_BREAK_EVEN: return "the new loan does not pay its cost back within its term";
     default: return "no such refusal";
     }
@@ -160,19 +188,20 @@ static inline const char *senyolanda_refusal_text(uint32_t number) {
 
 /* ---- exp, ln, powers: the same bits on every machine, never refused ---- */
 
-/* e to the x. */
+/* e to the x: infinity above 709, 0 below -708. */
 senyolanda_result senyolanda_exp(double x, double *SENYOLANDA_RESTRICT answer);
 
-/* Each number of the list becomes its exp, faster than one by one. */
+/* Each number of the list becomes its exp: the same bits, faster than one by one. */
 senyolanda_result senyolanda_exp_each(double *SENYOLANDA_RESTRICT numbers, size_t count);
 
 /* The natural logarithm of x: NaN below zero, -infinity at zero. */
 senyolanda_result senyolanda_ln(double x, double *SENYOLANDA_RESTRICT answer);
 
-/* x to the y: by multiplying where y is whole and at most 1,200 in size, else as exp(y ln x). */
+/* x to the y: by multiplying where y is whole and at most 1,200 in size, else as exp(y ln x), which is NaN for an x below zero.
+   1 to any y, and any x to the 0, is 1. */
 senyolanda_result senyolanda_power(double x, double y, double *SENYOLANDA_RESTRICT answer);
 
-/* The same three, the number itself returned. */
+/* exp, ln and power once more, the number itself returned. */
 static inline double senyolanda_exp_of(double x) {
     double answer = 0.0;
     (void)senyolanda_exp(x, &answer);
@@ -193,108 +222,122 @@ static inline double senyolanda_power_of(double x, double y) {
 
 /* ---- records: bytes to numbers and back; nothing but kind, length and codes is looked at ---- */
 
-/* The terms that a loan's record holds. Refuses 11. */
+/* The terms that a loan's record holds, the term in months. Refuses 11. */
 senyolanda_result senyolanda_read_loan(
     const uint8_t *record, size_t length,
-    double *SENYOLANDA_RESTRICT principal, double *SENYOLANDA_RESTRICT rate, uint32_t *SENYOLANDA_RESTRICT term);
+    double *SENYOLANDA_RESTRICT principal, double *SENYOLANDA_RESTRICT rate,
+    uint32_t *SENYOLANDA_RESTRICT term) SENYOLANDA_CHECKED;
 
 /* The record of a loan's terms. Never refused: whoever works with the loan tests it. */
 senyolanda_result senyolanda_write_loan(
     double principal, double rate, uint32_t term,
     uint8_t record[SENYOLANDA_FILLED SENYOLANDA_LOAN_BYTES]);
 
-/* The bond that a record holds, its frequency as a code. Refuses 11. */
+/* The bond that a record holds, its maturity in years, its frequency an enum senyolanda_frequency. Refuses 11. */
 senyolanda_result senyolanda_read_bond(
     const uint8_t *record, size_t length,
     double *SENYOLANDA_RESTRICT face, double *SENYOLANDA_RESTRICT coupon, double *SENYOLANDA_RESTRICT maturity,
-    uint32_t *SENYOLANDA_RESTRICT frequency);
+    uint32_t *SENYOLANDA_RESTRICT frequency) SENYOLANDA_CHECKED;
 
 /* The record of a bond; frequency is an enum senyolanda_frequency. Refuses 11. */
 senyolanda_result senyolanda_write_bond(
     double face, double coupon, double maturity, uint32_t frequency,
-    uint8_t record[SENYOLANDA_FILLED SENYOLANDA_BOND_BYTES]);
+    uint8_t record[SENYOLANDA_FILLED SENYOLANDA_BOND_BYTES]) SENYOLANDA_CHECKED;
 
 /* The row of a schedule that a record holds. Refuses 11. */
 senyolanda_result senyolanda_read_row(
     const uint8_t *record, size_t length,
     uint32_t *SENYOLANDA_RESTRICT month, double *SENYOLANDA_RESTRICT payment, double *SENYOLANDA_RESTRICT principal,
-    double *SENYOLANDA_RESTRICT interest, double *SENYOLANDA_RESTRICT balance);
+    double *SENYOLANDA_RESTRICT interest, double *SENYOLANDA_RESTRICT balance) SENYOLANDA_CHECKED;
 
 /* The record of a row. Never refused. */
 senyolanda_result senyolanda_write_row(
     uint32_t month, double payment, double principal, double interest, double balance,
     uint8_t record[SENYOLANDA_FILLED SENYOLANDA_ROW_BYTES]);
 
-/* The swap that a record holds, its frequency a number of payments a year, its day count a code. Refuses 11. */
+/* The swap that a record holds, its tenor in years, its frequency the number of payments a year, its day count an enum
+   senyolanda_day_count. Refuses 11. */
 senyolanda_result senyolanda_read_swap(
     const uint8_t *record, size_t length,
     double *SENYOLANDA_RESTRICT notional, double *SENYOLANDA_RESTRICT rate, double *SENYOLANDA_RESTRICT tenor,
-    uint32_t *SENYOLANDA_RESTRICT frequency, uint32_t *SENYOLANDA_RESTRICT day_count);
+    uint32_t *SENYOLANDA_RESTRICT frequency, uint32_t *SENYOLANDA_RESTRICT day_count) SENYOLANDA_CHECKED;
 
-/* The record of a swap; day_count is an enum senyolanda_day_count. Refuses 11. */
+/* The record of a swap; frequency is the number of payments a year, day_count an enum senyolanda_day_count. Refuses 11. */
 senyolanda_result senyolanda_write_swap(
     double notional, double rate, double tenor, uint32_t frequency, uint32_t day_count,
-    uint8_t record[SENYOLANDA_FILLED SENYOLANDA_SWAP_BYTES]);
+    uint8_t record[SENYOLANDA_FILLED SENYOLANDA_SWAP_BYTES]) SENYOLANDA_CHECKED;
 
 /* ---- loans: the terms come as a loan's record ---- */
 
-/* The level monthly payment that repays the loan over its term. Refuses 1, 2, 11. */
-senyolanda_result senyolanda_monthly_payment(const uint8_t *record, size_t length, double *SENYOLANDA_RESTRICT payment);
+/* The level monthly payment that repays the loan over its term; at a rate of 0, principal over term. Any other rate that leaves
+   1 + rate / 12 at 1 gives infinity, and one whose power of the term overflows NaN. Refuses 1, 2, 11. */
+senyolanda_result senyolanda_monthly_payment(
+    const uint8_t *record, size_t length, double *SENYOLANDA_RESTRICT payment) SENYOLANDA_CHECKED;
 
-/* Opens a loan with the worked-out payment, as numbers: in C, senyolanda_loan_open keeps them together. Refuses 1, 2, 11. */
+/* Opens a loan with the worked-out payment, as five numbers: no month is done and the balance is the principal. In C,
+   senyolanda_loan_open keeps them together. Refuses 1, 2, 11. */
 senyolanda_result senyolanda_open(
     const uint8_t *record, size_t length,
     uint32_t *SENYOLANDA_RESTRICT term, double *SENYOLANDA_RESTRICT rate, double *SENYOLANDA_RESTRICT payment,
-    uint32_t *SENYOLANDA_RESTRICT done, double *SENYOLANDA_RESTRICT balance);
+    uint32_t *SENYOLANDA_RESTRICT done, double *SENYOLANDA_RESTRICT balance) SENYOLANDA_CHECKED;
 
 /* Opens a loan with a given payment, whatever it is: the last month repays the rest. Refuses 1, 2, 11. */
 senyolanda_result senyolanda_open_with_payment(
     const uint8_t *record, size_t length, double given,
     uint32_t *SENYOLANDA_RESTRICT term, double *SENYOLANDA_RESTRICT rate, double *SENYOLANDA_RESTRICT payment,
-    uint32_t *SENYOLANDA_RESTRICT done, double *SENYOLANDA_RESTRICT balance);
+    uint32_t *SENYOLANDA_RESTRICT done, double *SENYOLANDA_RESTRICT balance) SENYOLANDA_CHECKED;
 
-/* Writes as many rows as the room holds and the loan owes, and moves done and balance on. A row is five numbers: month, payment,
-   principal, interest, balance after. A finished loan writes 0 and owes 0, whatever the room. Refuses 2, 3, 10. */
+/* Writes as many rows as the room holds and the loan owes, and moves done and balance on; places behind the rows stay. A row is
+   five numbers: month (from 1), payment, principal, interest, balance after. The payment is the loan's own, also where less is
+   owed, and in the last month principal plus interest; interest that it does not cover is not added to the balance. written and
+   owed count rows. A finished loan writes 0 and owes 0, whatever the room. Refuses 2, 3, 10. */
 senyolanda_result senyolanda_draw(
     uint32_t term, double rate, double payment, uint32_t *SENYOLANDA_RESTRICT done, double *SENYOLANDA_RESTRICT balance,
-    double *SENYOLANDA_RESTRICT room, size_t places, uint32_t *SENYOLANDA_RESTRICT written, uint32_t *SENYOLANDA_RESTRICT owed);
+    double *SENYOLANDA_RESTRICT room, size_t places,
+    uint32_t *SENYOLANDA_RESTRICT written, uint32_t *SENYOLANDA_RESTRICT owed) SENYOLANDA_CHECKED;
 
-/* The next row alone, as a row's record; a finished loan writes 0, owes 0 and leaves the record. Refuses 2, 10. */
+/* The next row alone, as a row's record: written is 1. A finished loan writes 0, owes 0 and leaves the record. Refuses 2, 10. */
 senyolanda_result senyolanda_next_row(
     uint32_t term, double rate, double payment, uint32_t *SENYOLANDA_RESTRICT done, double *SENYOLANDA_RESTRICT balance,
     uint8_t record[SENYOLANDA_FILLED SENYOLANDA_ROW_BYTES],
-    uint32_t *SENYOLANDA_RESTRICT written, uint32_t *SENYOLANDA_RESTRICT owed);
+    uint32_t *SENYOLANDA_RESTRICT written, uint32_t *SENYOLANDA_RESTRICT owed) SENYOLANDA_CHECKED;
 
-/* Draws a book: loans as their records end to end, at most 256, each opened with its worked-out payment and drawn whole, one behind
-   the other into one room; two are drawn at once, which is faster than by itself. A loan's answer is 0, or the number that it alone
-   would be refused with: the others go on. finished counts the loans that are done, refused ones too; where the room ended inside a
-   loan, cut is how many of its rows were written, else 0; waiting counts the loans without a row, whose answers stay. Fewer answers
-   than loans, or no room for the first row, is 3; bytes that do not divide into records, or too many, are 11. Refuses 3, 11. */
+/* Draws a book: loans as their records end to end, at most 256, each opened with its worked-out payment and drawn whole, the rows
+   of one behind those of the other in one room. The rows are those of the loans drawn one by one; it is faster, since two loans
+   are worked on at once. A loan's answer is 0, or the number that it alone would be refused with: it has no rows then, and the
+   others go on. finished counts the loans that are done, refused ones too; where the room ended inside the next one, cut is how
+   many of its rows were written, else 0; waiting counts the loans behind, which have no rows and whose answers stay. To go on,
+   hand over the records from index finished on: a loan that was cut starts again at its first row. Fewer answers than loans, or
+   no room for the first row, is 3; bytes that do not divide into records, or too many, are 11. Refuses 3, 11. */
 senyolanda_result senyolanda_draw_book(
     const uint8_t *records, size_t length, uint32_t *SENYOLANDA_RESTRICT answers, size_t answers_count,
-    double *SENYOLANDA_RESTRICT room, size_t places,
-    uint32_t *SENYOLANDA_RESTRICT finished, uint32_t *SENYOLANDA_RESTRICT cut, uint32_t *SENYOLANDA_RESTRICT waiting);
+    double *SENYOLANDA_RESTRICT room, size_t places, uint32_t *SENYOLANDA_RESTRICT finished,
+    uint32_t *SENYOLANDA_RESTRICT cut, uint32_t *SENYOLANDA_RESTRICT waiting) SENYOLANDA_CHECKED;
 
-/* The sum of the interest column at the worked-out payment. Refuses 1, 2, 11. */
-senyolanda_result senyolanda_total_interest(const uint8_t *record, size_t length, double *SENYOLANDA_RESTRICT interest);
+/* The sum of the interest column over the whole term, at the worked-out payment. Refuses 1, 2, 11. */
+senyolanda_result senyolanda_total_interest(
+    const uint8_t *record, size_t length, double *SENYOLANDA_RESTRICT interest) SENYOLANDA_CHECKED;
 
-/* The balance after so many months at the worked-out payment; past the term, the last one. Refuses 1, 2, 11. */
+/* The balance after so many months at the worked-out payment: after 0 the principal, from the term on 0. Refuses 1, 2, 11. */
 senyolanda_result senyolanda_remaining_balance(
-    const uint8_t *record, size_t length, uint32_t months, double *SENYOLANDA_RESTRICT balance);
+    const uint8_t *record, size_t length, uint32_t months, double *SENYOLANDA_RESTRICT balance) SENYOLANDA_CHECKED;
 
-/* The loan over the property's value; infinity for a value of zero. Refuses 1, 2, 11. */
-senyolanda_result senyolanda_ltv(const uint8_t *record, size_t length, double value, double *SENYOLANDA_RESTRICT ratio);
+/* The principal over the property's value, a decimal: 0.8 is 80 per cent; infinity for a value of zero. Refuses 1, 2, 11. */
+senyolanda_result senyolanda_ltv(
+    const uint8_t *record, size_t length, double value, double *SENYOLANDA_RESTRICT ratio) SENYOLANDA_CHECKED;
 
-/* The months and the interest that an extra payment each month saves. Refuses 1, 2, 11. */
+/* The months, and the interest in money, that paying so much more each month saves, 0 where nothing is saved. An extra of NaN
+   repays all in month 1; a loan of 0 saves its whole term. Refuses 1, 2, 11. */
 senyolanda_result senyolanda_prepayment_savings(
     const uint8_t *record, size_t length, double extra,
-    uint32_t *SENYOLANDA_RESTRICT months, double *SENYOLANDA_RESTRICT interest);
+    uint32_t *SENYOLANDA_RESTRICT months, double *SENYOLANDA_RESTRICT interest) SENYOLANDA_CHECKED;
 
-/* The month by which the new loan's lower payment has paid its closing cost; nothing is read of the months elapsed. A bad old
-   loan stands at place 0, a bad new one at 1. Refuses 1, 2, 9, 11, 13. */
+/* The month, from the new loan's first, by which its lower payment has earned its closing cost back: cost over the difference of
+   the two worked-out payments, rounded up; 0 for a cost of 0 or below, or where that is NaN. Nothing is read of the months
+   elapsed. A bad old loan stands at place 0, a bad new one at 1. Refuses 1, 2, 9, 11, 13. */
 senyolanda_result senyolanda_refinance_breakeven(
     const uint8_t *old_record, size_t old_length, const uint8_t *new_record, size_t new_length,
-    double cost, uint32_t elapsed, uint32_t *SENYOLANDA_RESTRICT month);
+    double cost, uint32_t elapsed, uint32_t *SENYOLANDA_RESTRICT month) SENYOLANDA_CHECKED;
 
 /* The whole schedule at the worked-out payment, as text: a line of column names; a line for each row, its month in decimal and each
    amount as the 16 hexadecimal digits of its binary64, a NaN as 7ff8000000000000; and a line that counts the rows and how many are
@@ -308,26 +351,26 @@ senyolanda_result senyolanda_listing(
 struct senyolanda_loan {
     uint32_t term;     /* months */
     uint32_t done;     /* months drawn so far */
-    double rate;       /* a year */
-    double payment;    /* a month */
+    double rate;       /* a year, as a decimal */
+    double payment;    /* a month, in money */
     double balance;    /* after the months done */
 };
 
 /* Opens a loan with the worked-out payment. A refusal leaves the loan as it was, here and below. Refuses 1, 2, 11. */
-static inline senyolanda_result senyolanda_loan_open(
+static inline SENYOLANDA_CHECKED senyolanda_result senyolanda_loan_open(
     const uint8_t *record, size_t length, struct senyolanda_loan *SENYOLANDA_RESTRICT loan) {
     return senyolanda_open(record, length, &loan->term, &loan->rate, &loan->payment, &loan->done, &loan->balance);
 }
 
 /* Opens a loan with a given payment. Refuses 1, 2, 11. */
-static inline senyolanda_result senyolanda_loan_open_with_payment(
+static inline SENYOLANDA_CHECKED senyolanda_result senyolanda_loan_open_with_payment(
     const uint8_t *record, size_t length, double given, struct senyolanda_loan *SENYOLANDA_RESTRICT loan) {
     return senyolanda_open_with_payment(
         record, length, given, &loan->term, &loan->rate, &loan->payment, &loan->done, &loan->balance);
 }
 
 /* The next rows, as many as the room holds and the loan owes; the loan moves on past them. Refuses 2, 3, 10. */
-static inline senyolanda_result senyolanda_loan_draw(
+static inline SENYOLANDA_CHECKED senyolanda_result senyolanda_loan_draw(
     struct senyolanda_loan *SENYOLANDA_RESTRICT loan, double *SENYOLANDA_RESTRICT room, size_t places,
     uint32_t *SENYOLANDA_RESTRICT written, uint32_t *SENYOLANDA_RESTRICT owed) {
     return senyolanda_draw(
@@ -335,7 +378,7 @@ static inline senyolanda_result senyolanda_loan_draw(
 }
 
 /* The next row alone, as a row's record. Refuses 2, 10. */
-static inline senyolanda_result senyolanda_loan_next_row(
+static inline SENYOLANDA_CHECKED senyolanda_result senyolanda_loan_next_row(
     struct senyolanda_loan *SENYOLANDA_RESTRICT loan, uint8_t record[SENYOLANDA_FILLED SENYOLANDA_ROW_BYTES],
     uint32_t *SENYOLANDA_RESTRICT written, uint32_t *SENYOLANDA_RESTRICT owed) {
     return senyolanda_next_row(
@@ -365,302 +408,343 @@ static inline struct senyolanda_row senyolanda_row_at(const double *room, size_t
    A bad loan's place is its index; a length that does not divide into records is 11 at 0, and so is an unknown speed, beside a
    record of another kind too. ---- */
 
-/* The part of a balance that is prepaid in a month, from 1. Refuses 11. */
+/* The part of a balance that is prepaid in a month, a decimal; months count from 1. Of a history, month 0 reads the first number
+   and months past its end are 0; of PSA, month 0 is 0. A CPR above 1 gives NaN. Refuses 11. */
 senyolanda_result senyolanda_monthly_smm(
     uint32_t speed, double number, const double *history, size_t history_count,
-    uint32_t month, double *SENYOLANDA_RESTRICT smm);
+    uint32_t month, double *SENYOLANDA_RESTRICT smm) SENYOLANDA_CHECKED;
 
-/* The pool's months up to its longest term, three numbers each: principal, interest, prepayment. Refuses 1, 2, 3, 7, 11. */
+/* The pool's months up to its longest term, three numbers each: scheduled principal, interest, prepayment; places behind them
+   stay, and months says how many they are, 0 for no loans. A prepayment is the month's part of the balance that the schedule
+   leaves; earlier prepayments lower no balance, so that all months together may pay back more than was lent.
+   Refuses 1, 2, 3, 7, 11. */
 senyolanda_result senyolanda_pool_cash_flows(
     const uint8_t *records, size_t length, uint32_t speed, double number, const double *history, size_t history_count,
-    double *SENYOLANDA_RESTRICT room, size_t places, uint32_t *SENYOLANDA_RESTRICT months);
+    double *SENYOLANDA_RESTRICT room, size_t places, uint32_t *SENYOLANDA_RESTRICT months) SENYOLANDA_CHECKED;
 
-/* The present value of the pool's months at a yearly rate. Refuses 1, 2, 7, 11. */
+/* The present value of the pool's months, all three numbers of each, at a yearly rate of which each month takes a twelfth; 0 for
+   no loans. Refuses 1, 2, 7, 11. */
 senyolanda_result senyolanda_pool_price(
     const uint8_t *records, size_t length, uint32_t speed, double number, const double *history, size_t history_count,
-    double rate, double *SENYOLANDA_RESTRICT price);
+    double rate, double *SENYOLANDA_RESTRICT price) SENYOLANDA_CHECKED;
 
-/* The part of its price that the pool loses for a rise of the rate, by prices a basis point to both sides. Refuses 1, 2, 7, 11. */
+/* How fast the price falls as the rate rises, over the price, in years: 5 means that a basis point takes about 0.0005 of the
+   price. It is (below - above) / (0.0002 * price), by the prices a basis point below and above, over the same months; 0 for a
+   price of 0. Refuses 1, 2, 7, 11. */
 senyolanda_result senyolanda_pool_duration(
     const uint8_t *records, size_t length, uint32_t speed, double number, const double *history, size_t history_count,
-    double rate, double *SENYOLANDA_RESTRICT duration);
+    double rate, double *SENYOLANDA_RESTRICT duration) SENYOLANDA_CHECKED;
 
-/* How that loss itself changes with the rate, by the same three prices. Refuses 1, 2, 7, 11. */
+/* The second derivative of the price by the rate, over the price, in years squared: by the same prices,
+   (below + above - 2 * price) / (0.0001 * 0.0001 * price); 0 for a price of 0. Refuses 1, 2, 7, 11. */
 senyolanda_result senyolanda_pool_convexity(
     const uint8_t *records, size_t length, uint32_t speed, double number, const double *history, size_t history_count,
-    double rate, double *SENYOLANDA_RESTRICT convexity);
+    double rate, double *SENYOLANDA_RESTRICT convexity) SENYOLANDA_CHECKED;
 
-/* Three numbers: the balance, and coupon and months to maturity weighed by it. Refuses 1, 2, 7, 11. */
-senyolanda_result senyolanda_pool_totals(const uint8_t *records, size_t length, double totals[SENYOLANDA_FILLED 3]);
+/* Three numbers: the sum of the principals; the mean rate, a decimal a year; the mean term, in months. The means weigh each loan
+   by its principal and are 0 where the sum is 0. Refuses 1, 2, 7, 11. */
+senyolanda_result senyolanda_pool_totals(
+    const uint8_t *records, size_t length, double totals[SENYOLANDA_FILLED 3]) SENYOLANDA_CHECKED;
 
-/* ---- bonds: the bond comes as its record ---- */
+/* ---- bonds: the bond comes as its record. It has as many whole periods as its maturity is nearest to, halves up, pays a coupon
+   at the end of each and its face with the last. A price is that of a coupon's day, so that no interest has accrued and it is
+   clean and full at once. A bond of less than half a period, or of a maturity of 0 or below, has no period: its price is its face
+   at every yield. Durations and convexity are 0 without a period, and for a price below 2^-52 in size. ---- */
 
-/* The price at a yield. Refuses 1, 7, 9, 11. */
+/* The price at a yield; at a yield of 0 all that the bond pays. Refuses 1, 7, 9, 11. */
 senyolanda_result senyolanda_bond_price(
-    const uint8_t *record, size_t length, double ytm, double *SENYOLANDA_RESTRICT price);
+    const uint8_t *record, size_t length, double ytm, double *SENYOLANDA_RESTRICT price) SENYOLANDA_CHECKED;
 
-/* What the price gains when the yield falls by a basis point. Refuses 1, 7, 9, 11. */
+/* What the price gains, in money, when the yield falls by a basis point. Refuses 1, 7, 9, 11. */
 senyolanda_result senyolanda_bond_dv01(
-    const uint8_t *record, size_t length, double ytm, double *SENYOLANDA_RESTRICT dv01);
+    const uint8_t *record, size_t length, double ytm, double *SENYOLANDA_RESTRICT dv01) SENYOLANDA_CHECKED;
 
-/* A year's coupons over the market price; 0 for a price of almost nothing. Refuses 1, 7, 9, 11. */
+/* A year's coupons over the market price, a decimal; 0 for a price below 2^-52 in size. Refuses 1, 7, 9, 11. */
 senyolanda_result senyolanda_bond_current_yield(
-    const uint8_t *record, size_t length, double market, double *SENYOLANDA_RESTRICT current);
+    const uint8_t *record, size_t length, double market, double *SENYOLANDA_RESTRICT current) SENYOLANDA_CHECKED;
 
-/* The yield at which the bond has the market price. Refuses 1, 7, 9, 11, 12. */
+/* The yield at which the bond has the market price, to about 1e-8; it is searched from 0.001 to 0.999, or else from 0.000001 to
+   50. Where every yield has it, as at the face of a bond without a period, it is 0.999. Refuses 1, 7, 9, 11, 12. */
 senyolanda_result senyolanda_bond_yield_to_maturity(
-    const uint8_t *record, size_t length, double market, double *SENYOLANDA_RESTRICT ytm);
+    const uint8_t *record, size_t length, double market, double *SENYOLANDA_RESTRICT ytm) SENYOLANDA_CHECKED;
 
 /* The mean time of the bond's payments, weighed by their present values, in years. Refuses 1, 7, 9, 11. */
 senyolanda_result senyolanda_bond_macaulay_duration(
-    const uint8_t *record, size_t length, double ytm, double *SENYOLANDA_RESTRICT duration);
+    const uint8_t *record, size_t length, double ytm, double *SENYOLANDA_RESTRICT duration) SENYOLANDA_CHECKED;
 
-/* The part of its price that the bond loses for a rise of the yield. Refuses 1, 7, 9, 11. */
+/* How fast the price falls as the yield rises, over the price, in years: 5 means that a basis point takes about 0.0005 of the
+   price. It is Macaulay's duration over 1 plus the yield of a period. Refuses 1, 7, 9, 11. */
 senyolanda_result senyolanda_bond_modified_duration(
-    const uint8_t *record, size_t length, double ytm, double *SENYOLANDA_RESTRICT duration);
+    const uint8_t *record, size_t length, double ytm, double *SENYOLANDA_RESTRICT duration) SENYOLANDA_CHECKED;
 
-/* How that loss itself changes with the yield. Refuses 1, 7, 9, 11. */
+/* The second derivative of the price by the yield, over the price, in years squared. Refuses 1, 7, 9, 11. */
 senyolanda_result senyolanda_bond_convexity(
-    const uint8_t *record, size_t length, double ytm, double *SENYOLANDA_RESTRICT convexity);
+    const uint8_t *record, size_t length, double ytm, double *SENYOLANDA_RESTRICT convexity) SENYOLANDA_CHECKED;
 
-/* The price's change, by duration and convexity, when the yield changes by delta. Refuses 1, 7, 9, 11. */
+/* What part of its price, and no amount, the bond gains, or below 0 loses, when the yield rises by delta, a decimal: -0.05 is a
+   price five per cent lower. It is -duration * delta + 0.5 * convexity * delta * delta, by the modified duration.
+   Refuses 1, 7, 9, 11. */
 senyolanda_result senyolanda_bond_price_change(
-    const uint8_t *record, size_t length, double ytm, double delta, double *SENYOLANDA_RESTRICT change);
+    const uint8_t *record, size_t length, double ytm, double delta, double *SENYOLANDA_RESTRICT change) SENYOLANDA_CHECKED;
 
-/* The three of above at the yield that a market price implies. Each refuses 1, 7, 9, 11, 12. */
+/* Macaulay's duration, modified duration and convexity at the yield that a market price implies. Each refuses 1, 7, 9, 11, 12. */
 senyolanda_result senyolanda_bond_macaulay_duration_at_price(
-    const uint8_t *record, size_t length, double market, double *SENYOLANDA_RESTRICT duration);
+    const uint8_t *record, size_t length, double market, double *SENYOLANDA_RESTRICT duration) SENYOLANDA_CHECKED;
 senyolanda_result senyolanda_bond_modified_duration_at_price(
-    const uint8_t *record, size_t length, double market, double *SENYOLANDA_RESTRICT duration);
+    const uint8_t *record, size_t length, double market, double *SENYOLANDA_RESTRICT duration) SENYOLANDA_CHECKED;
 senyolanda_result senyolanda_bond_convexity_at_price(
-    const uint8_t *record, size_t length, double market, double *SENYOLANDA_RESTRICT convexity);
+    const uint8_t *record, size_t length, double market, double *SENYOLANDA_RESTRICT convexity) SENYOLANDA_CHECKED;
 
-/* The price of 1 that is paid at maturity. Refuses 7, 9. */
-senyolanda_result senyolanda_zero_coupon_bond_price(double ytm, double maturity, double *SENYOLANDA_RESTRICT price);
+/* The price of 1 that is paid at maturity, in years, at a yield compounded once a year. Refuses 7, 9. */
+senyolanda_result senyolanda_zero_coupon_bond_price(
+    double ytm, double maturity, double *SENYOLANDA_RESTRICT price) SENYOLANDA_CHECKED;
 
 /* How many coupons a year a frequency stands for: 1, 2, 4 or 12; frequency is an enum senyolanda_frequency. Refuses 11. */
-senyolanda_result senyolanda_periods_per_year(uint32_t frequency, uint32_t *SENYOLANDA_RESTRICT periods);
+senyolanda_result senyolanda_periods_per_year(uint32_t frequency, uint32_t *SENYOLANDA_RESTRICT periods) SENYOLANDA_CHECKED;
 
-/* ---- yield curves: knots as two lists, their times and their rates, flat outside ---- */
+/* ---- yield curves: knots as two lists, their times and their rates; flat before the first knot, below time 0 too, and after the
+   last ---- */
 
 /* The rate at t, on straight lines between the knots. Refuses 4, 5, 6, 7. */
 senyolanda_result senyolanda_linear_interpolate(
     const double *times, size_t times_count, const double *rates, size_t rates_count,
-    double t, double *SENYOLANDA_RESTRICT rate);
+    double t, double *SENYOLANDA_RESTRICT rate) SENYOLANDA_CHECKED;
 
-/* Each time of the list becomes its rate, the knots tested once for all; a bad time stands at its index. Refuses 4, 5, 6, 7. */
+/* Each time of the list becomes its rate, the knots tested once for all; a bad time's place is its index. Refuses 4, 5, 6, 7. */
 senyolanda_result senyolanda_linear_interpolate_each(
     const double *times, size_t times_count, const double *rates, size_t rates_count,
-    double *SENYOLANDA_RESTRICT asked, size_t asked_count);
+    double *SENYOLANDA_RESTRICT asked, size_t asked_count) SENYOLANDA_CHECKED;
 
-/* The rate at t, on the natural cubic spline through the knots. Refuses 4, 5, 6, 7. */
+/* The rate at t, on the natural cubic spline through the knots; one or two knots make straight lines. Refuses 4, 5, 6, 7. */
 senyolanda_result senyolanda_cubic_spline_interpolate(
     const double *times, size_t times_count, const double *rates, size_t rates_count,
-    double t, double *SENYOLANDA_RESTRICT rate);
+    double t, double *SENYOLANDA_RESTRICT rate) SENYOLANDA_CHECKED;
 
-/* What 1 at t is worth today, on the straight lines. Refuses 4, 5, 6, 7. */
+/* What 1 at t is worth today, on the straight lines: exp(-rate * t), also for a t below 0. Refuses 4, 5, 6, 7. */
 senyolanda_result senyolanda_yield_curve_discount_factor(
     const double *times, size_t times_count, const double *rates, size_t rates_count,
-    double t, double *SENYOLANDA_RESTRICT factor);
+    double t, double *SENYOLANDA_RESTRICT factor) SENYOLANDA_CHECKED;
 
-/* Each time of the list becomes its factor, faster than one by one; a bad time stands at its index. Refuses 4, 5, 6, 7. */
+/* Each time of the list becomes its factor, faster than one by one; a bad time's place is its index. Refuses 4, 5, 6, 7. */
 senyolanda_result senyolanda_yield_curve_discount_factor_each(
     const double *times, size_t times_count, const double *rates, size_t rates_count,
-    double *SENYOLANDA_RESTRICT asked, size_t asked_count);
+    double *SENYOLANDA_RESTRICT asked, size_t asked_count) SENYOLANDA_CHECKED;
 
-/* The rate from t1 to t2 that today's curve implies. Refuses 4, 5, 6, 7. */
+/* The rate from t1 to t2 that today's curve implies, on the straight lines; the rate at t1 where the two are less than 1e-12
+   apart. Refuses 4, 5, 6, 7. */
 senyolanda_result senyolanda_yield_curve_forward_rate(
     const double *times, size_t times_count, const double *rates, size_t rates_count,
-    double t1, double t2, double *SENYOLANDA_RESTRICT rate);
+    double t1, double t2, double *SENYOLANDA_RESTRICT rate) SENYOLANDA_CHECKED;
 
-/* The coupon at which a bond that pays each half year until t is worth its face. Refuses 4, 5, 6, 7. */
+/* The coupon, a decimal a year, at which a bond that pays each half year until t is worth its face. It pays as often as 2 * t is
+   nearest to, halves up, at even distances; where that is never, the rate at t. 0 where its factors add up to less than 1e-12.
+   Refuses 4, 5, 6, 7. */
 senyolanda_result senyolanda_par_yield(
     const double *times, size_t times_count, const double *rates, size_t rates_count,
-    double t, double *SENYOLANDA_RESTRICT par);
+    double t, double *SENYOLANDA_RESTRICT par) SENYOLANDA_CHECKED;
 
-/* The Nelson-Siegel model nearest to the points, as four numbers: beta0, beta1, beta2, decay. Refuses 4, 5, 6. */
+/* The Nelson-Siegel model nearest to the points by least squares, as four numbers: beta0, beta1, beta2, and decay, always 0.5
+   years. One point gives a flat model; where the points do not tell three betas, as two points or long times
+   alone do not, the betas are 0. Refuses 4, 5, 6. */
 senyolanda_result senyolanda_nelson_siegel_fit(
     const double *times, size_t times_count, const double *rates, size_t rates_count,
-    double model[SENYOLANDA_FILLED 4]);
+    double model[SENYOLANDA_FILLED 4]) SENYOLANDA_CHECKED;
 
-/* The model's yield at t. Refuses 7. */
+/* The model's yield at t; for a t below 1e-10, beta0 + beta1. Refuses 7. */
 senyolanda_result senyolanda_nelson_siegel_yield(
-    const double model[SENYOLANDA_READ 4], double t, double *SENYOLANDA_RESTRICT rate);
+    const double model[SENYOLANDA_READ 4], double t, double *SENYOLANDA_RESTRICT rate) SENYOLANDA_CHECKED;
 
-/* The model's forward rate at t. Refuses 7. */
+/* The model's forward rate at t, for a moment from then on; for a t below 1e-10, beta0 + beta1. Refuses 7. */
 senyolanda_result senyolanda_nelson_siegel_forward_rate(
-    const double model[SENYOLANDA_READ 4], double t, double *SENYOLANDA_RESTRICT rate);
+    const double model[SENYOLANDA_READ 4], double t, double *SENYOLANDA_RESTRICT rate) SENYOLANDA_CHECKED;
 
-/* The model's forward rate at time 0. Never refused. */
+/* The model's forward rate at time 0: beta0 + beta1. Never refused. */
 senyolanda_result senyolanda_nelson_siegel_instantaneous_forward(
     const double model[SENYOLANDA_READ 4], double *SENYOLANDA_RESTRICT rate);
 
-/* Three numbers: level, slope, curvature. Never refused. */
+/* Three numbers: level, slope, curvature, which are beta0, beta1, beta2. Never refused. */
 senyolanda_result senyolanda_nelson_siegel_metrics(
     const double model[SENYOLANDA_READ 4], double metrics[SENYOLANDA_FILLED 3]);
 
-/* ---- swaps: the swap comes as its record, its discount curve as tenors and zero rates; receive_fixed is 0 for the side that
-   pays the fixed rate ---- */
+/* ---- swaps: the swap comes as its record, its discount curve as tenors and zero rates, flat outside; receive_fixed is 0 for the
+   side that pays the fixed rate, anything else for the other. A swap has as many periods of 1 / frequency years as its tenor is
+   nearest to, halves up. It pays at the end of each, for the whole days nearest to 365 / frequency, by its day count. ---- */
 
-/* What part of a year so many days are; day_count is an enum senyolanda_day_count. Refuses 11. */
-senyolanda_result senyolanda_day_count_fraction(uint32_t day_count, uint32_t days, double *SENYOLANDA_RESTRICT fraction);
+/* What part of a year so many days are, a decimal; day_count is an enum senyolanda_day_count. Refuses 11. */
+senyolanda_result senyolanda_day_count_fraction(
+    uint32_t day_count, uint32_t days, double *SENYOLANDA_RESTRICT fraction) SENYOLANDA_CHECKED;
 
-/* The zero rates at which par swaps of these rates are worth nothing, one for each tenor; places past the last tenor stay.
-   Refuses 4, 5, 6. */
+/* The zero rates at which par swaps of these rates, which pay once a year and at the tenor, are worth nothing, one for each tenor;
+   places past the last tenor stay. Where no rate from -1 to 5 serves, it is ln(1 + par rate): infinite or NaN for a par rate of -1
+   or below. Refuses 4, 5, 6. */
 senyolanda_result senyolanda_bootstrap(
     const double *tenors, size_t tenors_count, const double *par_rates, size_t par_rates_count,
-    double zero_rates[SENYOLANDA_FILLED SENYOLANDA_MOST_KNOTS]);
+    double zero_rates[SENYOLANDA_FILLED SENYOLANDA_MOST_KNOTS]) SENYOLANDA_CHECKED;
 
-/* The zero rate at t. Refuses 4, 5, 6, 7. */
+/* The zero rate at t, on straight lines between the tenors. Refuses 4, 5, 6, 7. */
 senyolanda_result senyolanda_discount_curve_rate(
     const double *tenors, size_t tenors_count, const double *zeros, size_t zeros_count,
-    double t, double *SENYOLANDA_RESTRICT rate);
+    double t, double *SENYOLANDA_RESTRICT rate) SENYOLANDA_CHECKED;
 
-/* Each time of the list becomes its zero rate, the knots tested once for all; a bad time stands at its index. Refuses 4, 5, 6, 7. */
+/* Each time of the list becomes its zero rate, the knots tested once for all; a bad time's place is its index.
+   Refuses 4, 5, 6, 7. */
 senyolanda_result senyolanda_discount_curve_rate_each(
     const double *tenors, size_t tenors_count, const double *zeros, size_t zeros_count,
-    double *SENYOLANDA_RESTRICT asked, size_t asked_count);
+    double *SENYOLANDA_RESTRICT asked, size_t asked_count) SENYOLANDA_CHECKED;
 
-/* What 1 at t is worth today. Refuses 4, 5, 6, 7. */
+/* What 1 at t is worth today; 1 at time 0 and before. Refuses 4, 5, 6, 7. */
 senyolanda_result senyolanda_discount_curve_factor(
     const double *tenors, size_t tenors_count, const double *zeros, size_t zeros_count,
-    double t, double *SENYOLANDA_RESTRICT factor);
+    double t, double *SENYOLANDA_RESTRICT factor) SENYOLANDA_CHECKED;
 
-/* Each time of the list becomes its factor, faster than one by one; a bad time stands at its index. Refuses 4, 5, 6, 7. */
+/* Each time of the list becomes its factor, faster than one by one; a bad time's place is its index. Refuses 4, 5, 6, 7. */
 senyolanda_result senyolanda_discount_curve_factor_each(
     const double *tenors, size_t tenors_count, const double *zeros, size_t zeros_count,
-    double *SENYOLANDA_RESTRICT asked, size_t asked_count);
+    double *SENYOLANDA_RESTRICT asked, size_t asked_count) SENYOLANDA_CHECKED;
 
-/* The present value of the fixed payments, and of the notional at the end. Refuses 1, 4, 5, 6, 7, 8, 9, 11. */
+/* The present value of the fixed payments and of the notional at the tenor, together. Refuses 1, 4, 5, 6, 7, 8, 9, 11. */
 senyolanda_result senyolanda_fixed_leg_pv(
     const uint8_t *record, size_t length,
     const double *tenors, size_t tenors_count, const double *zeros, size_t zeros_count,
-    double *SENYOLANDA_RESTRICT pv);
+    double *SENYOLANDA_RESTRICT pv) SENYOLANDA_CHECKED;
 
-/* The present value of the floating payments, and of the notional at the end. Refuses 1, 4, 5, 6, 7, 8, 9, 11. */
+/* The present value of the floating payments, at the rates that the curve implies, and of the notional at the tenor, together.
+   Refuses 1, 4, 5, 6, 7, 8, 9, 11. */
 senyolanda_result senyolanda_floating_leg_pv(
     const uint8_t *record, size_t length,
     const double *tenors, size_t tenors_count, const double *zeros, size_t zeros_count,
-    double *SENYOLANDA_RESTRICT pv);
+    double *SENYOLANDA_RESTRICT pv) SENYOLANDA_CHECKED;
 
-/* What the swap is worth to the named side. Refuses 1, 4, 5, 6, 7, 8, 9, 11. */
+/* What the swap is worth to the named side: the leg that it receives less the other. Refuses 1, 4, 5, 6, 7, 8, 9, 11. */
 senyolanda_result senyolanda_swap_npv(
     const uint8_t *record, size_t length,
     const double *tenors, size_t tenors_count, const double *zeros, size_t zeros_count,
-    uint32_t receive_fixed, double *SENYOLANDA_RESTRICT npv);
+    uint32_t receive_fixed, double *SENYOLANDA_RESTRICT npv) SENYOLANDA_CHECKED;
 
-/* The fixed rate at which the swap is worth nothing. Refuses 1, 4, 5, 6, 7, 8, 9, 11. */
+/* The fixed rate at which the swap is worth nothing, if its tenor is whole periods; infinite or NaN for a swap without a period.
+   Refuses 1, 4, 5, 6, 7, 8, 9, 11. */
 senyolanda_result senyolanda_par_swap_rate(
     const uint8_t *record, size_t length,
     const double *tenors, size_t tenors_count, const double *zeros, size_t zeros_count,
-    double *SENYOLANDA_RESTRICT rate);
+    double *SENYOLANDA_RESTRICT rate) SENYOLANDA_CHECKED;
 
-/* What the swap gains when every zero rate rises by a basis point. Refuses 1, 4, 5, 6, 7, 8, 9, 11. */
+/* What the swap gains for the named side, in money, when every zero rate rises by a basis point (a bond's dv01 is for a fall).
+   Refuses 1, 4, 5, 6, 7, 8, 9, 11. */
 senyolanda_result senyolanda_swap_dv01(
     const uint8_t *record, size_t length,
     const double *tenors, size_t tenors_count, const double *zeros, size_t zeros_count,
-    uint32_t receive_fixed, double *SENYOLANDA_RESTRICT dv01);
+    uint32_t receive_fixed, double *SENYOLANDA_RESTRICT dv01) SENYOLANDA_CHECKED;
 
-/* The modified duration of the fixed leg, in years. Refuses 1, 4, 5, 6, 7, 8, 9, 11. */
+/* The modified duration of the fixed leg with its notional, in years: the mean time weighed by present values, over 1 plus the
+   zero rate at the tenor over the frequency; 0 for a leg that is worth 0. Refuses 1, 4, 5, 6, 7, 8, 9, 11. */
 senyolanda_result senyolanda_swap_duration(
     const uint8_t *record, size_t length,
     const double *tenors, size_t tenors_count, const double *zeros, size_t zeros_count,
-    double *SENYOLANDA_RESTRICT duration);
+    double *SENYOLANDA_RESTRICT duration) SENYOLANDA_CHECKED;
 
-/* Six numbers: npv, fixed leg, floating leg, par rate, dv01, duration. Refuses 1, 4, 5, 6, 7, 8, 9, 11. */
+/* The six of above: npv, fixed leg, floating leg, par rate, dv01, duration. Refuses 1, 4, 5, 6, 7, 8, 9, 11. */
 senyolanda_result senyolanda_value_swap(
     const uint8_t *record, size_t length,
     const double *tenors, size_t tenors_count, const double *zeros, size_t zeros_count,
-    uint32_t receive_fixed, double valuation[SENYOLANDA_FILLED 6]);
+    uint32_t receive_fixed, double valuation[SENYOLANDA_FILLED 6]) SENYOLANDA_CHECKED;
 
 /* ---- spreads: curves as tenors and rates, flat outside; a spread is in basis points, a rate is a decimal ---- */
 
-/* The zero rate at t. Refuses 4, 5, 6, 7. */
+/* The zero rate at t, on straight lines between the tenors. Refuses 4, 5, 6, 7. */
 senyolanda_result senyolanda_zero_curve_rate(
     const double *tenors, size_t tenors_count, const double *rates, size_t rates_count,
-    double t, double *SENYOLANDA_RESTRICT rate);
+    double t, double *SENYOLANDA_RESTRICT rate) SENYOLANDA_CHECKED;
 
-/* Each time of the list becomes its zero rate, the knots tested once for all; a bad time stands at its index. Refuses 4, 5, 6, 7. */
+/* Each time of the list becomes its zero rate, the knots tested once for all; a bad time's place is its index.
+   Refuses 4, 5, 6, 7. */
 senyolanda_result senyolanda_zero_curve_rate_each(
     const double *tenors, size_t tenors_count, const double *rates, size_t rates_count,
-    double *SENYOLANDA_RESTRICT asked, size_t asked_count);
+    double *SENYOLANDA_RESTRICT asked, size_t asked_count) SENYOLANDA_CHECKED;
 
-/* The par swap rate at a tenor. Refuses 4, 5, 6, 7. */
+/* The par swap rate at a tenor, on straight lines between the tenors. Refuses 4, 5, 6, 7. */
 senyolanda_result senyolanda_swap_curve_rate(
     const double *tenors, size_t tenors_count, const double *rates, size_t rates_count,
-    double tenor, double *SENYOLANDA_RESTRICT rate);
+    double tenor, double *SENYOLANDA_RESTRICT rate) SENYOLANDA_CHECKED;
 
-/* Each tenor of the list becomes its par swap rate, the knots tested once for all; a bad tenor stands at its index. Refuses 4, 5, 6, 7. */
+/* Each tenor of the list becomes its par swap rate, the knots tested once for all; a bad tenor's place is its index.
+   Refuses 4, 5, 6, 7. */
 senyolanda_result senyolanda_swap_curve_rate_each(
     const double *tenors, size_t tenors_count, const double *rates, size_t rates_count,
-    double *SENYOLANDA_RESTRICT asked, size_t asked_count);
+    double *SENYOLANDA_RESTRICT asked, size_t asked_count) SENYOLANDA_CHECKED;
 
-/* What 1 at t is worth today. Refuses 4, 5, 6, 7. */
+/* What 1 at t is worth today: exp(-rate * t), also for a t below 0. Refuses 4, 5, 6, 7. */
 senyolanda_result senyolanda_zero_curve_discount_factor(
     const double *tenors, size_t tenors_count, const double *rates, size_t rates_count,
-    double t, double *SENYOLANDA_RESTRICT factor);
+    double t, double *SENYOLANDA_RESTRICT factor) SENYOLANDA_CHECKED;
 
-/* Each time of the list becomes its factor, faster than one by one; a bad time stands at its index. Refuses 4, 5, 6, 7. */
+/* Each time of the list becomes its factor, faster than one by one; a bad time's place is its index. Refuses 4, 5, 6, 7. */
 senyolanda_result senyolanda_zero_curve_discount_factor_each(
     const double *tenors, size_t tenors_count, const double *rates, size_t rates_count,
-    double *SENYOLANDA_RESTRICT asked, size_t asked_count);
+    double *SENYOLANDA_RESTRICT asked, size_t asked_count) SENYOLANDA_CHECKED;
 
-/* The rate from t1 to t2 that today's curve implies. Refuses 4, 5, 6, 7. */
+/* The rate from t1 to t2 that the two discount factors imply; the rate at t1 where the two are less than 1e-12 apart, and 0 where
+   a factor is 0. Refuses 4, 5, 6, 7. */
 senyolanda_result senyolanda_zero_curve_forward_rate(
     const double *tenors, size_t tenors_count, const double *rates, size_t rates_count,
-    double t1, double t2, double *SENYOLANDA_RESTRICT rate);
+    double t1, double t2, double *SENYOLANDA_RESTRICT rate) SENYOLANDA_CHECKED;
 
-/* A bond's cash flows into two lists, a place in both for each flow; frequency is the number of payments a year, 0 is read as 1.
-   Refuses 1, 3, 7, 9. */
+/* A bond's cash flows into two lists, times in years and amounts in money, a place in both for each flow; places behind them stay.
+   flows says how many there are: as many as tenor * frequency is nearest to, halves up. The face comes with the last; where there
+   is no flow, as for a tenor of 0 or below, there is no face either. frequency is the number of payments a year and no code, 0 is
+   read as 1. Refuses 1, 3, 7, 9. */
 senyolanda_result senyolanda_bond_cash_flows(
     double face, double coupon, double tenor, uint32_t frequency,
     double *SENYOLANDA_RESTRICT times, size_t times_count, double *SENYOLANDA_RESTRICT amounts, size_t amounts_count,
-    uint32_t *SENYOLANDA_RESTRICT flows);
+    uint32_t *SENYOLANDA_RESTRICT flows) SENYOLANDA_CHECKED;
 
-/* The present value of cash flows over the curve raised by so many points. Refuses 4, 5, 6, 7, 9. */
+/* The present value of cash flows over the curve raised by so many points: the sum of
+   amount * exp(-(rate + points / 10000) * time), 0 for no flows. Refuses 4, 5, 6, 7, 9. */
 senyolanda_result senyolanda_pv_cash_flows(
     const double *times, size_t times_count, const double *amounts, size_t amounts_count,
     const double *tenors, size_t tenors_count, const double *rates, size_t rates_count,
-    double points, double *SENYOLANDA_RESTRICT pv);
+    double points, double *SENYOLANDA_RESTRICT pv) SENYOLANDA_CHECKED;
 
-/* The points at which cash flows have the market price: found is 1; where no sign change lies between -500 and 2,000, found is 0
-   and points is the end that comes nearer. Refuses 4, 5, 6, 7, 9. */
+/* The points, to about 1e-8, at which cash flows have the market price: found is 1. Where their worth at -500 points and at 2,000
+   lies on one side of the market price, found is 0 and points is the end of the two that comes nearer to it.
+   Refuses 4, 5, 6, 7, 9. */
 senyolanda_result senyolanda_z_spread(
     const double *times, size_t times_count, const double *amounts, size_t amounts_count,
     const double *tenors, size_t tenors_count, const double *rates, size_t rates_count,
-    double market, double *SENYOLANDA_RESTRICT points, uint32_t *SENYOLANDA_RESTRICT found);
+    double market, double *SENYOLANDA_RESTRICT points, uint32_t *SENYOLANDA_RESTRICT found) SENYOLANDA_CHECKED;
 
-/* Two numbers, duration and convexity, of cash flows over the curve raised by so many points. Refuses 4, 5, 6, 7, 9. */
+/* Two numbers of cash flows over the curve raised by so many points: duration, the mean time weighed by present values, in years,
+   and convexity, the mean of the times squared, in years squared; both 0 for a worth below 1e-12 in size.
+   Refuses 4, 5, 6, 7, 9. */
 senyolanda_result senyolanda_duration_convexity(
     const double *times, size_t times_count, const double *amounts, size_t amounts_count,
     const double *tenors, size_t tenors_count, const double *rates, size_t rates_count,
-    double points, double sensitivity[SENYOLANDA_FILLED 2]);
+    double points, double sensitivity[SENYOLANDA_FILLED 2]) SENYOLANDA_CHECKED;
 
-/* The three of above over one list of dated amounts: time, amount, time, amount, .. An odd count is 4: a time without an amount.
-   Each refuses 4, 5, 6, 7, 9. */
+/* The three of above over one list of dated amounts: time, amount, time, amount, .. An odd count is 4: a time without an amount. A
+   bad flow's place is its index among the flows. Each refuses 4, 5, 6, 7, 9. */
 senyolanda_result senyolanda_dated_pv(
     const double *flows, size_t flows_count,
     const double *tenors, size_t tenors_count, const double *rates, size_t rates_count,
-    double points, double *SENYOLANDA_RESTRICT pv);
+    double points, double *SENYOLANDA_RESTRICT pv) SENYOLANDA_CHECKED;
 senyolanda_result senyolanda_dated_z_spread(
     const double *flows, size_t flows_count,
     const double *tenors, size_t tenors_count, const double *rates, size_t rates_count,
-    double market, double *SENYOLANDA_RESTRICT points, uint32_t *SENYOLANDA_RESTRICT found);
+    double market, double *SENYOLANDA_RESTRICT points, uint32_t *SENYOLANDA_RESTRICT found) SENYOLANDA_CHECKED;
 senyolanda_result senyolanda_dated_duration_convexity(
     const double *flows, size_t flows_count,
     const double *tenors, size_t tenors_count, const double *rates, size_t rates_count,
-    double points, double sensitivity[SENYOLANDA_FILLED 2]);
+    double points, double sensitivity[SENYOLANDA_FILLED 2]) SENYOLANDA_CHECKED;
 
-/* So many basis points as a decimal rate: the one step from points to rates. Never refused. */
+/* So many basis points as a decimal rate, points / 10000: the one step from points to rates. Never refused. */
 senyolanda_result senyolanda_points_to_decimal(double points, double *SENYOLANDA_RESTRICT rate);
 
-/* A dated amount: a list of them is lent as it is, its count in flows. */
+/* A dated amount, its time in years: a list of them is lent as it is, its count in flows. */
 struct senyolanda_cash_flow {
     double time, amount;
 };
 
-/* The three functions over dated amounts, for lists of cash flows. Each refuses 5, 6, 7, 9, and 4 for the curve's lists. */
-static inline senyolanda_result senyolanda_flows_pv(
+/* The three functions over dated amounts, for lists of cash flows; 4 is for the curve's lists. Each refuses 4, 5, 6, 7, 9. */
+static inline SENYOLANDA_CHECKED senyolanda_result senyolanda_flows_pv(
     const struct senyolanda_cash_flow *flows, size_t flows_count,
     const double *tenors, size_t tenors_count, const double *rates, size_t rates_count,
     double points, double *SENYOLANDA_RESTRICT pv) {
@@ -668,7 +752,7 @@ static inline senyolanda_result senyolanda_flows_pv(
         (const double *)flows, 2 * flows_count, tenors, tenors_count, rates, rates_count, points, pv);
 }
 
-static inline senyolanda_result senyolanda_flows_z_spread(
+static inline SENYOLANDA_CHECKED senyolanda_result senyolanda_flows_z_spread(
     const struct senyolanda_cash_flow *flows, size_t flows_count,
     const double *tenors, size_t tenors_count, const double *rates, size_t rates_count,
     double market, double *SENYOLANDA_RESTRICT points, uint32_t *SENYOLANDA_RESTRICT found) {
@@ -676,7 +760,7 @@ static inline senyolanda_result senyolanda_flows_z_spread(
         (const double *)flows, 2 * flows_count, tenors, tenors_count, rates, rates_count, market, points, found);
 }
 
-static inline senyolanda_result senyolanda_flows_duration_convexity(
+static inline SENYOLANDA_CHECKED senyolanda_result senyolanda_flows_duration_convexity(
     const struct senyolanda_cash_flow *flows, size_t flows_count,
     const double *tenors, size_t tenors_count, const double *rates, size_t rates_count,
     double points, double sensitivity[SENYOLANDA_FILLED 2]) {

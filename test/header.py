@@ -1,5 +1,6 @@
 #!/usr/bin/env python3
-"""header.py LIBRARY: include/senyolanda.h, the crate's exported functions and the library's symbols are one list.
+"""header.py LIBRARY: include/senyolanda.h, the crate's exported functions and the library's symbols are one list. The header asks for a
+warning of a dropped result exactly where the sentence before a function names refusals, and its version is the one that make reads.
 
 A function has the same name, the same answer and the same parameters in the header as in the crate: their order, their names,
 their types and their lengths.
@@ -13,6 +14,8 @@ their types and their lengths.
 
 A length may be a constant of another crate, as listing::ROOM. It also has to find fault with altered copies of the header.
 """
+import functools
+import os
 import pathlib
 import re
 import subprocess
@@ -20,6 +23,7 @@ import sys
 
 ROOT = pathlib.Path(__file__).resolve().parent.parent
 C_NAMES = {"u8": "uint8_t", "u32": "uint32_t", "u64": "uint64_t", "f64": "double"}
+WARNS = r"__attribute__\(\(warn_unused_result\)\)"
 
 # Copies of the header that are wrong in one place: what is replaced, and by what.
 ALTERED = [
@@ -28,7 +32,7 @@ ALTERED = [
     ("senyolanda_result senyolanda_ln(", "senyolanda_result senyolanda_log(double x); senyolanda_result senyolanda_ln("),
     ("senyolanda_power(double x, double y,", "senyolanda_power(double y, double x,"),
     ("senyolanda_power(double x, double y,", "senyolanda_power(double x,"),
-    ("senyolanda_ltv(const uint8_t *record, size_t length,", "senyolanda_ltv(const uint8_t *record,"),
+    ("const uint8_t *record, size_t length, double value,", "const uint8_t *record, double value,"),
     ("uint32_t day_count, uint32_t days,", "uint32_t day_count, double days,"),
     ("double totals[SENYOLANDA_FILLED 3]", "double totals[SENYOLANDA_FILLED 4]"),
     ("const double model[SENYOLANDA_READ 4]", "double model[SENYOLANDA_FILLED 4]"),
@@ -37,6 +41,13 @@ ALTERED = [
     ("const double *history,", "double *SENYOLANDA_RESTRICT history,"),
     ("double *SENYOLANDA_RESTRICT ratio", "double *ratio"),
     ("double *SENYOLANDA_RESTRICT ratio", "float *SENYOLANDA_RESTRICT ratio"),
+    ("uint32_t *SENYOLANDA_RESTRICT periods) SENYOLANDA_CHECKED;", "uint32_t *SENYOLANDA_RESTRICT periods);"),
+    ("inline SENYOLANDA_CHECKED senyolanda_result senyolanda_loan_draw(", "inline senyolanda_result senyolanda_loan_draw("),
+    ("double y, double *SENYOLANDA_RESTRICT answer);", "double y, double *SENYOLANDA_RESTRICT answer) SENYOLANDA_CHECKED;"),
+    ("compounded once a year. Refuses 7, 9. */", "compounded once a year. Never refused. */"),
+    ("#define SENYOLANDA_CHECKED __attribute__((warn_unused_result))", "#define SENYOLANDA_CHECKED"),
+    ("#define SENYOLANDA_VERSION_MINOR ", "#define SENYOLANDA_VERSION_MINOR 1"),
+    ("SENYOLANDA_DOTTED(SENYOLANDA_VERSION_MAJOR, ", "SENYOLANDA_DOTTED(1 + SENYOLANDA_VERSION_MAJOR, "),
 ]
 
 
@@ -100,12 +111,56 @@ def with_lists(parameters):
     return folded
 
 
+@functools.cache
+def preprocessed(text):
+    return re.sub(r"\s+", " ", output_of("cc", "-std=c99", "-E", "-P", "-x", "c", "-", given=text))
+
+
 def functions_of_header(text):
-    text = output_of("cc", "-std=c99", "-E", "-P", "-x", "c", "-", given=text)
+    text = preprocessed(text)
     types = {new: old for old, new in re.findall(r"typedef (\w+) (senyolanda_\w+);", text)}
-    text = re.sub(r"\s+", " ", text)
     return {name: (types[answer], with_lists([parameter_of_header(one.strip()) for one in parameters.split(",")]))
-            for answer, name, parameters in re.findall(r"(senyolanda_\w+) (senyolanda_\w+)\(([^()]*)\);", text)}
+            for answer, name, parameters in re.findall(rf"(senyolanda_\w+) (senyolanda_\w+)\(([^()]*)\)(?: {WARNS})? ?;", text)}
+
+
+def refusals_in(text):
+    """For each function of the header the refusals that the sentence before it ends with; one sentence may serve several functions."""
+    declared, last = {}, set()
+    function = r"^(?:static inline )?(?:SENYOLANDA_CHECKED )?senyolanda_result (\w+)\("
+    for comment, name in re.findall(rf"/\*((?:(?!\*/).)*)\*/|{function}", text, re.S | re.M):
+        if name:
+            declared[name] = last
+        else:
+            said = re.search(r"[Rr]efuses ([0-9, ]+)\.\s*$", comment)
+            last = set(map(int, said[1].split(","))) if said else set()
+    return declared
+
+
+def marked_in(text):
+    """The functions whose dropped result the compiler warns of."""
+    text = preprocessed(text)
+    declared = re.findall(rf"senyolanda_result (senyolanda_\w+)\([^()]*\) {WARNS};", text)
+    defined = re.findall(rf"static inline {WARNS} senyolanda_result (senyolanda_\w+)\(", text)
+    return {*declared, *defined}
+
+
+def wrongly_marked(text):
+    refusals, marked = refusals_in(text), marked_in(text)
+    for name in refusals:
+        if bool(refusals[name]) != (name in marked):
+            yield f"{name} {'names no refusal and is' if name in marked else 'names refusals and is not'} marked SENYOLANDA_CHECKED"
+
+
+def version_of(text):
+    """The version as the header's string has it."""
+    return "".join(re.findall('"([^"]*)"', preprocessed(text + "\nversion: SENYOLANDA_VERSION\n").split("version:")[1]))
+
+
+def version_of_makefile():
+    """The version that make writes into senyolanda.pc."""
+    alone = {name: value for name, value in os.environ.items() if name not in ("MAKEFLAGS", "MAKELEVEL")}
+    return subprocess.run(["make", "-s", "--eval=version-alone: ; @echo $(VERSION)", "version-alone"], cwd=ROOT, env=alone,
+                          check=True, stdout=subprocess.PIPE, text=True).stdout.strip()
 
 
 def symbols_of(library):
@@ -114,8 +169,8 @@ def symbols_of(library):
     return {line.split()[-1] for line in output_of("nm", which, "--defined-only", library).splitlines() if " " in line}
 
 
-def faults(header, crate, symbols):
-    """What differs between the header's text, the crate's functions and the library's symbols."""
+def faults(header, crate, symbols, version):
+    """What differs between the header's text, the crate's functions, the library's symbols and the Makefile's version."""
     try:
         prototypes = functions_of_header(header)
     except Unreadable as fault:
@@ -127,28 +182,31 @@ def faults(header, crate, symbols):
     for name in sorted(prototypes.keys() & crate.keys()):
         if prototypes[name] != crate[name]:
             found.append(f"{name} differs\n  header {prototypes[name]}\n  crate  {crate[name]}")
+    found += wrongly_marked(header)
+    if version_of(header) != version:
+        found.append(f"the version is {version_of(header)} in the header and {version} in the Makefile")
     return found
 
 
-def unfound(header, crate, symbols):
+def unfound(header, crate, symbols, version):
     """The alterations that would not be found out."""
     for old, new in ALTERED:
         if old not in header:
             raise Unreadable(f"the header has no `{old}` to alter")
-        if not faults(header.replace(old, new, 1), crate, symbols):
+        if not faults(header.replace(old, new, 1), crate, symbols, version):
             yield f"`{new}` for `{old}`"
     for missing_or_more in ({"senyolanda_draw"}, {"a_symbol_of_another_name"}):
-        if not faults(header, crate, symbols ^ missing_or_more):
+        if not faults(header, crate, symbols ^ missing_or_more, version):
             yield f"{missing_or_more} in or out of the library"
 
 
 def main(library):
     header = (ROOT / "include" / "senyolanda.h").read_text()
-    crate, symbols = functions_of_crate(), symbols_of(library)
-    wrong = faults(header, crate, symbols) or [f"{what} is not found out" for what in unfound(header, crate, symbols)]
+    known = functions_of_crate(), symbols_of(library), version_of_makefile()
+    wrong = faults(header, *known) or [f"{what} is not found out" for what in unfound(header, *known)]
     if wrong:
         sys.exit("\n".join(f"header: {one}" for one in wrong))
-    print(f"header: {len(crate)} functions are alike in the header, the crate and {library}; altered copies are found out")
+    print(f"header: {len(known[0])} functions are alike in the header, the crate and {library}; altered copies are found out")
 
 
 if __name__ == "__main__":

@@ -7,7 +7,6 @@ no other; a refusal's place is an index of something lent; and a refusal leaves 
 import ctypes
 import pathlib
 import random
-import re
 import struct
 import sys
 
@@ -84,18 +83,6 @@ def flat(arguments, parameters):
             yield len(given)
 
 
-def refusals_in(text):
-    """For each function of the header the refusals that the sentence before it ends with; one sentence may serve several functions."""
-    declared, last = {}, set()
-    for comment, name in re.findall(r"/\*((?:(?!\*/).)*)\*/|^senyolanda_result (\w+)\(", text, re.S | re.M):
-        if name:
-            declared[name] = last
-        else:
-            said = re.search(r"[Rr]efuses ([0-9, ]+)\.\s*$", comment)
-            last = set(map(int, said[1].split(","))) if said else set()
-    return declared
-
-
 def faults(function, parameters, declared):
     """What a function does that the header does not say."""
     seen = set()
@@ -119,10 +106,11 @@ def faults(function, parameters, declared):
 
 def main(library):
     text = (header.ROOT / "include" / "senyolanda.h").read_text()
-    declared = refusals_in(text)
+    declared = header.refusals_in(text)
     loaded = ctypes.CDLL(str(pathlib.Path(library).resolve()))
     wrong = []
-    for name, (_, parameters) in header.functions_of_header(text).items():
+    functions = header.functions_of_header(text)
+    for name, (_, parameters) in functions.items():
         function = getattr(loaded, name)
         function.restype = ctypes.c_uint64
         function.argtypes = [
@@ -132,7 +120,7 @@ def main(library):
         wrong += [f"{name} {fault}" for fault in dict.fromkeys(faults(function, parameters, declared[name]))]
     if wrong:
         sys.exit("\n".join(f"refusals: {one}" for one in wrong))
-    print(f"refusals: {len(declared)} functions refuse what the header says, and touch nothing then")
+    print(f"refusals: {len(functions)} functions refuse what the header says, and touch nothing then")
 
 
 if __name__ == "__main__":

@@ -1,13 +1,26 @@
 /*
- * What the header adds of its own: numbers and words of refusals, and functions over structs, which give what those over plain
- * numbers give.
+ * What the header adds of its own: its version, numbers and words of refusals, and functions over structs, which give what those
+ * over plain numbers give; and what its sentences say of units and of edges, where no other program asks.
  */
 #include "functions.h"
 
 #include <math.h>
+#include <stdio.h>
 #include <string.h>
 
 static const struct claim matrix[] = { END_OF_MATRIX };
+
+/* The string has the three numbers, and a later version is a larger number. */
+static void version(void) {
+    char words[40];
+    snprintf(words, sizeof words, "%d.%d.%d", SENYOLANDA_VERSION_MAJOR, SENYOLANDA_VERSION_MINOR, SENYOLANDA_VERSION_PATCH);
+    CHECK(strcmp(words, SENYOLANDA_VERSION) == 0);
+    CHECK(SENYOLANDA_VERSION_NUMBER
+        == SENYOLANDA_VERSION_OF(SENYOLANDA_VERSION_MAJOR, SENYOLANDA_VERSION_MINOR, SENYOLANDA_VERSION_PATCH));
+    CHECK(SENYOLANDA_VERSION_OF(1, 2, 3) < SENYOLANDA_VERSION_OF(1, 2, 4));
+    CHECK(SENYOLANDA_VERSION_OF(1, 2, 999) < SENYOLANDA_VERSION_OF(1, 3, 0));
+    CHECK(SENYOLANDA_VERSION_OF(1, 999, 999) < SENYOLANDA_VERSION_OF(2, 0, 0));
+}
 
 static void results(void) {
     senyolanda_result result = refusal(SENYOLANDA_BAD_KNOT, UINT32_MAX);
@@ -120,8 +133,156 @@ static void flows(void) {
     IS(pv, 200);
 }
 
+/* A loan's payment column is its payment, also where less is owed; interest that it does not cover is not owed later. */
+static void payments(void) {
+    struct record record = loan_record();
+    struct senyolanda_loan loan;
+    double room[2 * SENYOLANDA_ROW_PLACES];
+    uint32_t written, owed;
+    CHECK(senyolanda_loan_open_with_payment(record.bytes, record.length, 4000, &loan) == 0);
+    CHECK(senyolanda_loan_draw(&loan, room, 2 * SENYOLANDA_ROW_PLACES, &written, &owed) == 0);
+    IS(senyolanda_row_at(room, 0).payment, 4000);
+    IS(senyolanda_row_at(room, 0).principal, 1000);
+    CHECK(senyolanda_loan_open_with_payment(record.bytes, record.length, 100, &loan) == 0);
+    CHECK(senyolanda_loan_draw(&loan, room, 2 * SENYOLANDA_ROW_PLACES, &written, &owed) == 0);
+    IS(senyolanda_row_at(room, 0).interest, 500);
+    IS(senyolanda_row_at(room, 0).balance, 1000);
+}
+
+/* A loan that was cut is the one at index finished, and starts again when the book goes on from there. */
+static void book(void) {
+    uint8_t records[2 * SENYOLANDA_LOAN_BYTES];
+    double room[3 * SENYOLANDA_ROW_PLACES], rest[2 * SENYOLANDA_ROW_PLACES];
+    uint32_t answers[2], finished = 9, cut = 9, waiting = 9;
+    senyolanda_write_loan(1000, 6, 2, records);
+    senyolanda_write_loan(1000, 0, 2, records + SENYOLANDA_LOAN_BYTES);
+    CHECK(senyolanda_draw_book(records, sizeof records, answers, 2, room, 15, &finished, &cut, &waiting) == 0);
+    CHECK(finished == 1 && cut == 1 && waiting == 0);
+    CHECK(senyolanda_draw_book(records + finished * SENYOLANDA_LOAN_BYTES, sizeof records - finished * SENYOLANDA_LOAN_BYTES,
+        answers, 1, rest, 10, &finished, &cut, &waiting) == 0);
+    CHECK(finished == 1 && cut == 0 && waiting == 0);
+    CHECK(memcmp(rest, room + 2 * SENYOLANDA_ROW_PLACES, sizeof *rest * SENYOLANDA_ROW_PLACES) == 0);
+}
+
+/* The worked-out payment at a rate of 0, at one that 1 does not feel, and at one whose power overflows. */
+static void worked_out(void) {
+    static const double rates[] = { 0, 1e-15, 12 }, wanted[] = { 1, INFINITY, NAN };
+    uint8_t loan[SENYOLANDA_LOAN_BYTES];
+    for (size_t i = 0; i < 3; i++) {
+        double payment = 0;
+        senyolanda_write_loan(1200, rates[i], SENYOLANDA_MOST_MONTHS, loan);
+        CHECK(senyolanda_monthly_payment(loan, sizeof loan, &payment) == 0);
+        IS(payment, wanted[i]);
+    }
+}
+
+static void savings(void) {
+    struct record record = loan_record();
+    uint32_t months = 9;
+    double interest = 9;
+    CHECK(senyolanda_prepayment_savings(record.bytes, record.length, -1, &months, &interest) == 0);
+    CHECK(months == 0);
+    IS(interest, 0);
+    CHECK(senyolanda_prepayment_savings(record.bytes, record.length, NAN, &months, &interest) == 0);
+    CHECK(months == 1);
+    IS(interest, 300);
+}
+
+/* A part of the price for a basis point, and for a change of the yield; no amounts. */
+static void bond_units(void) {
+    uint8_t bond[SENYOLANDA_BOND_BYTES];
+    double price = 0, higher = 0, dv01 = 0, duration = 0, change = 0, ytm = 0;
+    CHECK(senyolanda_write_bond(1000, 0.05, 10, SENYOLANDA_SEMI_ANNUAL, bond) == 0);
+    CHECK(senyolanda_bond_price(bond, sizeof bond, 0.05, &price) == 0);
+    CHECK(senyolanda_bond_price(bond, sizeof bond, 0.051, &higher) == 0);
+    CHECK(senyolanda_bond_dv01(bond, sizeof bond, 0.05, &dv01) == 0);
+    CHECK(senyolanda_bond_modified_duration(bond, sizeof bond, 0.05, &duration) == 0);
+    IS_NEAR(dv01 / price, 0.0001 * duration, 1e-6);
+    CHECK(senyolanda_bond_price_change(bond, sizeof bond, 0.05, 0.001, &change) == 0);
+    IS_NEAR(change, (higher - price) / price, 1e-6);
+    CHECK(change < 0);
+
+    /* At a yield of 0 it pays 1,500, and that yield is not found. */
+    CHECK(senyolanda_bond_price(bond, sizeof bond, 0, &price) == 0);
+    IS(price, 1500);
+    CHECK(senyolanda_bond_yield_to_maturity(bond, sizeof bond, 1500, &ytm) == refusal(SENYOLANDA_NO_YIELD, 0));
+
+    /* Less than half a period, which is a quarter of a year: the face, at every yield. */
+    CHECK(senyolanda_write_bond(1000, 0.05, 0.24, SENYOLANDA_SEMI_ANNUAL, bond) == 0);
+    CHECK(senyolanda_bond_price(bond, sizeof bond, 0.3, &price) == 0);
+    IS(price, 1000);
+    CHECK(senyolanda_bond_modified_duration(bond, sizeof bond, 0.3, &duration) == 0);
+    IS(duration, 0);
+    CHECK(senyolanda_bond_yield_to_maturity(bond, sizeof bond, 1000, &ytm) == 0);
+    IS(ytm, 0.999);
+}
+
+/* The pool's months at a history that ends; all together they may pay more than was lent. */
+static void pool_months(void) {
+    static const double history[] = { 0.5, 0.5 };
+    uint8_t loan[SENYOLANDA_LOAN_BYTES];
+    double room[4 * SENYOLANDA_POOL_MONTH_PLACES], duration = 0, price = 0, higher = 0, smm = 9;
+    uint32_t months = 0;
+    senyolanda_write_loan(1200, 0, 4, loan);
+    CHECK(senyolanda_pool_cash_flows(loan, sizeof loan, SENYOLANDA_HISTORY, 9, history, 2, room, 12, &months) == 0);
+    CHECK(months == 4);
+    IS(room[2], 450);
+    IS(room[5], 300);
+    IS(room[8], 0);
+    CHECK(senyolanda_pool_price(loan, sizeof loan, SENYOLANDA_HISTORY, 9, history, 2, 0, &price) == 0);
+    IS(price, 1950);
+    CHECK(senyolanda_pool_price(loan, sizeof loan, SENYOLANDA_HISTORY, 9, history, 2, 0.0001, &higher) == 0);
+    CHECK(senyolanda_pool_duration(loan, sizeof loan, SENYOLANDA_HISTORY, 9, history, 2, 0, &duration) == 0);
+    IS_NEAR((price - higher) / price, 0.0001 * duration, 1e-8);
+    CHECK(senyolanda_monthly_smm(SENYOLANDA_PSA, 1, NULL, 0, 0, &smm) == 0);
+    IS(smm, 0);
+    CHECK(senyolanda_monthly_smm(SENYOLANDA_CPR, 1.5, NULL, 0, 1, &smm) == 0);
+    CHECK(isnan(smm));
+    CHECK(senyolanda_pool_cash_flows(NULL, 0, SENYOLANDA_CPR, 0.06, NULL, 0, NULL, 0, &months) == 0);
+    CHECK(months == 0);
+}
+
+/* What points cannot tell, what no rate serves, and what has no period. */
+static void curve_edges(void) {
+    static const double times[] = { 1, 2, 3 }, rates[] = { 0.05, 0.06, 0.065 }, par[] = { -2, 1e9 };
+    static const double late[] = { 20, 25, 30 };
+    double model[4], zeros[SENYOLANDA_MOST_KNOTS], rate = 0;
+    uint8_t swap[SENYOLANDA_SWAP_BYTES];
+    CHECK(senyolanda_nelson_siegel_fit(times, 1, rates, 1, model) == 0);
+    CHECK(model[0] == 0.05 && model[1] == 0 && model[2] == 0 && model[3] == 0.5);
+    CHECK(senyolanda_nelson_siegel_fit(times, 2, rates, 2, model) == 0);
+    CHECK(model[0] == 0 && model[1] == 0 && model[2] == 0 && model[3] == 0.5);
+    CHECK(senyolanda_nelson_siegel_fit(late, 3, rates, 3, model) == 0);
+    CHECK(model[0] == 0 && model[1] == 0 && model[2] == 0);
+    CHECK(senyolanda_nelson_siegel_fit(times, 3, rates, 3, model) == 0);
+    CHECK(model[0] != 0 && model[1] != 0 && model[2] != 0);
+    CHECK(senyolanda_bootstrap(times, 1, par, 1, zeros) == 0);
+    CHECK(isnan(zeros[0]));
+    CHECK(senyolanda_bootstrap(times, 1, par + 1, 1, zeros) == 0);
+    IS(zeros[0], senyolanda_ln_of(1 + 1e9));
+    CHECK(senyolanda_write_swap(1000, 0.05, 0.2, 2, SENYOLANDA_ACTUAL_365, swap) == 0);
+    CHECK(senyolanda_par_swap_rate(swap, sizeof swap, times, 3, rates, 3, &rate) == 0);
+    CHECK(!isfinite(rate));
+}
+
+/* A swap's dv01 is for a rise of every zero rate: who receives fixed loses. */
+static void swap_signs(void) {
+    static const double tenors[] = { 1 }, zeros[] = { 0.03 }, higher[] = { 0.0301 };
+    uint8_t swap[SENYOLANDA_SWAP_BYTES];
+    double npv = 0, risen = 0, dv01 = 0;
+    CHECK(senyolanda_write_swap(1000, 0.05, 5, 1, SENYOLANDA_ACTUAL_365, swap) == 0);
+    for (uint32_t receives = 0; receives < 3; receives++) {
+        CHECK(senyolanda_swap_npv(swap, sizeof swap, tenors, 1, zeros, 1, receives, &npv) == 0);
+        CHECK(senyolanda_swap_npv(swap, sizeof swap, tenors, 1, higher, 1, receives, &risen) == 0);
+        CHECK(senyolanda_swap_dv01(swap, sizeof swap, tenors, 1, zeros, 1, receives, &dv01) == 0);
+        IS_NEAR(dv01, risen - npv, 1e-9);
+        CHECK((npv > 0) == (receives != 0) && (dv01 < 0) == (receives != 0));
+    }
+}
+
 int main(int arguments, char **words) {
     open_tests("test_header", matrix, arguments, words);
+    version();
     results();
     refusals();
     numbers();
@@ -129,5 +290,13 @@ int main(int arguments, char **words) {
     next_row();
     rows();
     flows();
+    payments();
+    book();
+    worked_out();
+    savings();
+    bond_units();
+    pool_months();
+    curve_edges();
+    swap_signs();
     return close_checks();
 }
