@@ -33,14 +33,19 @@ static void put_error(const char *words) {
     fputs(words, stderr);
 }
 
+static enum status unknown(const char *word) {
+    return fail("there is no %s '%s'; senyolanda --help says which there are", *word == '-' ? "option" : "command", word);
+}
+
+/* The help of a command, or of the program where no command is named. */
 static enum status help(const char *name) {
-    if (name == NULL) {
+    const struct command *command = name != NULL ? named_command(name) : NULL;
+    if (name != NULL && command == NULL) return unknown(name);
+    if (command != NULL) {
+        put_words(command->help);
+    } else {
         put_usage(put_words);
-        return DONE;
     }
-    const struct command *command = named_command(name);
-    if (command == NULL) return fail("there is no command '%s'; senyolanda --help lists them", name);
-    put_words(command->help);
     return DONE;
 }
 
@@ -55,8 +60,7 @@ static enum status run(char **words) {
         return DONE;
     }
     const struct command *command = named_command(*words);
-    if (command != NULL) return run_command(command, words + 1);
-    return fail("there is no %s '%s'; senyolanda --help says which there are", **words == '-' ? "option" : "command", *words);
+    return command != NULL ? run_command(command, words + 1) : unknown(*words);
 }
 
 int main(int argc, char **argv) {
