@@ -345,7 +345,7 @@ senyolanda_result senyolanda_refinance_breakeven(
    the bytes past size stay. Refuses 1, 2, 11. */
 senyolanda_result senyolanda_listing(
     const uint8_t *record, size_t length,
-    uint8_t text[SENYOLANDA_FILLED SENYOLANDA_LISTING_BYTES], uint32_t *SENYOLANDA_RESTRICT size);
+    uint8_t text[SENYOLANDA_FILLED SENYOLANDA_LISTING_BYTES], uint32_t *SENYOLANDA_RESTRICT size) SENYOLANDA_CHECKED;
 
 /* A loan in hand. Open it, draw from it, keep it as long as you like; only an opening fills it. */
 struct senyolanda_loan {
