@@ -270,7 +270,7 @@ senyolanda_result senyolanda_write_swap(
 /* ---- loans: the terms come as a loan's record ---- */
 
 /* The level monthly payment that repays the loan over its term; at a rate of 0, principal over term. Any other rate that leaves
-   1 + rate / 12 at 1 gives infinity, and one whose power of the term overflows NaN. Refuses 1, 2, 11. */
+   1 + rate / 12 at 1, or whose power of the term overflows, gives infinity or NaN. Refuses 1, 2, 11. */
 senyolanda_result senyolanda_monthly_payment(
     const uint8_t *record, size_t length, double *SENYOLANDA_RESTRICT payment) SENYOLANDA_CHECKED;
 
