@@ -22,7 +22,7 @@ enum {
 /* ---- what the calls take and fill ---- */
 
 static uint8_t loan[SENYOLANDA_LOAN_BYTES], new_loan[SENYOLANDA_LOAN_BYTES], pool[LOANS * SENYOLANDA_LOAN_BYTES];
-static uint8_t bond[SENYOLANDA_BOND_BYTES], row[SENYOLANDA_ROW_BYTES], swap[SENYOLANDA_SWAP_BYTES];
+static uint8_t bond[SENYOLANDA_BOND_BYTES], row[SENYOLANDA_ROW_BYTES], swap[SENYOLANDA_SWAP_BYTES], text[SENYOLANDA_LISTING_BYTES];
 static double times[KNOTS], rates[KNOTS], zeros[KNOTS], model[4] = { 0.05, -0.02, 0.01, 0.5 };
 static double flow_times[FLOWS], amounts[FLOWS], dated[2 * FLOWS], history[MONTHS], bond_times[FLOWS], bond_amounts[FLOWS];
 static double room[MONTHS * SENYOLANDA_ROW_PLACES], asked[MONTHS], numbers[8], x, rate, payment, balance;
@@ -86,6 +86,7 @@ static void set_out(void) {
     CALL(ltv, (LOAN, 500000.0, &x))                                                                     \
     CALL(prepayment_savings, (LOAN, 10.0, &count, &x))                                                  \
     CALL(refinance_breakeven, (LOAN, OF(new_loan), 1000.0, 12, &count))                                 \
+    CALL(listing, (LOAN, text, &count))                                                                 \
     CALL(monthly_smm, (SENYOLANDA_PSA, 1.5, OF(history), 12, &x))                                       \
     CALL(pool_cash_flows, (POOL, OF(room), &count))                                                     \
     CALL(pool_price, (POOL, 0.05, &x))                                                                  \

@@ -66,6 +66,9 @@ extern "C" {
 #define SENYOLANDA_ROW_BYTES 37
 #define SENYOLANDA_SWAP_BYTES 30
 
+/* Bytes enough for the listing of any loan. */
+#define SENYOLANDA_LISTING_BYTES 96000
+
 /* Places of a row in a draw's room, and of a month in a pool's. */
 #define SENYOLANDA_ROW_PLACES 5
 #define SENYOLANDA_POOL_MONTH_PLACES 3
@@ -292,6 +295,14 @@ senyolanda_result senyolanda_prepayment_savings(
 senyolanda_result senyolanda_refinance_breakeven(
     const uint8_t *old_record, size_t old_length, const uint8_t *new_record, size_t new_length,
     double cost, uint32_t elapsed, uint32_t *SENYOLANDA_RESTRICT month);
+
+/* The whole schedule at the worked-out payment, as text: a line of column names; a line for each row, its month in decimal and each
+   amount as the 16 hexadecimal digits of its binary64, a NaN as 7ff8000000000000; and a line that counts the rows and how many are
+   left. Spaces stand between, and a newline ends each line. size is how many bytes the text has: no zero byte is put at its end, and
+   the bytes past size stay. Refuses 1, 2, 11. */
+senyolanda_result senyolanda_listing(
+    const uint8_t *record, size_t length,
+    uint8_t text[SENYOLANDA_FILLED SENYOLANDA_LISTING_BYTES], uint32_t *SENYOLANDA_RESTRICT size);
 
 /* A loan in hand. Open it, draw from it, keep it as long as you like; only an opening fills it. */
 struct senyolanda_loan {
@@ -677,26 +688,27 @@ static inline senyolanda_result senyolanda_flows_duration_convexity(
  * STACK. The bytes of stack that each function (senyolanda_..) touches beyond the call itself, at the largest input that it takes:
  * the larger of what was measured for Arm and for x86-64.
  *
- *     58816 dated_z_spread                       488 bond_price_change                    16 zero_coupon_bond_price
- *     41216 dated_duration_convexity             472 bond_modified_duration               16 zero_curve_discount_factor
- *     41200 dated_pv                             456 bond_macaulay_duration                8 bond_cash_flows
- *     38704 pool_convexity                       408 draw_book                             0 bond_current_yield
- *     38704 pool_duration                        376 discount_curve_rate_each              0 bond_dv01
- *     38608 pool_price                           376 linear_interpolate_each               0 bond_price
- *     20352 z_spread                             336 bond_yield_to_maturity                0 day_count_fraction
- *      9824 pool_cash_flows                      244 swap_curve_rate_each                  0 discount_curve_rate
- *      8752 bootstrap                            244 zero_curve_rate_each                  0 linear_interpolate
- *      3968 cubic_spline_interpolate             184 draw                                  0 ln
- *      3712 value_swap                           112 par_yield                             0 ltv
- *      3600 swap_dv01                             96 zero_curve_forward_rate               0 monthly_payment
- *      2752 duration_convexity                    64 nelson_siegel_forward_rate            0 nelson_siegel_instantaneous_forward
- *      2720 pv_cash_flows                         64 nelson_siegel_yield                   0 nelson_siegel_metrics
- *      2480 swap_duration                         64 swap_curve_rate                       0 next_row
- *      2448 swap_npv                              64 zero_curve_rate                       0 periods_per_year
- *      2432 fixed_leg_pv                          48 discount_curve_factor                 0 points_to_decimal
- *      2432 floating_leg_pv                       48 read_swap                             0 prepayment_savings
- *      2432 par_swap_rate                         40 open                                  0 read_loan
- *      1920 nelson_siegel_fit                     40 open_with_payment                     0 remaining_balance
+ *     58816 dated_z_spread                       488 bond_macaulay_duration_at_price      16 yield_curve_discount_factor
+ *     41216 dated_duration_convexity             488 bond_price_change                    16 zero_coupon_bond_price
+ *     41200 dated_pv                             472 bond_modified_duration               16 zero_curve_discount_factor
+ *     38704 pool_convexity                       456 bond_macaulay_duration                8 bond_cash_flows
+ *     38704 pool_duration                        408 draw_book                             0 bond_current_yield
+ *     38608 pool_price                           376 discount_curve_rate_each              0 bond_dv01
+ *     20352 z_spread                             376 linear_interpolate_each               0 bond_price
+ *      9824 pool_cash_flows                      336 bond_yield_to_maturity                0 day_count_fraction
+ *      8768 bootstrap                            244 swap_curve_rate_each                  0 discount_curve_rate
+ *      3968 cubic_spline_interpolate             244 zero_curve_rate_each                  0 linear_interpolate
+ *      3712 value_swap                           184 draw                                  0 ln
+ *      3600 swap_dv01                            112 par_yield                             0 ltv
+ *      2752 duration_convexity                    96 zero_curve_forward_rate               0 monthly_payment
+ *      2720 pv_cash_flows                         64 nelson_siegel_forward_rate            0 nelson_siegel_instantaneous_forward
+ *      2480 swap_duration                         64 nelson_siegel_yield                   0 nelson_siegel_metrics
+ *      2448 swap_npv                              64 swap_curve_rate                       0 next_row
+ *      2432 fixed_leg_pv                          64 zero_curve_rate                       0 periods_per_year
+ *      2432 floating_leg_pv                       48 discount_curve_factor                 0 points_to_decimal
+ *      2432 par_swap_rate                         48 read_swap                             0 prepayment_savings
+ *      1920 nelson_siegel_fit                     40 open                                  0 read_loan
+ *       936 listing                               40 open_with_payment                     0 remaining_balance
  *       864 discount_curve_factor_each            32 monthly_smm                           0 total_interest
  *       864 yield_curve_discount_factor_each      32 read_row                              0 write_bond
  *       864 zero_curve_discount_factor_each       32 refinance_breakeven                   0 write_loan
@@ -704,7 +716,6 @@ static inline senyolanda_result senyolanda_flows_duration_convexity(
  *       520 bond_convexity_at_price               24 read_bond                             0 write_swap
  *       504 bond_modified_duration_at_price       16 exp                                   0 yield_curve_forward_rate
  *       488 bond_convexity                        16 power
- *       488 bond_macaulay_duration_at_price       16 yield_curve_discount_factor
  */
 
 #ifdef __cplusplus

@@ -1,6 +1,6 @@
 #!/usr/bin/env python3
-"""from_python.py LIBRARY: the shared library as a Python program calls it, by ctypes. Loans are opened, drawn in portions and held to
-document 01's figures; refusals give number and place and leave lent memory alone."""
+"""from_python.py LIBRARY: the shared library as a Python program calls it, by ctypes. Loans are opened, drawn in portions, listed and held
+to document 01's figures; refusals give number and place and leave lent memory alone."""
 import ctypes
 import struct
 import sys
@@ -36,6 +36,7 @@ open_ = function("senyolanda_open", *BYTES, COUNT, NUMBER, NUMBER, COUNT, NUMBER
 open_with_payment = function("senyolanda_open_with_payment", *BYTES, c_double, COUNT, NUMBER, NUMBER, COUNT, NUMBER)
 draw = function("senyolanda_draw", c_uint32, c_double, c_double, COUNT, NUMBER, *NUMBERS, COUNT, COUNT)
 pool_totals = function("senyolanda_pool_totals", *BYTES, NUMBER)
+listing = function("senyolanda_listing", *BYTES, POINTER(c_uint8), COUNT)
 
 
 class Loan:
@@ -79,6 +80,13 @@ def bits(rows):
     return [" ".join([f"{row[0]:.0f}", *map(digits, row[1:])]) for row in rows]
 
 
+def listed(principal, rate, term, text, size):
+    """The lines that a listing puts into the text."""
+    record = record_of(principal, rate, term)
+    listing(record, len(record), text, byref(size))
+    return bytes(text[:size.value]).decode("ascii").splitlines()
+
+
 def same(got, want):
     if got != want:
         sys.exit(f"from Python: got {got} and not {want}")
@@ -117,10 +125,18 @@ same(refusal(Loan, 1200.0, 0.0, 0), (2, 0))
 same(refusal(Loan, -1.0, 0.0, 3), (1, 0))
 same(refusal(open_, None, 0, *map(byref, loan.state)), (11, 0))
 
+# A listing is the same rows between its header and its footer; the bytes behind it stay, and a refusal leaves all of them.
+text, size = (c_uint8 * 96000)(*[7] * 96000), c_uint32()
+same(refusal(listed, 1200.0, 0.0, 1201, text, size), (2, 0))
+same((bytes(text), size.value), (b"\7" * 96000, 0))
+same(listed(1000.0, 6.0, 2, text, size), [
+    "month payment principal interest balance", *bits(Loan(1000.0, 6.0, 2).rows(5)), "rows 2 left 0"])
+same(bytes(text[size.value:]), b"\7" * (96000 - size.value))
+
 # A pool whose third loan owes less than nothing: the place is its index.
 pool = b"".join(map(bytes, [record_of(1200.0, 0.0, 3), record_of(1000.0, 6.0, 2), record_of(-1.0, 0.0, 3)]))
 totals = (c_double * 3)(1.5, 1.5, 1.5)
 same(refusal(pool_totals, (c_uint8 * len(pool))(*pool), len(pool), totals), (1, 2))
 same(totals[:], [1.5] * 3)
 
-print("from Python: loans drawn in portions, and refusals that touch nothing")
+print("from Python: loans drawn in portions and listed, and refusals that touch nothing")

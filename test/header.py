@@ -11,7 +11,7 @@ their types and their lengths.
     &[f64; 4]          const double [static 4]
     &mut [u8; 21]      uint8_t [restrict static 21]
 
-It also has to find fault with altered copies of the header.
+A length may be a constant of another crate, as listing::ROOM. It also has to find fault with altered copies of the header.
 """
 import pathlib
 import re
@@ -33,6 +33,7 @@ ALTERED = [
     ("double totals[SENYOLANDA_FILLED 3]", "double totals[SENYOLANDA_FILLED 4]"),
     ("const double model[SENYOLANDA_READ 4]", "double model[SENYOLANDA_FILLED 4]"),
     ("#define SENYOLANDA_ROW_BYTES 37", "#define SENYOLANDA_ROW_BYTES 36"),
+    ("#define SENYOLANDA_LISTING_BYTES 96000", "#define SENYOLANDA_LISTING_BYTES 95999"),
     ("const double *history,", "double *SENYOLANDA_RESTRICT history,"),
     ("double *SENYOLANDA_RESTRICT ratio", "double *ratio"),
     ("double *SENYOLANDA_RESTRICT ratio", "float *SENYOLANDA_RESTRICT ratio"),
@@ -56,8 +57,17 @@ def parameter_of_crate(text):
     return name, C_NAMES[value or one or item], way, "1" if not item else length or "a list"
 
 
+def constant(crate, name):
+    """The number that a crate's constant stands for."""
+    found = re.search(rf"^pub const {name}: usize = (\d+);", (ROOT / "crates" / crate / "src" / "lib.rt").read_text(), re.M)
+    if not found:
+        raise Unreadable(f"the crate {crate} has no number {name}")
+    return found[1]
+
+
 def functions_of_crate():
     text = "".join(re.sub("//.*", "", path.read_text()) for path in sorted(ROOT.glob("crates/senyolanda/src/**/*.rt")))
+    text = re.sub(r"; (\w+)::(\w+)\]", lambda length: f"; {constant(*length.groups())}]", text)
     found = re.findall(r'#\[no_mangle\]\s*pub extern "C" fn (\w+)\(([^)]*)\)\s*->\s*(\w+)', text)
     if not found or len(found) != text.count('extern "C"'):
         raise Unreadable('the crate has an extern "C" that is not `#[no_mangle] pub extern "C" fn NAME(..) -> TYPE`')

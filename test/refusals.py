@@ -23,6 +23,7 @@ SANE_NUMBERS = [0.01, 0.05, 0.5, 1.0, 2.0, 10.0, 100.0, 250000.0]
 
 pick = random.Random(1).choice
 chance = random.Random(2).random
+any_bytes = random.Random(3).randbytes
 
 
 def number():
@@ -68,6 +69,8 @@ def argument(name, item, way, extent, usual):
         values = values if item == "double" else [count() for _ in values]
     elif way == "by value":
         return number() if item == "double" else count()
+    elif item == "uint8_t":
+        return (ctypes.c_uint8 * int(extent)).from_buffer_copy(any_bytes(int(extent)))
     else:
         values = [number() if item == "double" else count() % 256 for _ in range(int(extent))]
     return (C_TYPES[item] * len(values))(*values)

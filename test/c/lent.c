@@ -7,7 +7,7 @@
 #include <sys/mman.h>
 #include <unistd.h>
 
-enum { PIECES = 16, ROOMY = 1 << 16, FRINGE = 64, PATTERN = 0xa5 };
+enum { PIECES = 16, ROOMY = 1 << 17, FRINGE = 64, PATTERN = 0xa5 };
 
 struct piece {
     uint8_t *first, *end;      /* the pages between the two that nobody may touch */
@@ -140,12 +140,15 @@ uint32_t answered_count(size_t k) {
     return *(const uint32_t *)(const void *)answered_bytes(k);
 }
 
-int answered_numbers_stay(size_t k, size_t from) {
+int answered_bytes_stay(size_t k, size_t from) {
     const struct piece *piece = written_piece(k);
-    size_t at = from * sizeof(double);
-    return memcmp(piece->before + at, piece->memory + at, piece->size - at) == 0;
+    return memcmp(piece->before + from, piece->memory + from, piece->size - from) == 0;
+}
+
+int answered_numbers_stay(size_t k, size_t from) {
+    return answered_bytes_stay(k, from * sizeof(double));
 }
 
 int answered_stays(size_t k) {
-    return answered_numbers_stay(k, 0);
+    return answered_bytes_stay(k, 0);
 }

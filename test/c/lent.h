@@ -59,8 +59,9 @@ const double *answered_numbers(size_t k);
 const uint8_t *answered_bytes(size_t k);
 uint32_t answered_count(size_t k);
 
-/* Whether such a piece is as it was lent: all of it, or its numbers from an index on. */
+/* Whether such a piece is as it was lent: all of it, or its bytes or its numbers from an index on. */
 int answered_stays(size_t k);
+int answered_bytes_stay(size_t k, size_t from);
 int answered_numbers_stay(size_t k, size_t from);
 
 #endif

@@ -26,7 +26,7 @@ use Rattle.swaps.specs.Discount.{share, alongZeros, zeroRateOf, rateAt}
 use Rattle.pool.specs.declared.speed.Speed.the-variants.{History}
 use Rattle.pool.specs.Speed.{smm}
 use Rattle.listing.specs.Digits.{hexDigits, decimalDigits, decimal}
-use Rattle.listing.specs.Listing.{spaced, rowLine, footer, refusedLine, loanLines, termsLines, listing}
+use Rattle.listing.specs.Listing.{spaced, rowLine, footer, loanLines, listed as recordLines, saying, listing}
 
 -- a whole number as a float, and any by its pattern
 abbrev number : ℕ → Float
@@ -111,7 +111,7 @@ pub record Figures : Type 0 where
   pub past-the-end : smm History (pattern 0x3fe0_0000_0000_0000 ∷ []) 2 ≡ pattern 0
 
 pub figures : Figures
-unfolding nearestWhole absolute badAmount badNumber unequal badKnotCount badKnot badKnotsAfter badKnots badTime segmentEnding flatOutside share alongZeros zeroRateOf rateAt smm badTerm badRecord firstOr judged turns wholePower negativePower periodCoupon periods badMaturity periodRate undiscounted discount discounted priceOf price valueOf wholeAt floatAt readTerms termsIn monthlyRate growth levelPayment payment monthlyPayment loanOf openedWith opened endMonth due last interestOf principalOf paymentOf newBalance rowOf nextOf stepped written hexDigits decimalDigits decimal spaced rowLine footer refusedLine loanLines termsLines listing add sub mul div lt le eq ofInt ofBits toBits
+unfolding nearestWhole absolute badAmount badNumber unequal badKnotCount badKnot badKnotsAfter badKnots badTime segmentEnding flatOutside share alongZeros zeroRateOf rateAt smm badTerm badRecord firstOr judged turns wholePower negativePower periodCoupon periods badMaturity periodRate undiscounted discount discounted priceOf price valueOf wholeAt floatAt readTerms termsIn monthlyRate growth levelPayment payment monthlyPayment loanOf openedWith opened endMonth due last interestOf principalOf paymentOf newBalance rowOf nextOf stepped written hexDigits decimalDigits decimal spaced rowLine footer loanLines recordLines saying listing add sub mul div lt le eq ofInt ofBits toBits
 figures = record {
   two-and-a-half = refl;
   nearly-a-half = refl;

@@ -1,4 +1,4 @@
--- The whole listing: which text it is in each case, the parts of a loan's, and that 96,000 bytes hold it whatever the record is. Assumes nothing.
+-- The whole listing: the parts of a loan's lines, that 96,000 bytes hold them, and what a record gives in each case. Assumes nothing.
 use mathlib.Core.Path.{_≡_, refl, ap, _∙_}
 use mathlib.Core.Bool.{Bool, true, false}
 use mathlib.Core.List.{List, [], _∷_, _++_}
@@ -7,7 +7,7 @@ use native.Mathlib.Nat.{zero-add}
 use native.Mathlib.Omega.{arith}
 use lib.ListN.{length, drop, length-append}
 use lib.Seq.{sets-eq}
-use Rattle.refusals.specs.Outcome.{Outcome, refused, accepted, line, firstOr, judged}
+use Rattle.refusals.specs.Outcome.{Outcome, refused, accepted, andThen, line, firstOr, judged}
 use Rattle.refusals.specs.Table.{badAmount, badTerm}
 use Rattle.records.specs.declared.Terms.{Terms}
 use Rattle.records.specs.Kinds.{readTerms}
@@ -18,7 +18,7 @@ use Rattle.mortgage.specs.RowRule.{due}
 use Rattle.mortgage.specs.Rows.{after}
 use Rattle.refusals.proofs.Verdicts.{accepted-value}
 use Rattle.listing.specs.declared.portions.Listed.{Listed}
-use Rattle.listing.specs.Listing.{header, rowLines, footer, refusedLine, loanLines, termsLines, listing}
+use Rattle.listing.specs.Listing.{header, rowLines, footer, refusedLine, loanLines, listed, listedSize, linesOver, saying, listing}
 use Rattle.listing.specs.Putting.{Put}
 use Rattle.listing.specs.Portions.{lineRoom, InHand, Listable, Lists}
 use Rattle.listing.proofs.Putting.{then, same-text, same-room}
@@ -61,56 +61,75 @@ footer-fits l at o p q s h b t a m n =
 
 pub loan-listed : (l : Loan) (at n : ℕ) (o p q r : List ℕ) (s : Listed) → Put header 0 o at p
     → Lists (due l) (record { at = at; rows = 0; left = 0; loan = l }) p s q → s .left ≡ due (s .loan)
-    → Put (footer (s .rows) (s .left)) (s .at) q n r → Put (loanLines (accepted l)) 0 o n r
+    → Put (footer (s .rows) (s .left)) (s .at) q n r → Put (loanLines l) 0 o n r
 unfolding loanLines
 loan-listed l at n o p q r s t a e f =
     let k : s .rows ≡ due l = a .rows ∙ zero-add (due l) in
     let m : s .left ≡ due (after (due l) l) = e ∙ ap due (a .loan) in
     then (then t (a .text)) (same-text (rw (k, m)) f)
 
--- ---- whatever the record is, its listing fits
-refused-fits : (k p : ℕ) → length (refusedLine k p) ≤ 96000
-refused-fits k p = omega (arith, length-refused k p)
-
-loan-fits : (l : Loan) → InHand l → length (header ++ rowLines (due l) l ++ footer (due l) (due (after (due l) l))) ≤ 96000
+-- ---- a loan's lines fit
+pub loan-fits : (l : Loan) → InHand l → length (loanLines l) ≤ 96000
+unfolding loanLines
 loan-fits l h =
     let f : length (footer (due l) (due (after (due l) l))) ≤ 32 = length-footer (due l) (due (after (due l) l)) in
     let r : length (rowLines (due l) l) ≤ due l * lineRoom = length-lines (due l) l in
     let d : due l ≤ 1200 = few-due l h in
     simp length-append (omega arith)
 
-loan-lines-fit : (o : Outcome Loan) → ((l : Loan) → o ≡ accepted l → InHand l) → length (loanLines o) ≤ 96000
-unfolding loanLines
-loan-lines-fit (refused k p) h = refused-fits k p
-loan-lines-fit (accepted l) h = loan-fits l (h l refl)
+-- put from the start of the lent memory, a text stands there and the other bytes stay
+over : (text o p : List ℕ) (r : ℕ) → length text ≤ length o → Put text 0 o r p → (r ≡ length text) × (p ≡ text ++ drop (length text) o)
+over text o p r b t = (t .place ∙ zero-add (length text), t .bytes ∙ sets-eq text o 0 (omega arith) ∙ rw (zero-add (length text)))
 
-terms-lines-fit : (o : Outcome Terms) → length (termsLines o) ≤ 96000
-unfolding termsLines
-terms-lines-fit (refused k p) = refused-fits k p
-terms-lines-fit (accepted t) = loan-lines-fit (opened t) (opened-in-hand t)
-
-pub listing-fits : (bytes : List ℕ) → length (listing bytes) ≤ 96000
-unfolding listing
-listing-fits bytes = terms-lines-fit (readTerms bytes)
-
--- ---- which text the listing is
+-- ---- what the record gives
 module _ (bytes : List ℕ) where
-  pub refused-record : (k p : ℕ) → readTerms bytes ≡ refused k p → refusedLine k p ≡ listing bytes
-  unfolding listing termsLines
+  pub refused-record : (k p : ℕ) → readTerms bytes ≡ refused k p → listed bytes ≡ refused k p
+  unfolding listed
   refused-record k p e = rw e
 
-  pub refused-loan : (t : Terms) (k p : ℕ) → readTerms bytes ≡ accepted t → opened t ≡ refused k p → refusedLine k p ≡ listing bytes
-  unfolding listing termsLines loanLines
+  pub refused-loan : (t : Terms) (k p : ℕ) → readTerms bytes ≡ accepted t → opened t ≡ refused k p → listed bytes ≡ refused k p
+  unfolding listed
   refused-loan t k p e f = rw (e, f)
 
-  pub accepted-loan : (t : Terms) (l : Loan) → readTerms bytes ≡ accepted t → opened t ≡ accepted l → loanLines (accepted l) ≡ listing bytes
-  unfolding listing termsLines
+  pub accepted-loan : (t : Terms) (l : Loan) → readTerms bytes ≡ accepted t → opened t ≡ accepted l → listed bytes ≡ accepted (loanLines l)
+  unfolding listed
   accepted-loan t l e f = rw (e, f)
 
-  -- put from the start of the lent memory, it stands there and the other bytes stay
-  pub listed : (text o p : List ℕ) (r : ℕ) → text ≡ listing bytes → length o ≡ 96000 → Put text 0 o r p
-      → (r ≡ length (listing bytes)) × (p ≡ listing bytes ++ drop r o)
-  listed text o p r e n t =
-      let u : Put (listing bytes) 0 o r p = same-text e t in
-      let b : 0 + length (listing bytes) ≤ length o = omega (arith, listing-fits bytes) in
-      (u .place ∙ zero-add (length (listing bytes)), u .bytes ∙ sets-eq (listing bytes) o 0 b ∙ rw (u .place))
+  pub gives-refusal : (k p : ℕ) (o : List ℕ) → listed bytes ≡ refused k p → (refused k p ≡ listedSize bytes) × (o ≡ linesOver (listed bytes) o)
+  unfolding listedSize linesOver
+  gives-refusal k p o e = (rw e, rw e)
+
+  pub gives-lines : (l : Loan) (o p : List ℕ) (r : ℕ) → listed bytes ≡ accepted (loanLines l) → InHand l → length o ≡ 96000 → Put (loanLines l) 0 o r p
+      → (accepted r ≡ listedSize bytes) × (p ≡ linesOver (listed bytes) o)
+  unfolding listedSize linesOver
+  gives-lines l o p r e h n t =
+      let v = over (loanLines l) o p r (omega (arith, loan-fits l h)) t in
+      (rw (e, v .0), rw e (v .1))
+
+-- ---- what the program says of it
+abbrev sized : Outcome (List ℕ) → Outcome ℕ
+sized x = andThen x (λ (lines : List ℕ). accepted (length lines))
+
+refused-said : (x : Outcome (List ℕ)) (k p r : ℕ) (o m q : List ℕ) → refused k p ≡ sized x → m ≡ linesOver x o → length m ≡ 96000 → Put (refusedLine k p) 0 m r q
+    → (r ≡ length (saying x)) × (q ≡ saying x ++ drop r o)
+unfolding linesOver saying
+refused-said (refused j i) k p r o m q e s n t =
+    let f : refusedLine k p ≡ refusedLine j i = cc in
+    let v = over (refusedLine j i) m q r (omega (arith, length-refused j i)) (same-text f t) in
+    (v .0, v .1 ∙ rw (v .0, s))
+refused-said (accepted lines) k p r o m q e s n t = let z : _≡_ {A = ℕ} 0 1 = cc in absurd (omega arith)
+
+lines-said : (x : Outcome (List ℕ)) (n : ℕ) (o m : List ℕ) → accepted n ≡ sized x → m ≡ linesOver x o → (n ≡ length (saying x)) × (m ≡ saying x ++ drop n o)
+unfolding linesOver saying
+lines-said (refused k p) n o m e s = let z : _≡_ {A = ℕ} 0 1 = cc in absurd (omega arith)
+lines-said (accepted lines) n o m e s = let f : n ≡ length lines = cc in (f, s ∙ rw f)
+
+module _ (bytes : List ℕ) where
+  pub says-refusal : (k p r : ℕ) (o m q : List ℕ) → refused k p ≡ listedSize bytes → m ≡ linesOver (listed bytes) o → length m ≡ 96000 → Put (refusedLine k p) 0 m r q
+      → (r ≡ length (listing bytes)) × (q ≡ listing bytes ++ drop r o)
+  unfolding listedSize listing
+  says-refusal k p r o m q e s n t = refused-said (listed bytes) k p r o m q e s n t
+
+  pub says-lines : (n : ℕ) (o m : List ℕ) → accepted n ≡ listedSize bytes → m ≡ linesOver (listed bytes) o → (n ≡ length (listing bytes)) × (m ≡ listing bytes ++ drop n o)
+  unfolding listedSize listing
+  says-lines n o m e s = lines-said (listed bytes) n o m e s

@@ -3,7 +3,8 @@
 use Prim.Native.Nat.{ℕ}
 use mathlib.Core.List.{List, [], _∷_, _++_}
 use lib.Ieee.{Float, binary64, toBits}
-use Rattle.refusals.specs.Outcome.{Outcome, refused, accepted}
+use lib.ListN.{length, drop}
+use Rattle.refusals.specs.Outcome.{Outcome, refused, accepted, andThen}
 use Rattle.records.specs.declared.Terms.{Terms}
 use Rattle.records.specs.declared.Row.{Row}
 use Rattle.records.specs.Kinds.{readTerms}
@@ -42,14 +43,26 @@ unfoldable pub refusedLine : ℕ → ℕ → List ℕ
 refusedLine number place = (114 ∷ 101 ∷ 102 ∷ 117 ∷ 115 ∷ 101 ∷ 100 ∷ 32 ∷ []) ++ decimal number ++ (32 ∷ 97 ∷ 116 ∷ 32 ∷ []) ++ decimal place ++ lineEnd
 
 -- a loan drawn to its end
-unfoldable pub loanLines : Outcome Loan → List ℕ
-loanLines (refused k p) = refusedLine k p
-loanLines (accepted l) = header ++ rowLines (due l) l ++ footer (due l) (due (after (due l) l))
+unfoldable pub loanLines : Loan → List ℕ
+loanLines l = header ++ rowLines (due l) l ++ footer (due l) (due (after (due l) l))
 
--- what is written for the bytes of a record
-unfoldable pub termsLines : Outcome Terms → List ℕ
-termsLines (refused k p) = refusedLine k p
-termsLines (accepted t) = loanLines (opened t)
+-- the lines of the loan that a record opens
+unfoldable pub listed : List ℕ → Outcome (List ℕ)
+listed bytes = andThen (readTerms bytes) (λ (t : Terms). andThen (opened t) (λ (l : Loan). accepted (loanLines l)))
+
+-- how many bytes they are
+unfoldable pub listedSize : List ℕ → Outcome ℕ
+listedSize bytes = andThen (listed bytes) (λ (lines : List ℕ). accepted (length lines))
+
+-- lent memory after them: they stand at its start, and what was behind them stays. A refusal leaves all of it
+unfoldable pub linesOver : Outcome (List ℕ) → List ℕ → List ℕ
+linesOver (refused k p) before = before
+linesOver (accepted lines) before = lines ++ drop (length lines) before
+
+-- what the program writes: the lines, or one line that says the refusal
+unfoldable pub saying : Outcome (List ℕ) → List ℕ
+saying (refused k p) = refusedLine k p
+saying (accepted lines) = lines
 
 unfoldable pub listing : List ℕ → List ℕ
-listing bytes = termsLines (readTerms bytes)
+listing bytes = saying (listed bytes)

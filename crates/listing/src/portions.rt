@@ -4,7 +4,6 @@ ghost use Prim.Native.Nat.{_+_, _*_, _^_, _<_, _≤_, min};
 ghost use lib.ListN.{length};
 ghost use Rattle.mortgage.specs.Row.{width};
 ghost use Rattle.mortgage.specs.RowRule.{due};
-ghost use Rattle.refusals.specs.Outcome.{accepted};
 ghost use Rattle.listing.specs.Listing.{loanLines};
 ghost use Rattle.listing.specs.Putting.{Put};
 ghost use Rattle.listing.specs.Portions.{rowAt, roomLines, lineRoom, InHand, Listable, Lists};
@@ -91,7 +90,7 @@ fn put_all(out: &mut [u8], start: Listed) -> Listed
 // A loan drawn to its end: the header, a line for each row, and how many were drawn and are left.
 pub(crate) fn put_loan(out: &mut [u8], loan: Loan) -> usize
     requires { ⌜ InHand loan × (96000 ≤ length (now out)) ⌝ }
-    ensures { λ r. ⌜ Put (loanLines (accepted loan)) 0 (now (out .entry)) r (now (out .exit)) ⌝ }
+    ensures { λ r. ⌜ Put (loanLines loan) 0 (now (out .entry)) r (now (out .exit)) ⌝ }
 {
     let header = crate::text::put_text(out, 0, b"month payment principal interest balance\n");
     // How many are left is told by the first draw.

@@ -1,12 +1,13 @@
 -- What is refused at the door that C uses, of the functions that read a record first: 11 and nothing else exactly when the record is of another kind or length; else number k at place p
 -- exactly when that is the table's lowest, a code outside its set being 11 in its turn. `ResultSays.result-exactly` says the same of a call's result. Assumes nothing.
-use mathlib.Core.Path.{_≡_, refl, ap, _∙_}
+use mathlib.Core.Path.{_≡_, refl, sym, ap, _∙_}
 use mathlib.Core.Logic.{_⊎_, _↔_}
 use mathlib.Core.Bool.{Bool, true, false, cond, _||_}
 use mathlib.Core.List.{List, [], _∷_, _++_}
 use Prim.Native.Nat.{ℕ}
 use native.Mathlib.Omega.{arith}
 use lib.Dec.{T}
+use lib.ListN.{length}
 use lib.Ieee.{Float}
 use Rattle.refusals.specs.Outcome.{Outcome, refused, accepted, Line, line, lineOfTwo, firstOr, judged, Lowest, ExactlyWhen, above, rising, andThen}
 use Rattle.refusals.specs.Table.{badRecord}
@@ -23,6 +24,7 @@ use Rattle.mortgage.specs.Totals.{totalInterest, remainingBalance, loanToValue}
 use Rattle.mortgage.specs.Savings.{prepaymentSavings}
 use Rattle.mortgage.specs.BreakEven.{breakEvenLines, refinanceBreakeven}
 use Rattle.mortgage.proofs.Exactly as loans
+use Rattle.listing.specs.Listing.{loanLines, listed, listedSize}
 use Rattle.bond.specs.declared.Bond.{Bond}
 use Rattle.bond.specs.Bonds.{bondLines}
 use Rattle.bond.specs.Codes.{badCode as badFrequencyCode}
@@ -53,6 +55,11 @@ still-refused ls (accepted v) asked never ex k p = absurd (never v refl)
 
 apart : {A : Type 0} (k p : ℕ) (v : A) → _≡_ {A = Outcome A} (refused k p) (accepted v) → ⊥
 apart k p v e = let z : _≡_ {A = ℕ} 0 1 = cc in omega arith
+
+-- ---- what is made of a value refuses nothing more
+made-of : {A B : Type 0} (ls : List Line) (x : Outcome A) (made : A → B) → ExactlyWhen ls x → ExactlyWhen ls (andThen x (λ (v : A). accepted (made v)))
+made-of ls (refused j q) made ex k p = still-refused ls (refused j q) (λ v. accepted (made v)) (λ v. apart j q v) ex k p
+made-of ls (accepted v) made ex k p = (λ e. absurd (apart k p (made v) (sym e)), λ w. absurd (apart k p v (sym (ex k p .1 w))))
 
 -- ---- a record that is read first
 record-first : {A B : Type 0} (bad : Bool) (v : A) (asked : A → Outcome B) (lines : List Line) → ExactlyWhen lines (asked v)
@@ -104,6 +111,12 @@ module _ (bytes : List ℕ) where
 
   pub savings-refused-exactly : (extra : Float) → ExactlyWhen (loanRecordLines bytes) (andThen (readTerms bytes) (λ (t : Terms). prepaymentSavings t extra))
   savings-refused-exactly extra = of-loan bytes _ (λ t. loans.savings-refused-exactly t extra)
+
+  pub listing-refused-exactly : ExactlyWhen (loanRecordLines bytes) (listedSize bytes)
+  unfolding listedSize listed
+  listing-refused-exactly =
+      made-of (loanRecordLines bytes) (listed bytes) length
+      (of-loan bytes _ (λ t. made-of (termsLines t) (opened t) loanLines (loans.opening-refused-exactly t)))
 
 -- ---- break-even's two records
 two-first : {A B : Type 0} (old new : Bool) (v w : A) (asked : A → A → Outcome B) (lines : List Line) → ExactlyWhen lines (asked v w)

@@ -48,6 +48,8 @@ use Rattle.senyolanda.proofs.loans.senyolanda_prepayment_savings.Kinds 
 use Rattle.senyolanda.proofs.loans.senyolanda_prepayment_savings.Reads as prepayment-savings-reads
 use Rattle.senyolanda.proofs.loans.senyolanda_refinance_breakeven.Kinds as refinance-breakeven-kinds
 use Rattle.senyolanda.proofs.loans.senyolanda_refinance_breakeven.Reads as refinance-breakeven-reads
+use Rattle.senyolanda.proofs.loans.senyolanda_listing.Kinds as listing-kinds
+use Rattle.senyolanda.proofs.loans.senyolanda_listing.Reads as listing-reads
 use Rattle.senyolanda.proofs.pools.senyolanda_monthly_smm.Kinds as monthly-smm-kinds
 use Rattle.senyolanda.proofs.pools.senyolanda_monthly_smm.Reads as monthly-smm-reads
 use Rattle.senyolanda.proofs.pools.senyolanda_pool_cash_flows.Kinds as pool-cash-flows-kinds
@@ -295,6 +297,12 @@ refinance-breakeven-determined κs a x y e e′ p q = ap (λ (t : ℕ × ℕ). t
 
 pub refinance-breakeven-settled : Settled 3 refinance-breakeven-kinds.ps refinance-breakeven-kinds.r refinance-breakeven-reads.Post
 refinance-breakeven-settled κs a x y w w′ p q = ap (λ (t : ℕ × ℕ). (tt, (tt, (tt, (tt, (t .1, tt)))))) (p ∙ sym q)
+
+pub listing-determined : Determined 3 listing-kinds.ps listing-kinds.r listing-reads.Post
+listing-determined κs a x y e e′ p q = ap (λ (t : ℕ × ℕ). t .0) (p .0 ∙ sym (q .0))
+
+pub listing-settled : Settled 3 listing-kinds.ps listing-kinds.r listing-reads.Post
+listing-settled κs a x y w w′ p q = both (λ (t : ℕ × ℕ) (l : List ℕ). (tt, (l, (t .1, tt)))) (p .0 ∙ sym (q .0)) (p .1 ∙ sym (q .1))
 
 -- ---- pools
 

@@ -1,11 +1,11 @@
 -- Document 01's loan of three months from its record's bytes: its first row asked for alone, a draw that is refused, and a draw of two rows. What was filed repays it, and is the paper's
--- listing. Assumes nothing.
+-- listing; so is its text. Assumes nothing.
 use mathlib.Core.Path.{_≡_, refl}
-use mathlib.Core.List.{List, [], _∷_, map}
+use mathlib.Core.List.{List, [], _∷_, _++_, map}
 use Prim.Native.Nat.{ℕ}
 use lib.ListN.{replicate}
 use lib.Ieee.{Float, nan, binary64, add, sub, mul, div, lt, eq, ofInt, ofBits, toBits}
-use Rattle.refusals.specs.Outcome.{firstOr, judged}
+use Rattle.refusals.specs.Outcome.{accepted, firstOr, judged}
 use Rattle.refusals.specs.Table.{badAmount, badTerm, noRoom, pastEnd, badRecord}
 use Rattle.records.specs.Bytes.{valueOf, bytesOf, wholeAt, floatAt, wholeBytes, floatBytes}
 use Rattle.records.specs.Kinds.{termsIn, readTerms, rowBytes, rowIn}
@@ -15,7 +15,9 @@ use Rattle.mortgage.specs.Steps.{stepped, written}
 use Rattle.mortgage.specs.Rows.{nextRow}
 use Rattle.mortgage.specs.Draws.{portion, drawn, filled}
 use Rattle.mortgage.specs.Demand3.{Repaid}
-use Rattle.senyolanda.specs.Told.{told}
+use Rattle.listing.specs.Digits.{hexDigits, decimalDigits, decimal}
+use Rattle.listing.specs.Listing.{header, spaced as spacedOf, rowLine, footer, loanLines, listed, listedSize, linesOver}
+use Rattle.senyolanda.specs.Told.{told, toldNumber}
 use Rattle.senyolanda.specs.Calls.{Kept, inHand, openAnswer, Call, draw, next-row, files, keptAfter, filed, kept}
 use Rattle.senyolanda.proofs.AtTheDoor.{demand3-at-the-door}
 
@@ -53,7 +55,38 @@ pub listing : filed loan calls ≡ map number
 unfolding filed files keptAfter told nextRow rowBytes rowIn wholeBytes floatBytes bytesOf wholeAt floatAt valueOf toBits filled drawn judged firstOr badTerm noRoom pastEnd portion due endMonth stepped written rowOf nextOf newBalance paymentOf principalOf interestOf last monthlyRate add sub mul div lt ofInt ofBits
 listing = refl
 
--- the theorem, of this loan and these calls
+-- ---- the same as text
+
+-- a space, and a float's pattern as 16 hexadecimal digits
+abbrev spaced : ℕ → List ℕ
+spaced pattern = 32 ∷ hexDigits 16 pattern
+
+-- a row's line, from its month's one digit
+abbrev lineOf : ℕ → List ℕ → List ℕ
+lineOf digit amounts = digit ∷ [] ++ amounts ++ 10 ∷ []
+
+-- "1 4079000000000000 4079000000000000 0000000000000000 4089000000000000", and so on, between the names of the columns and "rows 3 left 0"
+abbrev text : List ℕ
+text = header
+    ++ lineOf 49 (spaced 0x4079_0000_0000_0000 ++ spaced 0x4079_0000_0000_0000 ++ spaced 0 ++ spaced 0x4089_0000_0000_0000)
+    ++ lineOf 50 (spaced 0x4079_0000_0000_0000 ++ spaced 0x4079_0000_0000_0000 ++ spaced 0 ++ spaced 0x4079_0000_0000_0000)
+    ++ lineOf 51 (spaced 0x4079_0000_0000_0000 ++ spaced 0x4079_0000_0000_0000 ++ spaced 0 ++ spaced 0)
+    ++ 114 ∷ 111 ∷ 119 ∷ 115 ∷ 32 ∷ 51 ∷ 32 ∷ 108 ∷ 101 ∷ 102 ∷ 116 ∷ 32 ∷ 48 ∷ 10 ∷ []
+
+listed-text : listed bytes ≡ accepted text
+unfolding listed loanLines rowLine footer spacedOf decimal decimalDigits hexDigits toBits readTerms badRecord termsIn floatAt wholeAt valueOf judged firstOr opened openedWith badAmount badTerm loanOf payment monthlyRate due endMonth stepped written rowOf nextOf newBalance paymentOf principalOf interestOf last add sub mul div lt eq ofInt ofBits
+listed-text = refl
+
+-- 265 bytes at the start of what was lent, and the bytes behind them as they were
+pub listing-size : toldNumber (listedSize bytes) 7 ≡ (0, 265)
+unfolding listedSize told hexDigits
+listing-size = rw listed-text
+
+pub listing-text : linesOver (listed bytes) (replicate 270 9) ≡ text ++ replicate 5 9
+unfolding linesOver hexDigits
+listing-text = rw listed-text
+
+-- ---- the theorem, of this loan and these calls
 pub repaid-by-the-calls : Repaid (number 0x4092_c000_0000_0000) 3 (filed loan calls)
 unfolding told readTerms badRecord termsIn floatAt wholeAt valueOf judged firstOr opened openedWith badAmount badTerm loanOf payment monthlyRate eq div lt ofInt ofBits
 repaid-by-the-calls = demand3-at-the-door bytes before refl calls to-the-end .1

@@ -8,6 +8,7 @@ ghost use Rattle.mortgage.specs.Draws.{drawn, filled, drawingOutcome};
 ghost use Rattle.mortgage.specs.Rows.{nextRow};
 ghost use Rattle.mortgage.specs.Totals.{totalInterest, remainingBalance, loanToValue};
 ghost use Rattle.mortgage.specs.Savings.{prepaymentSavings, savingsOutcome};
+ghost use Rattle.listing.specs.Listing.{listed, listedSize, linesOver};
 ghost use Rattle.senyolanda.specs.Told.{told, toldNumber};
 ghost use Rattle.senyolanda.specs.Loans.{loanOf, loanNumbers, portionNumbers, nextNumbers, savingsNumbers, breakevenOf};
 use crate::results::ACCEPTED;
@@ -298,4 +299,17 @@ pub extern "C" fn senyolanda_refinance_breakeven(
             }
         },
     }
+}
+
+// A loan's whole schedule as the lines of its listing, and how many bytes they are.
+#[no_mangle]
+pub extern "C" fn senyolanda_listing(
+    record: &[u8],
+    text: &mut [u8; listing::ROOM],
+    size: &mut u32,
+) -> u64
+    ensures { λ r. ⌜ (r, now (size .exit)) ≡ toldNumber (listedSize (now («record» .entry))) (now (size .entry)) ⌝ }
+    ensures { λ _. ⌜ now (text .exit) ≡ linesOver (listed (now («record» .entry))) (now (text .entry)) ⌝ }
+{
+    put_count(listing::list_loan(record, text), size)
 }
