@@ -300,10 +300,34 @@ month  payment  principal  interest  balance
 total   100.00     100.00      0.00     0.00
 Totals add the unrounded amounts: they can differ by some cents from the sum of the amounts above.
 END
-for principal in 99.99 1e20; do
-    stated $principal 0 3
+# foot WORDS..: the table has its foot; footless WORDS..: it has none
+foot() {
+    stated "$@"
+    tail -n 1 "$room/wrote" | grep -q '^Totals add ' || fails "a column does not add up, and nothing is said"
+}
+footless() {
+    stated "$@"
     tail -n 1 "$room/wrote" | grep -q '^total ' || fails "a foot that nothing calls for"
-done
+}
+# the payments alone do not add up, and the interest alone
+foot --payment 2000.004 1000 0 3
+foot --payment 0 1000 0.120048 3
+footless 99.99 0 3
+footless 1.5 0 3
+footless --payment -5 1000 0 2
+# of amounts above 2^64 nothing is said
+footless 1e20 0 3
+
+# a total that is wider than what stands above it
+stated 15000 0 3
+writes <<END
+Loan 1: principal 15000.00, rate 0, months 3
+month   payment  principal  interest   balance
+    1   5000.00    5000.00      0.00  10000.00
+    2   5000.00    5000.00      0.00   5000.00
+    3   5000.00    5000.00      0.00      0.00
+total  15000.00   15000.00      0.00      0.00
+END
 
 # ---- refusals
 
