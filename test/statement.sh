@@ -655,7 +655,7 @@ head -c "$size" "$room/want" | cmp -s - "$room/wrote" || fails "other bytes were
 # a full disk ends the work: of loans without end no more is read
 last="--csv --records - of loans without end, on a full device"
 perl -e 'my $loan = <STDIN>; print $loan x 1000 while 1' <"$room/a" 2>/dev/null |
-    { "$program" statement --csv --records - >/dev/full 2>"$room/said" || echo "$?" >"$room/status"; }
+    { timeout 60 "$program" statement --csv --records - >/dev/full 2>"$room/said" || echo "$?" >"$room/status"; }
 status=$(cat "$room/status")
 unwritten "No space left on device"
 
