@@ -1,6 +1,6 @@
 #!/bin/sh
 # faster.sh [KIND]: the tests in C over the library of KIND, which only some of this machine's kind of processors run; and the loader
-# takes that library by itself where the processor is one of them.
+# takes that library by itself where the processor is one of them. The sanitizers watch the tests themselves, which did run under them.
 set -eu
 kind=${1:-}
 if [ -z "$kind" ]; then
@@ -11,7 +11,7 @@ if ! /lib64/ld-linux-x86-64.so.2 --help | grep -q "^ *$kind (supported, searched
     echo "faster: not run: this processor, or its C library, does not take $kind; \`make test-$kind\` runs it emulated"
     exit 0
 fi
-test/c/run "build/$kind/libsenyolanda.a"
+test/c/run --plain "build/$kind/libsenyolanda.a"
 
 room=$(mktemp -d)
 trap 'rm -rf "$room"' EXIT
