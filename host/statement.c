@@ -146,11 +146,14 @@ static void print_csv(const struct run *run) {
 
 /* ---- rows as a table ---- */
 
-/* A line of a table: five cells, each the end of its text in a room of its own. */
+/* A line of a table: five texts and their lengths. */
 struct line {
     char text[COLUMNS][AMOUNT_ROOM];
     size_t length[COLUMNS];
 };
+
+/* Compiles only where the longest line has room. */
+typedef char lines_have_room[COLUMNS * (AMOUNT_ROOM + 2) < LINE_ROOM ? 1 : -1];
 
 static void set_cell(struct line *line, int column, const char *end) {
     line->length[column] = (size_t)(end - line->text[column]);

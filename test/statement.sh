@@ -644,7 +644,7 @@ last="--csv --records $room/many, in a file that may not grow"
 status=0
 (
     trap '' XFSZ
-    ulimit -f 200
+    ulimit -f 100
     exec "$program" statement --csv --records "$room/many" >"$room/wrote" 2>"$room/said"
 ) || status=$?
 unwritten "File too large"
