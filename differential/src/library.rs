@@ -47,6 +47,7 @@ exported! {
     senyolanda_ltv([record: u8], value: f64, ratio: Number);
     senyolanda_prepayment_savings([record: u8], extra: f64, months: Count, interest: Number);
     senyolanda_refinance_breakeven([old: u8], [new: u8], cost: f64, elapsed: u32, month: Count);
+    senyolanda_listing([record: u8], text: &mut [u8; 96000], size: Count);
 
     senyolanda_monthly_smm(speed: u32, number: f64, [history: f64], month: u32, smm: Number);
     senyolanda_pool_cash_flows([records: u8], speed: u32, number: f64, [history: f64], [mut room: f64], months: Count);

@@ -310,6 +310,49 @@ pub fn own_rows(loan: &Loan) -> Answer {
     opened(loan, None).and_then(|hand| all_draws(hand, &[places]))
 }
 
+/// The numbers of a row's line: its month in decimal, then each amount's 16 digits.
+fn numbers_of_line(line: &str) -> Option<[f64; WIDTH]> {
+    let words: [&str; WIDTH] = line.split(' ').collect::<Vec<_>>().try_into().ok()?;
+    let mut numbers = [f64::from(words[0].parse::<u32>().ok()?); WIDTH];
+    for (number, word) in numbers.iter_mut().zip(words).skip(1) {
+        *number = f64::from_bits(u64::from_str_radix(word, 16).ok().filter(|_| word.len() == 16)?);
+    }
+    Some(numbers)
+}
+
+/// What a listing says, as one draw of all rows and one of the finished loan would hand it over.
+fn told_in(text: &str) -> Option<Vec<f64>> {
+    let lines: Vec<&str> = text.strip_suffix('\n')?.split('\n').collect();
+    let (last, lines) = lines.split_last()?;
+    let rows = match lines {
+        ["month payment principal interest balance", rows @ ..] => rows,
+        _ => return None,
+    };
+    let mut all: Vec<f64> = match last.split(' ').collect::<Vec<_>>()[..] {
+        ["rows", rows, "left", left] => vec![rows.parse().ok()?, left.parse().ok()?],
+        _ => return None,
+    };
+    for line in rows {
+        all.extend(numbers_of_line(line)?);
+    }
+    all.extend([0.0, 0.0]);
+    Some(all)
+}
+
+/// The listing's rows; the bytes behind the text must stay, and all of them where it is refused.
+fn listed(loan: &Loan) -> Answer {
+    const BLANK: u8 = 0xa5;
+    let (record, mut text, mut size) = (loan.record(), [BLANK; 96000], UNTOUCHED_COUNT);
+    let result = called!(senyolanda_listing, [record], &mut text, &mut size);
+    let end = if result == 0 { size as usize } else { 0 };
+    match text.get(end..) {
+        Some(behind) if behind.iter().all(|byte| *byte == BLANK) => {}
+        _ => return Err(Unanswered::Broken("bytes behind the text changed")),
+    }
+    settled(result, vec![], &[size])?;
+    std::str::from_utf8(&text[..end]).ok().and_then(told_in).ok_or(Unanswered::Broken("a text that is no listing"))
+}
+
 /// A millionth of the principal for money, and nothing for months and for what a draw says beside its rows.
 fn of_principal() -> Allowed<Loan> {
     part_of(1e-6, "of the principal", |loan, rust| {
@@ -466,6 +509,17 @@ pub fn families() -> Vec<Compared> {
             edges: || own_edges().into_iter().map(plain).collect(),
             draw: |random| drawn(random, LONGEST_OWN),
             ours: own_rows,
+            rust: |loan| portioned(&MortgageCalculator::amortization_schedule(&loan.terms()), &[WIDTH as u32 * loan.term]),
+            allowed: of_principal(),
+        }
+        .compared(),
+        Family {
+            name: "listings",
+            seed: 211,
+            one_in: 10,
+            edges: || own_edges().into_iter().map(plain).collect(),
+            draw: |random| drawn(random, LONGEST_OWN),
+            ours: listed,
             rust: |loan| portioned(&MortgageCalculator::amortization_schedule(&loan.terms()), &[WIDTH as u32 * loan.term]),
             allowed: of_principal(),
         }
