@@ -157,7 +157,8 @@ const char *read_decimal(const char *text, double *number) {
     char *end;
     errno = 0;
     *number = strtod(text, &end);
-    if (end == text || *end != '\0' || isspace((unsigned char)*text) || is_hexadecimal(text)) return "is no decimal number";
+    if (end == text || *end != '\0' || isspace((unsigned char)*text) || is_hexadecimal(text))
+        return "is no decimal number, such as 250000 or 0.06";
     if (errno == ERANGE && isinf(*number)) return "is too large for a binary64";
     if (errno == ERANGE && *number == 0) return "is too small for a binary64, which would hold 0";
     return NULL;

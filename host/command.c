@@ -22,9 +22,15 @@ static void note_failure(void) {
     if (output.failure == 0) output.failure = errno != 0 ? errno : EIO;
 }
 
+/* A line on standard error is one write, so that it stays whole among those of other programs. */
+void open_output(void) {
+    static char error_line[LINE_ROOM];
+    setvbuf(stdout, NULL, _IONBF, 0);
+    setvbuf(stderr, error_line, _IOLBF, sizeof error_line);
+}
+
 static void write_bytes(const char *bytes, size_t count) {
     if (count == 0 || output.failure != 0) return;
-    if (!output.begun) setvbuf(stdout, NULL, _IONBF, 0);
     output.begun = true;
     errno = 0;
     if (fwrite(bytes, 1, count, stdout) != count) note_failure();

@@ -54,6 +54,9 @@ void close_input(FILE *file);
 
 /* ---- output ---- */
 
+/* Before anything else. */
+void open_output(void);
+
 /* Room for one line to standard output, and the end of what was put there. No line is longer than the room. */
 enum { LINE_ROOM = 4096 };
 char *start_line(void);
@@ -65,7 +68,8 @@ void put_words(const char *words);
 /* Whether something could not be written; known only once the buffer was full or was flushed. */
 bool output_failed(void);
 
-/* Writes what is left and closes standard output; says so where anything was not written. */
+/* Behind everything else: writes what is left and closes standard output. Gives the status, or trouble where anything was not
+   written, which is then said. */
 enum status close_output(enum status status);
 
 #endif

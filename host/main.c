@@ -64,5 +64,6 @@ static enum status run(char **words) {
 }
 
 int main(int argc, char **argv) {
+    open_output();
     return (int)close_output(run(argc > 0 ? argv + 1 : argv));
 }

@@ -1,6 +1,6 @@
 /*
- * cents COUNT: writes so many amounts to the cent by host/amounts.c and by printf, and compares the bytes; and of a quarter of them, with
- * separators, whether the commas stand where they should. Ends with 1 at the first amount that differs.
+ * cents COUNT: writes so many amounts to the cent by host/amounts.c and by printf, and compares the bytes; and of a quarter of them,
+ * with separators, sees whether the commas stand where they should. Ends with 1 at the first amount that differs.
  */
 #include "amounts.h"
 
@@ -51,10 +51,10 @@ static int up_to(int most) {
 }
 
 static const double edges[] = {
-    0.0, 0.001, 0.004, 0.005, 0.006, 0.01, 0.015, 0.025, 0.125, 0.375, 0.625, 0.875, 0.994, 0.995, 0.996, 0.999, 1.005, 9.995, 99.995, 0.00048828125,
-    0.000244140625, 4503599627370495.5, 4503599627370496.0, 9007199254740991.0, 9007199254740992.0, 9223372036854775808.0, 18446744073709549568.0,
-    18446744073709551616.0, 184467440737095516.16, 92233720368547758.08, 1e15, 1e16, 1e19, 1e20, 1e22, 1e100, DBL_MIN, DBL_MAX, 4.9406564584124654e-324,
-    (double)INFINITY, (double)NAN};
+    0.0, 0.000244140625, 0.00048828125, 0.001, 0.004, 0.005, 0.006, 0.01, 0.015, 0.025, 0.125, 0.375, 0.625, 0.875, 0.994, 0.995, 0.996,
+    0.999, 1.005, 9.995, 99.995, 4503599627370495.5, 4503599627370496.0, 9007199254740991.0, 9007199254740992.0, 92233720368547758.08,
+    184467440737095516.16, 9223372036854775808.0, 18446744073709549568.0, 18446744073709551616.0, 1e15, 1e16, 1e19, 1e20, 1e22, 1e100,
+    DBL_MAX, DBL_MIN, 4.9406564584124654e-324, (double)INFINITY, (double)NAN};
 
 /* Amounts of a desk and around it, by turns; now and then one of any size, or an edge. Those take printf a hundred times as long. */
 static double amount_of(uint64_t turn) {
@@ -81,11 +81,12 @@ static size_t by_printf(char text[AMOUNT_ROOM], double amount) {
 
 /* Whether the text with commas is the other one, with a comma in front of each three digits before the point but the first ones. */
 static bool is_separated(const char *with, size_t with_length, const char *without, size_t length) {
-    const char *point = memchr(without, '.', length);
+    const char *found = memchr(without, '.', length), *point = found != NULL ? found : without;
     size_t at = 0;
     for (size_t k = 0; k < length; k++) {
-        const bool parts = point != NULL && without + k < point && (point - (without + k)) % 3 == 0 && k > 0 && without[k - 1] != '-';
-        if (parts && (at == with_length || with[at++] != ',')) return false;
+        const bool first = k == 0 || without[k - 1] == '-';
+        const bool comma = !first && without + k < point && (point - (without + k)) % 3 == 0;
+        if (comma && (at == with_length || with[at++] != ',')) return false;
         if (at == with_length || with[at++] != without[k]) return false;
     }
     return at == with_length;

@@ -1,5 +1,5 @@
 #!/bin/sh
-# cents.sh [CC]: compares amounts to the cent, as host/amounts.c writes them, with printf's: ten million, and a million more under
+# cents.sh [CC]: compares amounts to the cent, as host/amounts.c writes them, with printf's: ten million, and the first 200,000 under
 # the sanitizers where CC has them.
 set -eu
 cc=${1:-cc}
@@ -12,4 +12,4 @@ compile -O2
 # the flags are words of the command
 # shellcheck disable=SC2046
 compile -O1 -g $(test/sanitizer "$cc")
-"$room/cents" 1000000
+"$room/cents" 200000
