@@ -41,7 +41,7 @@ fn period_coupon(bond: Bond) -> f64
 fn periods(bond: Bond) -> u32
     ensures { λ r. ⌜ r ≡ periods bond ⌝ }
 {
-    numbers::whole::nearest_whole(bond.maturity * coupons_a_year(bond))
+    elementary::whole::usually_whole(bond.maturity * coupons_a_year(bond))
 }
 
 // A bond with its numbers worked out once: the coupons a year, the coupon of a period, and the periods.
