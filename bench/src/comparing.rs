@@ -1,6 +1,6 @@
 //! Every answer beside the others', so that no job times a refusal or something else.
+use crate::brought::Sides;
 use crate::job::Job;
-use crate::quantlib::Sides;
 
 /// The Rust's exp, ln and powers are the C library's.
 const FROM_THE_RUST: f64 = 1e-9;
@@ -36,16 +36,36 @@ pub fn hold_to_the_rust(job: &mut Job) {
     hold_to(job, "the Rust", &rust, FROM_THE_RUST);
 }
 
-pub fn compare(jobs: &mut [Job], quantlib: &mut Sides) {
-    jobs.iter_mut().for_each(hold_to_the_rust);
-    println!("{} answers compared with the Rust's: within {FROM_THE_RUST:e}", jobs.len());
-    for (name, side) in quantlib.iter_mut() {
-        match jobs.iter_mut().find(|job| job.name == *name) {
-            Some(job) => hold_to(job, "QuantLib", &side.answer(), FROM_QUANTLIB),
-            None => crate::fail(&format!("QuantLib has '{name}', which is no job")),
+/// The job of a side that another object brings.
+fn job_of<'a>(jobs: &'a mut [Job], name: &str, whose: &str) -> &'a mut Job {
+    let found = jobs.iter_mut().find(|job| job.name == name);
+    found.unwrap_or_else(|| crate::fail(&format!("{whose} has '{name}', which is no job")))
+}
+
+fn compare_bits(jobs: &mut [Job], v3: &mut Sides) {
+    for (name, side) in v3.iter_mut() {
+        let (ours, theirs) = (job_of(jobs, name, "x86-64-v3").ours.answer(), side.answer());
+        if !ours.iter().map(|x| x.to_bits()).eq(theirs.iter().map(|x| x.to_bits())) {
+            crate::fail(&format!("{name}: the archive for x86-64-v3 gives other bits"));
         }
     }
+    println!("{} answers compared with those of the archive for x86-64-v3: the same bits", v3.len());
+}
+
+fn compare_with_quantlib(jobs: &mut [Job], quantlib: &mut Sides) {
+    for (name, side) in quantlib.iter_mut() {
+        hold_to(job_of(jobs, name, "QuantLib"), "QuantLib", &side.answer(), FROM_QUANTLIB);
+    }
+    println!("{} answers compared with QuantLib's: within {FROM_QUANTLIB:e}", quantlib.len());
+}
+
+pub fn compare(jobs: &mut [Job], v3: &mut Sides, quantlib: &mut Sides) {
+    jobs.iter_mut().for_each(hold_to_the_rust);
+    println!("{} answers compared with the Rust's: within {FROM_THE_RUST:e}", jobs.len());
+    if !v3.is_empty() {
+        compare_bits(jobs, v3);
+    }
     if !quantlib.is_empty() {
-        println!("{} answers compared with QuantLib's: within {FROM_QUANTLIB:e}", quantlib.len());
+        compare_with_quantlib(jobs, quantlib);
     }
 }

@@ -20,18 +20,18 @@ fn count_runs(job: &str, name: &str, side: &mut dyn Side, runs: usize) {
     println!("{job}\tnothing\t1\n{job}\t{name}\t{runs}");
 }
 
-fn count_job(job: &mut Job, runs: usize) {
+fn count_job(job: &mut Job, with_the_rust: bool, runs: usize) {
     count_runs(&job.name, "ours", job.ours.as_mut(), runs);
-    if job.rust_is_counted {
+    if with_the_rust && job.rust_is_counted {
         count_runs(&job.name, "rust", job.rust.as_mut(), runs);
     }
 }
 
-pub fn count(jobs: &mut [Job]) {
+pub fn count(jobs: &mut [Job], with_the_rust: bool) {
     for job in jobs {
-        count_job(job, 1);
+        count_job(job, with_the_rust, 1);
         if job.rows < MANY_ROWS {
-            count_job(job, WARM_RUNS);
+            count_job(job, with_the_rust, WARM_RUNS);
         }
     }
 }

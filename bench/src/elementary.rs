@@ -1,7 +1,7 @@
 //! exp, ln and powers, beside the C library's, which the Rust's are.
 use crate::job::{one_by_one, unless_refused, Job};
 use crate::library::*;
-use crate::measure::lent;
+use crate::measure::{lent, scattered};
 
 /// So many numbers from -35 on, an odd step apart.
 fn points(count: usize) -> Vec<f64> {
@@ -41,4 +41,10 @@ pub fn broken_powers(count: usize) -> Job {
 pub fn whole_powers(count: usize) -> Job {
     let pair = |i: usize| (1.0 + 1e-6 * i as f64, (i % 1200) as f64);
     powers(format!("{count} powers of whole exponents, one by one"), (0..count).map(pair).collect())
+}
+
+/// The same over terms in no order.
+pub fn mixed_powers(count: usize) -> Job {
+    let pairs = scattered(1200).enumerate().map(|(i, term)| (1.0 + 1e-6 * i as f64, term as f64));
+    powers(format!("{count} powers of whole exponents, mixed"), pairs.take(count).collect())
 }

@@ -1,88 +1,42 @@
 //! Times jobs of the library beside the Rust's published text and, where it is there, QuantLib, in one process and one thread.
 mod bonds;
+mod brought;
 mod comparing;
 mod counting;
 mod curves;
 mod elementary;
 mod growth;
 mod job;
+mod jobs;
 mod library;
 mod limits;
 mod loans;
 mod measure;
 mod pools;
 mod published;
-mod quantlib;
 mod spreads;
 mod swaps;
 mod table;
 
-use curves::Asked::{AsAList, OneByOne};
-use job::Job;
+use brought::{quantlib, v3};
 
 pub fn fail(said: &str) -> ! {
     eprintln!("bench: {said}");
     std::process::exit(1);
 }
 
-/// Every job, with the ratio that it aims at.
-fn jobs() -> Vec<Job> {
-    vec![
-        loans::schedule(1).aims_at(0.8),
-        loans::schedule(360).aims_at(2.0),
-        loans::schedule(1200).aims_at(2.0),
-        loans::book(10_000).aims_at(3.5),
-        loans::book_loan_by_loan(10_000),
-        loans::payment(),
-        pools::months(64, 360).aims_at(400.0),
-        pools::price(64, 360).aims_at(400.0),
-        pools::duration(64, 360).aims_at(400.0),
-        bonds::price(20).aims_at(1.0),
-        bonds::yield_to_maturity(20).aims_at(1.0),
-        bonds::duration(20),
-        swaps::bootstrap(30.0, 30).aims_at(6.0),
-        swaps::bootstrap(30.0, 120).aims_at(6.0),
-        curves::yield_curve(OneByOne, 10).aims_at(1.0),
-        curves::yield_curve(AsAList, 10).aims_at(1.0),
-        curves::yield_curve(OneByOne, 30).aims_at(1.0),
-        curves::yield_curve(AsAList, 30).aims_at(1.0),
-        curves::yield_curve(OneByOne, 120).aims_at(1.0),
-        curves::yield_curve(AsAList, 120).aims_at(1.0),
-        curves::discount_curve(OneByOne, 10).aims_at(1.0),
-        curves::discount_curve(AsAList, 10).aims_at(1.0),
-        curves::discount_curve(OneByOne, 30).aims_at(1.0),
-        curves::discount_curve(AsAList, 30).aims_at(1.0),
-        curves::discount_curve(OneByOne, 120).aims_at(1.0),
-        curves::discount_curve(AsAList, 120).aims_at(1.0),
-        curves::zero_curve(OneByOne, 10).aims_at(1.0),
-        curves::zero_curve(AsAList, 10).aims_at(1.0),
-        curves::zero_curve(OneByOne, 30).aims_at(1.0),
-        curves::zero_curve(AsAList, 30).aims_at(1.0),
-        curves::zero_curve(OneByOne, 120).aims_at(1.0),
-        curves::zero_curve(AsAList, 120).aims_at(1.0),
-        spreads::spread(60).aims_at(2.0),
-        spreads::pv(60),
-        swaps::value(120, 30).aims_at(5.0),
-        curves::fit(30).aims_at(1.0),
-        elementary::exps(4096),
-        elementary::lns(4096),
-        elementary::broken_powers(4096),
-        elementary::whole_powers(4096),
-        elementary::exp_list(4096).aims_at(0.8),
-    ]
-}
-
 fn main() {
     let words: Vec<String> = std::env::args().skip(1).collect();
     match words.iter().map(String::as_str).collect::<Vec<_>>()[..] {
-        ["compare"] => comparing::compare(&mut jobs(), &mut quantlib::sides()),
-        ["count"] => counting::count(&mut jobs()),
+        ["compare"] => comparing::compare(&mut jobs::all(), &mut v3(), &mut quantlib()),
+        ["count"] => counting::count(&mut jobs::all(), true),
+        ["count-ours"] => counting::count(&mut jobs::all(), false),
         ["time", counted] => {
             let counted = std::fs::read_to_string(counted).unwrap_or_default();
-            table::print(&mut jobs(), &mut quantlib::sides(), &table::Instructions::read(&counted));
+            table::print(&mut jobs::all(), &mut v3(), &mut quantlib(), &table::Instructions::read(&counted));
         }
         ["limits"] => limits::print(),
         ["growth"] => growth::print(),
-        _ => fail("usage: jobs compare | count | time COUNTED | limits | growth"),
+        _ => fail("usage: jobs compare | count | count-ours | time COUNTED | limits | growth"),
     }
 }

@@ -25,6 +25,16 @@ pub fn unseen<T>(thing: &T) -> &T {
     }
 }
 
+/// Whole numbers below a bound, always the same ones, in an order that no processor foresees.
+pub fn scattered(bound: usize) -> impl Iterator<Item = usize> {
+    let next = |last: &u64| {
+        let x = last ^ (last << 13);
+        let x = x ^ (x >> 7);
+        Some(x ^ (x << 17))
+    };
+    std::iter::successors(Some(88_172_645_463_325_252), next).map(move |x| (x % bound as u64) as usize)
+}
+
 /// Work that fills a room, which stays warm and is not cleared between runs.
 struct Filling<R, W> {
     room: R,

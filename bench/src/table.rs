@@ -1,7 +1,7 @@
 //! The table: each job is timed, and its line says whether its target was met.
+use crate::brought::Sides;
 use crate::job::Job;
 use crate::measure::best_times;
-use crate::quantlib::Sides;
 use std::collections::BTreeMap;
 use std::time::Duration;
 
@@ -27,7 +27,7 @@ impl Instructions {
     fn said(&self, job: &Job) -> String {
         let a_row = |side: &str| Some(self.0.get(&(job.name.clone(), side.to_string()))? / job.rows as f64);
         let said = |side: &str| a_row(side).map_or(String::new(), |count| format!(" {side} {count:.1}"));
-        match said("ours") + &said("rust") {
+        match said("ours") + &said("v3") + &said("rust") {
             said if said.is_empty() => said,
             said => format!("a row{said}"),
         }
@@ -43,22 +43,32 @@ fn judged(target: Option<f64>, ratio: f64) -> String {
     }
 }
 
-fn line(job: &mut Job, quantlib: &mut Sides, instructions: &Instructions) -> String {
-    let third = quantlib.get_mut(&job.name);
-    let mut sides: Vec<_> = [&mut job.ours, &mut job.rust].into_iter().chain(third).collect();
+/// The Rust's time over ours, cut to two digits.
+fn ratio(rust: f64, ours: f64) -> f64 {
+    (rust / ours * 100.0).floor() / 100.0
+}
+
+fn line(job: &mut Job, v3: &mut Sides, quantlib: &mut Sides, instructions: &Instructions) -> String {
+    let (v3, quantlib) = (v3.get_mut(&job.name), quantlib.get_mut(&job.name));
+    let has_v3 = v3.is_some();
+    let mut sides: Vec<_> = [&mut job.ours, &mut job.rust].into_iter().chain(v3).chain(quantlib).collect();
     let best = best_times(&mut sides, BUDGET);
-    let ratio = (best[1] / best[0] * 100.0).floor() / 100.0;
-    let third = best.get(2).map_or(String::new(), |time| format!("quantlib {time:.1}"));
-    let judged = judged(job.target, ratio);
+    let (ours, rust) = (best[0], best[1]);
+    let (v3, quantlib) = best[2..].split_at(usize::from(has_v3));
+    let v3_ratio: String = v3.iter().map(|time| format!(" v3 {:7.2}", ratio(rust, *time))).collect();
+    let v3: String = v3.iter().map(|time| format!(" v3 {time:10.1}")).collect();
+    let quantlib: String = quantlib.iter().map(|time| format!("quantlib {time:.1}")).collect();
+    let plain = ratio(rust, ours);
+    let judged = judged(job.target, plain);
     let line = format!(
-        "{:46} ours {:10.1} rust {:11.1} ratio {ratio:7.2} {judged:17} {:32} {third}",
-        job.name, best[0], best[1], instructions.said(job),
+        "{:46} ours {ours:10.1}{v3} rust {rust:11.1} ratio {plain:7.2}{v3_ratio} {judged:17} {:32} {quantlib}",
+        job.name, instructions.said(job),
     );
     line.trim_end().to_string()
 }
 
-pub fn print(jobs: &mut [Job], quantlib: &mut Sides, instructions: &Instructions) {
+pub fn print(jobs: &mut [Job], v3: &mut Sides, quantlib: &mut Sides, instructions: &Instructions) {
     for job in jobs {
-        println!("{}", line(job, quantlib, instructions));
+        println!("{}", line(job, v3, quantlib, instructions));
     }
 }

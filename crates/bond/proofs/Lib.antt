@@ -1,3 +1,4 @@
+pub mod SumTests
 pub mod FlowSums
 pub mod Passes
 pub mod BracketTests

@@ -1,7 +1,7 @@
 // A bond's coupon and periods, and the lines of the table that every function over a bond asks first.
 ghost use mathlib.Core.Path.{_≡_};
-ghost use mathlib.Core.Bool.{_||_};
-ghost use Rattle.refusals.specs.Outcome.{judged};
+ghost use mathlib.Core.Bool.{true, _||_};
+ghost use Rattle.refusals.specs.Outcome.{Outcome, accepted, judged};
 ghost use Rattle.refusals.specs.Answers.{verdictOutcome};
 ghost use Rattle.refusals.specs.Table.{badNumber};
 ghost use Rattle.bond.specs.Bonds.{periodsPerYear, couponsAYear, periodCoupon, periods, badMaturity, numberLines, bondLines};
@@ -41,7 +41,7 @@ fn period_coupon(bond: Bond) -> f64
 fn periods(bond: Bond) -> u32
     ensures { λ r. ⌜ r ≡ periods bond ⌝ }
 {
-    numbers::whole::nearest_whole(bond.maturity * coupons_a_year(bond))
+    elementary::whole::usually_whole(bond.maturity * coupons_a_year(bond))
 }
 
 // A bond with its numbers worked out once: the coupons a year, the coupon of a period, and the periods.
@@ -104,11 +104,29 @@ pub fn judge_numbers(face: f64, bad_maturity: bool, coupon: f64, beside: f64) ->
     Verdict::Accepted
 }
 
+// Whether nothing is wrong with a bond and the number beside it: one sum is finite only where each of its numbers is.
+fn all_right(worked: Worked, beside: f64) -> bool
+    requires { ⌜ WorkedOut worked ⌝ }
+    ensures { λ r. ⌜ (r ≡ true → _≡_ {A = Outcome Unit} (judged (bondLines (worked .bond) beside) tt) (accepted tt)) ⌝ }
+{
+    let bond = worked.bond;
+    if worked.count > 1200 {
+        return false;
+    }
+    if bond.face < 0.0 {
+        return false;
+    }
+    numbers::sizes::is_finite(bond.face + bond.coupon + bond.maturity + beside)
+}
+
 // The same of a bond, with a yield or a market price beside it.
 pub(crate) fn judge_bond(worked: Worked, beside: f64) -> Verdict
     requires { ⌜ WorkedOut worked ⌝ }
     ensures { λ r. ⌜ verdictOutcome r ≡ judged (bondLines (worked .bond) beside) tt ⌝ }
 {
+    if all_right(worked, beside) {
+        return Verdict::Accepted;
+    }
     let bond = worked.bond;
     judge_numbers(bond.face, bad_maturity(worked), bond.coupon, beside)
 }

@@ -1,13 +1,13 @@
 -- Whole exponents: the program's tests are the definition's, and the nearest whole number of a whole number is that number. Assumes nothing.
 use mathlib.Core.Path.{_≡_, refl, sym, ap, _∙_, subst}
-use mathlib.Core.Bool.{Bool, true, false, _&&_, _||_, true≢false}
+use mathlib.Core.Bool.{Bool, true, false, not, _&&_, _||_, true≢false}
 use Prim.Native.Nat.{ℕ, _+_, _*_, _/_, _%_, _≤_, _<_, min}
 use native.Mathlib.Nat.{zero-div, div-add-mod', mul-le-mul-right, mul-mod-left, mul-one, le-trans, div-le-of-le-mul, eq-of-mul-eq-mul-right, zero-lt-suc}
 use native.Mathlib.Omega.{arith}
 use borrow.Author.Tests.{ltb-true, ltb-false, eq-eqb, le-leb, lt-leb}
 use lib.IntN.{ℤ, pos}
 use lib.Dec.{T, ltb, leb, eqb, lt→ltb, leb→le, eqb→eq, lit≤}
-use lib.Ieee.{Float, nan, inf, fin, binary64, up, down, round, lt, le, eq, ofInt, ofBits, div}
+use lib.Ieee.{Float, nan, inf, fin, binary64, up, down, round, lt, le, eq, isNan, ofInt, ofBits, div}
 use lib.Ieee.Back.{round-whole}
 use lib.Ieee.Exact.{HasValue}
 use lib.Ieee.Fits.{down-pos, and-l, and-r, and-i, eq→eqb}
@@ -117,6 +117,45 @@ equals (fin false p g) n m k v = go (eqb (p * up g * down k) (m * up k * down g)
 as-float : (n : ℕ) → n ≤ largest → HasValue (ofInt binary64 (pos n)) false n 1
 unfolding ofInt
 as-float n h = round-whole binary64 false n (le-trans h (lit≤ tt))
+
+-- ---- a whole number that is x itself is the nearest to x
+no-count : (n d : ℕ) → 0 < d → n * d ≡ 0 → n ≡ 0
+no-count n d D e = eq-of-mul-eq-mul-right d D n 0 (e ∙ nothing d)
+  where
+    nothing : (d : ℕ) → 0 ≡ 0 * d
+    nothing d = omega arith
+
+-- so far over a float w of that value
+at-value : (w x : Float) (n : ℕ) → n ≤ largest → HasValue w false n 1 → eq w x ≡ true → n ≡ nearestWhole x
+unfolding eq nearestWhole
+at-value nan x n h v e = absurd v
+at-value (inf s) x n h v e = absurd v
+at-value (fin true p g) x n h v e = absurd (true≢false (v .0))
+at-value (fin false p g) nan n h v e = absurd (passes e)
+at-value (fin false p g) (inf s) n h v e = absurd (passes e)
+at-value (fin false p g) (fin true m k) n h v e =
+    let A = p * up g * down k in
+    let B = m * up k * down g in
+    no-count n (down g) (down-pos g) (none (p * up g) (n * down g) (v .1) (no-count (p * up g) (down k) (down-pos k) (eqb→eq A 0 (and-r (eqb A B) (eqb A 0) (passes e)))))
+  where
+    none : (a b : ℕ) → a * 1 ≡ b → a ≡ 0 → b ≡ 0
+    none a b f z = omega arith
+at-value (fin false p g) (fin false m k) n h v e =
+    let a = m * up k in
+    let d = down k in
+    sym (ap (λ (i : ℕ). min i largest) (nearest-of-ratio .same a d n 1 (down-pos k) (zero-lt-suc 0) (mul-one a ∙ sym (eqb→eq (n * d) a (passes (sym (equals (fin false p g) n m k v) ∙ e))))) ∙ at-one n h)
+  where
+    at-one : (q : ℕ) → q ≤ largest → min ((q * 2 + 1) / (1 * 2)) largest ≡ q
+    at-one q h = omega arith
+
+pub itself : (x : Float) (n : ℕ) → n ≤ largest → eq (ofInt binary64 (pos n)) x ≡ true → n ≡ nearestWhole x
+itself x n h e = at-value (ofInt binary64 (pos n)) x n h (as-float n h) e
+
+pub above-zero : (x : Float) → lt plusZero x ≡ true → T (not (isNan x))
+unfolding isNan lt ofBits
+above-zero nan h = absurd (passes h)
+above-zero (inf s) h = tt
+above-zero (fin s m e) h = tt
 
 -- ---- the program's test
 pub within : (y : Float) (n : ℕ) → le (absolute y) most ≡ true → n ≡ nearestWhole (absolute y) → eq (ofInt binary64 (pos n)) (absolute y) ≡ isWhole y

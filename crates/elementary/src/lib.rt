@@ -3,4 +3,5 @@ pub mod exp;
 pub mod ln;
 pub mod power;
 pub mod powers;
+pub mod whole;
 pub mod whole_power;

@@ -6,10 +6,10 @@ ghost use Rattle.elementary.specs.WholePower.{one};
 ghost use Rattle.elementary.specs.Power.{isWhole, bySign, byLn, power};
 use crate::exp::exp;
 use crate::ln::ln;
+use crate::whole::usually_whole;
 use crate::whole_power::negative_power;
 use crate::whole_power::whole_power;
 use numbers::sizes::absolute_value;
-use numbers::whole::nearest_whole;
 
 // Whether y is a whole number up to 1,200 in size.
 fn is_whole(y: f64) -> bool
@@ -17,7 +17,7 @@ fn is_whole(y: f64) -> bool
 {
     let size = absolute_value(y);
     if size <= 1200.0 {
-        nearest_whole(size) as f64 == size
+        usually_whole(size) as f64 == size
     } else {
         false
     }
@@ -28,7 +28,7 @@ fn by_sign(x: f64, y: f64) -> f64
     requires { ⌜ isWhole y ≡ true ⌝ }
     ensures { λ r. ⌜ r ≡ bySign x y ⌝ }
 {
-    let size = nearest_whole(absolute_value(y));
+    let size = usually_whole(absolute_value(y));
     if y < 0.0 {
         negative_power(x, size)
     } else {

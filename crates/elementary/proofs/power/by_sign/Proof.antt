@@ -7,14 +7,14 @@ use Rattle.elementary.proofs.WholeExponents.{below-zero, not-below-zero
 use Rattle.elementary.proofs.power.by_sign.Statement.{statement}
 use Rattle.elementary.proofs.power.by_sign.Tie as tie
 
-nearest : (c : tie.After-nearest-whole) → c .nearest-whole .result ≡ nearestWhole (absolute (c .before .before .args .y))
-nearest c = c .nearest-whole .ensures ∙ ap nearestWhole (c .before .absolute-value .ensures)
+nearest : (c : tie.After-usually-whole) → c .usually-whole .result ≡ nearestWhole (absolute (c .before .before .args .y))
+nearest c = c .usually-whole .ensures ∙ ap nearestWhole (c .before .absolute-value .ensures)
 
 absolute-value-requires : tie.Need-absolute-value-requires
 absolute-value-requires c κs = search needs
 
-nearest-whole-requires : tie.Need-nearest-whole-requires
-nearest-whole-requires c κs = search needs
+usually-whole-requires : tie.Need-usually-whole-requires
+usually-whole-requires c κs = search needs
 
 negative-power-requires : tie.Need-negative-power-requires
 negative-power-requires c κs = search needs
@@ -33,7 +33,7 @@ by-sign-spec =
     tie.close
     (tie.spec
     absolute-value-requires
-    nearest-whole-requires
+    usually-whole-requires
     negative-power-requires
     whole-power-requires
     returns
