@@ -151,11 +151,13 @@ impostors: kit
 	@tools/need python3 python3
 	tools/impostors $(CRATES)
 
-# The tests in C once more, over the library for a kind of processor; elsewhere they are cross-compiled and emulated.
+# The tests in C once more, over the library for a kind of processor; elsewhere they are cross-compiled and emulated. Where a masked load
+# takes nothing, a processor touches no memory; qemu 7.2 touches it all, and so meets the guard pages of the tests of pools.
+EMULATED_WITHOUT_x86-64-v3 := --without test_pools
 .PHONY: $(KINDS:%=test-%)
 $(KINDS:%=test-%): test-%: build/%/libsenyolanda.a
 	$(if $(CROSS_$*),@tools/need qemu-$(CROSS_$*:-linux-gnu-=) qemu-user)
-	test/c/run $< $(call compiler,$*) $(if $(CROSS_$*),"qemu-$(CROSS_$*:-linux-gnu-=) -cpu max -L /usr/$(CROSS_$*:-=)")
+	test/c/run $(if $(CROSS_$*),$(EMULATED_WITHOUT_$*)) $< $(call compiler,$*) $(if $(CROSS_$*),"qemu-$(CROSS_$*:-linux-gnu-=) -cpu max -L /usr/$(CROSS_$*:-=)")
 
 # Beside the Rust's published files, COUNT cases a family (10,000, and 100 for pools and bootstraps).
 differential: build/libsenyolanda.a
