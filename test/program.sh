@@ -3,30 +3,15 @@
 set -eu
 program=$(readlink -f "${1:?usage: test/program.sh PROGRAM}")
 cd "$(dirname "$0")/.."
-room=$(mktemp -d)
-trap 'rm -rf "$room"' EXIT
-count=0
-export ASAN_OPTIONS=exitcode=99:detect_leaks=0
-
-# fails WHY: shows what came of the last run, and stops
-fails() {
-    echo "program: $last: $1" >&2
-    head -n 20 "$room/wrote" "$room/said" >&2
-    exit 1
-}
+named=program
+. test/running.sh
 
 # gives STATUS WORDS..: runs the program on the words, and holds it to its exit status; what is done says nothing on standard error,
 # and trouble writes nothing to standard output
 gives() {
-    want=$1
-    shift
-    last=$*
-    status=0
-    "$program" "$@" >"$room/wrote" 2>"$room/said" </dev/null || status=$?
-    [ "$status" = "$want" ] || fails "exit status $status and not $want"
-    [ "$want" = 2 ] || [ ! -s "$room/said" ] || fails "words on standard error"
-    [ "$want" = 0 ] || [ ! -s "$room/wrote" ] || fails "output, for trouble"
-    count=$((count + 1))
+    ends "$@" </dev/null
+    [ "$status" = 2 ] || [ ! -s "$room/said" ] || fails "words on standard error"
+    [ "$status" = 0 ] || [ ! -s "$room/wrote" ] || fails "output, for trouble"
 }
 
 # wrong LINE WORDS..: trouble, and that line

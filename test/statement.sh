@@ -3,28 +3,14 @@
 set -eu
 program=$(readlink -f "${1:?usage: test/statement.sh PROGRAM}")
 cd "$(dirname "$0")/.."
-room=$(mktemp -d)
-trap 'rm -rf "$room"' EXIT
-count=0
-# For a program that watches its memory: what it finds has a status of its own, and looking for leaks takes it seconds each time.
-export ASAN_OPTIONS=exitcode=99:detect_leaks=0
+named=statement
+. test/running.sh
 
-# fails WHY: shows what came of the last run, and stops
-fails() {
-    echo "statement: $last: $1" >&2
-    head -n 20 "$room/wrote" "$room/said" >&2
-    exit 1
-}
-
-# gives STATUS WORDS..: runs the program on the words, and holds it to its exit status
+# gives STATUS WORDS..: runs the command on the words, and holds it to its exit status
 gives() {
     want=$1
     shift
-    last=$*
-    status=0
-    "$program" statement "$@" >"$room/wrote" 2>"$room/said" || status=$?
-    [ "$status" = "$want" ] || fails "exit status $status and not $want"
-    count=$((count + 1))
+    ends "$want" statement "$@"
 }
 
 # writes, says: standard output, or standard error, of the last run is what stands on standard input here
