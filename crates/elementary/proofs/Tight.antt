@@ -13,6 +13,8 @@ use Rattle.elementary.proofs.power.power.Kinds as power-kinds
 use Rattle.elementary.proofs.power.power.Reads as power
 use Rattle.elementary.proofs.powers.sixteen_powers.Kinds as sixteen-powers-kinds
 use Rattle.elementary.proofs.powers.sixteen_powers.Reads as sixteen-powers
+use Rattle.elementary.proofs.whole.usually_whole.Kinds as usually-whole-kinds
+use Rattle.elementary.proofs.whole.usually_whole.Reads as usually-whole
 use Rattle.elementary.proofs.whole_power.whole_power.Kinds as whole-power-kinds
 use Rattle.elementary.proofs.whole_power.whole_power.Reads as whole-power
 use Rattle.elementary.proofs.whole_power.negative_power.Kinds as negative-power-kinds
@@ -38,3 +40,6 @@ negative-power-determined κs a x y e e′ p q = p ∙ sym q
 
 pub sixteen-powers-determined : Determined 0 sixteen-powers-kinds.ps sixteen-powers-kinds.r sixteen-powers.Post
 sixteen-powers-determined κs a x y e e′ p q = p ∙ sym q
+
+pub usually-whole-determined : Determined 0 usually-whole-kinds.ps usually-whole-kinds.r usually-whole.Post
+usually-whole-determined κs a x y e e′ p q = p ∙ sym q
