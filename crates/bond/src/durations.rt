@@ -179,7 +179,7 @@ pub fn convexity(ytm: f64, bond: Bond) -> Number
     }
 }
 
-// What the price changes by where the yield changes by delta, by duration and convexity.
+// What part of itself the price changes by where the yield changes by delta, by duration and convexity.
 pub fn price_change_approximation(ytm: f64, delta: f64, bond: Bond) -> Number
     ensures { λ r. ⌜ numberOutcome r ≡ priceChange ytm delta bond ⌝ }
 {

@@ -91,6 +91,11 @@ le-sizes m e n d t =
     let B = n * up d * down e in
     either (ltb A B) (eqb A B && true) t (λ u. le-of-lt (ltb→lt A B u)) (λ u. le-of-eq (eqb→eq A B (and-l (eqb A B) true u)))
 
+-- where a number times one above 0 is 0, the number is
+pub zero-factor : (a d : ℕ) → 0 < d → a * d ≡ 0 → a ≡ 0
+zero-factor zero d l h = refl
+zero-factor (suc a) d l h = absurd (omega arith)
+
 pub nearest-no-less : (x y : Float) → T (le x y) → nearestWhole x ≤ nearestWhole y
 unfolding le lt eq nearestWhole
 nearest-no-less nan y t = absurd t
@@ -111,11 +116,7 @@ nearest-no-less (fin false m e) (fin false n d) t =
 nearest-no-less (fin false m e) (fin true n d) t =
     let A = m * up e * down d in
     let B = n * up d * down e in
-    none (m * up e) (down e) (down-pos e) (nothing (m * up e) (down d) (down-pos d) (eqb→eq A 0 (and-r (eqb A B) (eqb A 0) t)))
+    none (m * up e) (down e) (down-pos e) (zero-factor (m * up e) (down d) (down-pos d) (eqb→eq A 0 (and-r (eqb A B) (eqb A 0) t)))
   where
-    nothing : (a d : ℕ) → 0 < d → a * d ≡ 0 → a ≡ 0
-    nothing zero d l h = refl
-    nothing (suc a) d l h = absurd (omega arith)
-
     none : (a c : ℕ) → 0 < c → a ≡ 0 → min (nearestTo a c) largest ≤ 0
     none a c l z = rw z (rw (nearest-of-ratio .at-nothing c l) (omega arith))

@@ -17,7 +17,7 @@ use Rattle.numbers.specs.Whole.{nearestTo, nearestWhole, largest}
 use Rattle.numbers.proofs.Amounts.{passes}
 use Rattle.numbers.proofs.Ratios.{nearest-of-ratio}
 use Rattle.elementary.specs.WholePower.{one, turns, wholePower, negativePower}
-use Rattle.elementary.proofs.Roundings.{le-sizes}
+use Rattle.elementary.proofs.Roundings.{le-sizes, zero-factor}
 use Rattle.elementary.specs.Power.{isWhole, sizeOf, bySign}
 
 -- 1,200
@@ -119,12 +119,6 @@ unfolding ofInt
 as-float n h = round-whole binary64 false n (le-trans h (lit≤ tt))
 
 -- ---- a whole number that is x itself is the nearest to x
-no-count : (n d : ℕ) → 0 < d → n * d ≡ 0 → n ≡ 0
-no-count n d D e = eq-of-mul-eq-mul-right d D n 0 (e ∙ nothing d)
-  where
-    nothing : (d : ℕ) → 0 ≡ 0 * d
-    nothing d = omega arith
-
 -- so far over a float w of that value
 at-value : (w x : Float) (n : ℕ) → n ≤ largest → HasValue w false n 1 → eq w x ≡ true → n ≡ nearestWhole x
 unfolding eq nearestWhole
@@ -136,7 +130,7 @@ at-value (fin false p g) (inf s) n h v e = absurd (passes e)
 at-value (fin false p g) (fin true m k) n h v e =
     let A = p * up g * down k in
     let B = m * up k * down g in
-    no-count n (down g) (down-pos g) (none (p * up g) (n * down g) (v .1) (no-count (p * up g) (down k) (down-pos k) (eqb→eq A 0 (and-r (eqb A B) (eqb A 0) (passes e)))))
+    zero-factor n (down g) (down-pos g) (none (p * up g) (n * down g) (v .1) (zero-factor (p * up g) (down k) (down-pos k) (eqb→eq A 0 (and-r (eqb A B) (eqb A 0) (passes e)))))
   where
     none : (a b : ℕ) → a * 1 ≡ b → a ≡ 0 → b ≡ 0
     none a b f z = omega arith

@@ -141,7 +141,7 @@ pub extern "C" fn senyolanda_bond_convexity(record: &[u8], ytm: f64, convexity: 
     }
 }
 
-// What the price changes by where the yield changes by delta, by duration and convexity.
+// What part of itself the price changes by where the yield changes by delta, by duration and convexity.
 #[no_mangle]
 pub extern "C" fn senyolanda_bond_price_change(
     record: &[u8],
