@@ -1,9 +1,12 @@
 -- What the proofs of several functions and of later crates use.
+pub mod Literals
 pub mod Determined
 pub mod Nans
 pub mod Zeros
 pub mod Amounts
 pub mod Order
+pub mod Comparing
+pub mod Mapped
 pub mod Snap
 pub mod Values
 pub mod Ratios

@@ -1,29 +1,27 @@
--- Repayment: whatever parts are asked of a balance, each raised to 0 and lowered to the balance, the last one the balance itself, every balance and part is an amount,
--- no balance rises, the last is +0, and the exact sum of the parts misses the opening balance by at most one part in 2 ^ 53 of it for each part but the last. Assumes nothing.
+-- Repayment: whatever parts are taken off a balance, each a part of it, the last one the balance itself, every balance and part is an amount, no balance rises, the last is +0, and
+-- the exact sum of the parts misses the opening balance by at most one part in 2 ^ 53 of it for each part but the last. Assumes nothing.
 use mathlib.Core.Path.{_≡_, sym, _∙_}
 use mathlib.Core.Logic.{inl, inr}
 use Prim.Native.Nat.{ℕ, zero, suc, _+_, _-_, _*_, _^_, _≤_, _<_}
 use native.Mathlib.Nat.{le-refl, le-trans, le-of-lt, eq-or-lt-of-le, add-sub-of-le, mul-le-mul-left}
 use native.Mathlib.Omega.{arith}
 use lib.Dec.{T}
-use lib.Ieee.{Float, binary64, fits, sub}
-use Rattle.numbers.specs.Clamps.{plusZero, raised, lowered}
+use lib.Ieee.{Float, binary64, sub}
+use Rattle.numbers.specs.Clamps.{plusZero}
 use Rattle.numbers.specs.Sums.{exactSum}
 use Rattle.numbers.specs.Units.{units, miss}
 use Rattle.numbers.proofs.Zeros.{plus-zero, sub-itself}
 use Rattle.numbers.proofs.Amounts.{amount, amount-finite}
 use Rattle.numbers.proofs.Differences.{Difference, difference}
-use Rattle.numbers.proofs.Clamping.{PartOf, whole-part, clamped-part}
+use Rattle.numbers.proofs.Clamping.{PartOf, whole-part}
 
 -- ---- one part p taken off the balance b
 record Taken (b p left : Float) : Type 0 where
   part-of : PartOf binary64 p b
   what-is-left : Difference binary64 b p left
 
-taken : (asked b p left : Float) → T (fits binary64 asked) → T (amount binary64 b) → p ≡ lowered (raised asked) b → left ≡ sub binary64 b p → Taken b p left
-taken asked b p left t u is left-is =
-    let q : PartOf binary64 p b = rw is (clamped-part binary64 asked b t u) in
-    record { part-of = q; what-is-left = rw left-is (difference binary64 b p u (q .0) (q .1)) }
+taken : (b p left : Float) → T (amount binary64 b) → PartOf binary64 p b → left ≡ sub binary64 b p → Taken b p left
+taken b p left u q is = record { part-of = q; what-is-left = rw is (difference binary64 b p u (q .0) (q .1)) }
 
 -- S has been taken, b is left of the opening balance B, and then p is taken: what it adds to the miss
 triangle : (S p left b B : ℕ) → p ≤ b → miss (S + p + left) B ≤ miss (S + b) B + miss left (b - p)
@@ -38,21 +36,23 @@ one-more P S p left b B n h l c ih = go (miss (S + p + left) B) (miss (S + b) B)
     go : (x y z : ℕ) → P * x ≤ P * (y + z) → P * y ≤ n * B → P * z ≤ B → P * x ≤ suc n * B
     go x y z t u v = omega arith
 
--- ---- m parts that were asked of a balance, and a last one that clears it
-pub record Repaying (balance part asked : ℕ → Float) (m : ℕ) : Type 0 where
-  pub asked-fits : (k : ℕ) → k < m → T (fits binary64 (asked k))
+-- ---- m parts that are taken off a balance, and a last one that clears it
+pub record Repaying (balance part : ℕ → Float) (m : ℕ) : Type 0 where
   pub start : T (amount binary64 (balance 0))
-  pub parts : (k : ℕ) → k < m → part k ≡ lowered (raised (asked k)) (balance k)
+  pub parts : (k : ℕ) → k < m → T (amount binary64 (balance k)) → PartOf binary64 (part k) (balance k)
   pub falls : (k : ℕ) → k < m → balance (suc k) ≡ sub binary64 (balance k) (part k)
   pub clears : part m ≡ balance m
 
-module _ {balance part asked : ℕ → Float} {m : ℕ} (repaying : Repaying balance part asked m) where
+module _ {balance part : ℕ → Float} {m : ℕ} (repaying : Repaying balance part m) where
+  taken-from : (k : ℕ) → k < m → T (amount binary64 (balance k)) → Taken (balance k) (part k) (balance (suc k))
+  taken-from k h a = taken (balance k) (part k) (balance (suc k)) a (repaying .parts k h a) (repaying .falls k h)
+
   pub amount-at : (k : ℕ) → k ≤ m → T (amount binary64 (balance k))
   amount-at zero h = repaying .start
-  amount-at (suc k) h = taken (asked k) (balance k) (part k) (balance (suc k)) (repaying .asked-fits k h) (amount-at k (le-of-lt h)) (repaying .parts k h) (repaying .falls k h) .what-is-left .is-amount
+  amount-at (suc k) h = taken-from k h (amount-at k (le-of-lt h)) .what-is-left .is-amount
 
   taken-at : (k : ℕ) → k < m → Taken (balance k) (part k) (balance (suc k))
-  taken-at k h = taken (asked k) (balance k) (part k) (balance (suc k)) (repaying .asked-fits k h) (amount-at k (le-of-lt h)) (repaying .parts k h) (repaying .falls k h)
+  taken-at k h = taken-from k h (amount-at k (le-of-lt h))
 
   pub part-amount : (k : ℕ) → k ≤ m → T (amount binary64 (part k)) × (units (part k) ≤ units (balance k))
   part-amount k h = elim (eq-or-lt-of-le h) [

@@ -1,3 +1,4 @@
+pub mod Literals
 pub mod Clamps
 pub mod Sizes
 pub mod Whole
