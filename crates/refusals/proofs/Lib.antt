@@ -1,7 +1,9 @@
 pub mod Judging
+pub mod NumbersWithin
 pub mod GivenPlaces
 pub mod Verdicts
 pub mod Placing
 pub mod LaterLines
 pub mod OneToOne
 pub mod Tight
+pub mod Causes
