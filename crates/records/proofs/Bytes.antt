@@ -6,6 +6,7 @@ use native.Mathlib.Omega.{arith}
 use native.Mathlib.Nat.{pow-succ', mul-assoc, zero-add, suc-add}
 use lib.ListN.{length, drop, getD, set, length-drop}
 use lib.Seq.{length-take-le, take-add, drop-drop, drop-cons, sets}
+use Rattle.steps.proofs.Rooms.{sets-append}
 use Rattle.records.specs.Bytes.{valueOf, bytesOf, field}
 use Rattle.records.specs.OneNan.{AreBytes}
 
@@ -75,16 +76,10 @@ read-byte at bytes h = rw (drop-cons bytes at 0 h) (omega arith)
 
 -- ---- writing
 
-pub sets-append : {A : Type 0} (out : List A) (at : ℕ) (low high : List A) → sets out at (low ++ high) ≡ sets (sets out at low) (at + length low) high
-sets-append out at [] high = ap (λ (i : ℕ). sets out i high) (omega arith)
-sets-append out at (a ∷ low) high =
-    let e : suc at + length low ≡ at + suc (length low) = omega arith in
-    sets-append (set out at a) (suc at) low high ∙ ap (λ (i : ℕ). sets (sets (set out at a) (suc at) low) i high) e
-
 pub write-halves : (j k at n low high : ℕ) (out : List ℕ) {once twice : List ℕ} → low < 256 ^ j → n ≡ low + 256 ^ j * high
     → once ≡ sets out at (bytesOf j low) → twice ≡ sets once (at + j) (bytesOf k high) → twice ≡ sets out at (bytesOf (j + k) n)
 write-halves j k at n low high out h parts is-once is-twice =
-    rw (parts, bytes-append j k low high h, sets-append, length-bytes, is-twice, is-once)
+    rw (parts, bytes-append j k low high h, ← sets-append (bytesOf j low) (bytesOf k high) out at, length-bytes, is-twice, is-once)
 
 pub write-pair : (at n : ℕ) (out : List ℕ) → n < 256 ^ 2 → set (set out at (n % 256)) (at + 1) (n / 256) ≡ sets out at (bytesOf 2 n)
 unfolding bytesOf

@@ -1,32 +1,43 @@
 -- Document 01's table, of the readers: refusal 11 at place 0, and no other, is given exactly when the kind is unknown, the length wrong or a code outside its set. Assumes nothing.
-use mathlib.Core.Bool.{_||_}
+use mathlib.Core.Bool.{Bool, false, _||_}
 use mathlib.Core.List.{List, [], _∷_}
 use Prim.Native.Nat.{ℕ}
-use Rattle.refusals.specs.Outcome.{ExactlyWhen, above, line}
-use Rattle.refusals.specs.Table.{badRecord}
+use Rattle.refusals.specs.Outcome.{ExactlyWhen, above, line, judged}
+use Rattle.refusals.specs.Table.{badRecord, badCode}
 use Rattle.refusals.proofs.Judging.{exactly}
-use Rattle.records.specs.Kinds.{termsKind, termsSize, termsIn, readTerms, rowKind, rowSize, rowIn, readRow, badCode, bondKind, bondSize, bondIn, bondFields, readBond, swapKind, swapSize, swapIn, swapFields, readSwap}
+use Rattle.records.specs.Kinds.{termsKind, termsSize, termsIn, readTerms, bondKind, bondSize, bondIn, readBond, readBondUncoded, rowKind, rowSize, rowIn, readRow, swapKind, swapSize, swapIn, readSwap, readSwapUncoded}
+use Rattle.records.proofs.Judged.{or-false}
+
+-- what is judged by line 11 alone
+by-11 : {Value : Type 0} (v : Value) (bad : Bool) → ExactlyWhen (line 11 bad ∷ []) (judged (line 11 bad ∷ []) v)
+unfolding above
+by-11 v bad = exactly v (line 11 bad ∷ []) tt
+
+-- with one code, whose set is the last that is asked about
+by-code : {Value : Type 0} (v : Value) (code bad : Bool) → ExactlyWhen (line 11 (code || bad) ∷ []) (judged (line 11 ((code || false) || bad) ∷ []) v)
+by-code v code bad = rw (or-false code) (by-11 v (code || bad))
 
 pub read-terms-exactly : (bytes : List ℕ) → ExactlyWhen (line 11 (badRecord termsKind termsSize bytes) ∷ []) (readTerms bytes)
-unfolding readTerms above
-read-terms-exactly bytes = exactly (termsIn bytes) (line 11 (badRecord termsKind termsSize bytes) ∷ []) tt
+unfolding readTerms
+read-terms-exactly bytes = by-11 (termsIn bytes) (badRecord termsKind termsSize bytes)
 
 pub read-row-exactly : (bytes : List ℕ) → ExactlyWhen (line 11 (badRecord rowKind rowSize bytes) ∷ []) (readRow bytes)
-unfolding readRow above
-read-row-exactly bytes = exactly (rowIn bytes) (line 11 (badRecord rowKind rowSize bytes) ∷ []) tt
+unfolding readRow
+read-row-exactly bytes = by-11 (rowIn bytes) (badRecord rowKind rowSize bytes)
 
-pub read-bond-exactly : (bytes : List ℕ) → ExactlyWhen (line 11 (badRecord bondKind bondSize bytes || badCode 3 (bondIn bytes .frequency)) ∷ []) (readBond bytes)
-unfolding readBond above
-read-bond-exactly bytes = exactly (bondIn bytes) (line 11 (badRecord bondKind bondSize bytes || badCode 3 (bondIn bytes .frequency)) ∷ []) tt
+pub read-bond-exactly : (bytes : List ℕ) → ExactlyWhen (line 11 (badCode 3 (bondIn bytes .frequency) || badRecord bondKind bondSize bytes) ∷ []) (readBond bytes)
+unfolding readBond bondIn
+read-bond-exactly bytes = by-code (bondIn bytes) (badCode 3 (bondIn bytes .frequency)) (badRecord bondKind bondSize bytes)
 
-pub read-swap-exactly : (bytes : List ℕ) → ExactlyWhen (line 11 (badRecord swapKind swapSize bytes || badCode 2 (swapIn bytes .count)) ∷ []) (readSwap bytes)
-unfolding readSwap above
-read-swap-exactly bytes = exactly (swapIn bytes) (line 11 (badRecord swapKind swapSize bytes || badCode 2 (swapIn bytes .count)) ∷ []) tt
+pub read-swap-exactly : (bytes : List ℕ) → ExactlyWhen (line 11 (badCode 2 (swapIn bytes .count) || badRecord swapKind swapSize bytes) ∷ []) (readSwap bytes)
+unfolding readSwap swapIn
+read-swap-exactly bytes = by-code (swapIn bytes) (badCode 2 (swapIn bytes .count)) (badRecord swapKind swapSize bytes)
 
-pub bond-fields-exactly : (bytes : List ℕ) → ExactlyWhen (line 11 (badRecord bondKind bondSize bytes) ∷ []) (bondFields bytes)
-unfolding bondFields above
-bond-fields-exactly bytes = exactly (bondIn bytes) (line 11 (badRecord bondKind bondSize bytes) ∷ []) tt
+-- whatever the code
+pub read-bond-uncoded-exactly : (bytes : List ℕ) → ExactlyWhen (line 11 (badRecord bondKind bondSize bytes) ∷ []) (readBondUncoded bytes)
+unfolding readBondUncoded
+read-bond-uncoded-exactly bytes = by-11 (bondIn bytes) (badRecord bondKind bondSize bytes)
 
-pub swap-fields-exactly : (bytes : List ℕ) → ExactlyWhen (line 11 (badRecord swapKind swapSize bytes) ∷ []) (swapFields bytes)
-unfolding swapFields above
-swap-fields-exactly bytes = exactly (swapIn bytes) (line 11 (badRecord swapKind swapSize bytes) ∷ []) tt
+pub read-swap-uncoded-exactly : (bytes : List ℕ) → ExactlyWhen (line 11 (badRecord swapKind swapSize bytes) ∷ []) (readSwapUncoded bytes)
+unfolding readSwapUncoded
+read-swap-uncoded-exactly bytes = by-11 (swapIn bytes) (badRecord swapKind swapSize bytes)

@@ -1,5 +1,5 @@
--- Line 11 over the bytes of any kind: where the record is bad, 11 at place 0 is given, and where it is not, the value. Assumes nothing.
-use mathlib.Core.Path.{_≡_, refl, sym, ap, _∙_}
+-- Line 11 over the bytes of any kind: where the record is bad or a code is, 11 at place 0 is given, and where neither is, the value. Assumes nothing.
+use mathlib.Core.Path.{_≡_, refl}
 use mathlib.Core.Logic.{_⊎_, inl, inr}
 use mathlib.Core.Bool.{Bool, true, false, not, cond, _&&_, _||_}
 use mathlib.Core.List.{List, [], _∷_}
@@ -10,6 +10,8 @@ use lib.Dec.{eqb}
 use lib.ListN.{length, getD}
 use Rattle.refusals.specs.Outcome.{refused, accepted, line, firstOr, judged}
 use Rattle.refusals.specs.Table.{badRecord}
+use Rattle.records.specs.Fields.{heldFrom, anyBadCode}
+use Rattle.records.specs.Kinds.{Layout, recordSize, valueIn, readAs, readUncoded}
 
 both : (a b : Bool) → not (a && b) ≡ false → (a ≡ true) × (b ≡ true)
 both true true h = (refl, refl)
@@ -20,7 +22,7 @@ or-true : (a : Bool) → (a || true) ≡ true
 or-true true = refl
 or-true false = refl
 
-or-false : (a : Bool) → (a || false) ≡ a
+pub or-false : (a : Bool) → (a || false) ≡ a
 or-false true = refl
 or-false false = refl
 
@@ -33,57 +35,57 @@ module _ (kind size : ℕ) (bytes : List ℕ) where
   unfolding badRecord
   by-kind h = simp (eq-eqb _ _ h)
 
-  -- the value is given exactly where length and kind are right
-  pub given : {Value : Type 0} (v : Value) → length bytes ≡ size → getD bytes 0 0 ≡ kind → judged (line 11 (badRecord kind size bytes) ∷ []) v ≡ accepted v
-  unfolding judged firstOr badRecord
-  given v l k = simp (eq-eqb _ _ l, eq-eqb _ _ k)
+  -- a record is good exactly where length and kind are right
+  pub good : length bytes ≡ size → getD bytes 0 0 ≡ kind → badRecord kind size bytes ≡ false
+  unfolding badRecord
+  good l k = simp (eq-eqb _ _ l, eq-eqb _ _ k)
 
-  pub given-only : {Value : Type 0} (v w : Value) → judged (line 11 (badRecord kind size bytes) ∷ []) v ≡ accepted w
-      → (length bytes ≡ size) × ((getD bytes 0 0 ≡ kind) × (v ≡ w))
-  unfolding judged firstOr badRecord
-  given-only {Value} v w = go (eqb (length bytes) size) (eqb (getD bytes 0 0) kind) refl refl
-    where
-      go : (a b : Bool) → eqb (length bytes) size ≡ a → eqb (getD bytes 0 0) kind ≡ b → cond (not (a && b)) (refused 11 0) (accepted v) ≡ accepted w
-          → (length bytes ≡ size) × ((getD bytes 0 0 ≡ kind) × (v ≡ w))
-      go true true l k e = (eqb-true _ _ l, (eqb-true _ _ k, cc))
-      go true false l k e = let z : _≡_ {A = ℕ} 0 1 = cc in absurd (omega arith)
-      go false b l k e = let z : _≡_ {A = ℕ} 0 1 = cc in absurd (omega arith)
+  pub good-only : badRecord kind size bytes ≡ false → (length bytes ≡ size) × (getD bytes 0 0 ≡ kind)
+  unfolding badRecord
+  good-only h = let is = both (eqb (length bytes) size) (eqb (getD bytes 0 0) kind) h in (eqb-true _ _ (is .0), eqb-true _ _ (is .1))
 
-  module _ {bad : Bool} (is : bad ≡ badRecord kind size bytes) where
-    pub refuses : {Value : Type 0} (v : Value) {number place : ℕ} → (number ≡ 11) × (place ≡ 0) → bad ≡ true
-        → refused number place ≡ judged (line 11 (badRecord kind size bytes) ∷ []) v
-    unfolding judged firstOr
-    refuses v e h = simp (sym is, h, e .0, e .1)
-
-    pub accepts : {Value : Type 0} {w : Value} (v : Value) → w ≡ v → bad ≡ false → accepted w ≡ judged (line 11 (badRecord kind size bytes) ∷ []) v
-    unfolding judged firstOr
-    accepts v e h = simp (sym is, h, e)
-
-    pub right-length : bad ≡ false → length bytes ≡ size
-    unfolding badRecord
-    right-length h = eqb-true _ _ (both (eqb (length bytes) size) (eqb (getD bytes 0 0) kind) (sym is ∙ h) .0)
-
--- ---- a kind with a code: 11 also where that is outside its set
+-- ---- what a reader answers, of any kind
 module _ {Value : Type 0} (v : Value) (a b : Bool) where
-  pub coded-refuses : {number place : ℕ} → (number ≡ 11) × (place ≡ 0) → (a ≡ true) ⊎ (b ≡ true) → refused number place ≡ judged (line 11 (a || b) ∷ []) v
+  judged-refuses : (a ≡ true) ⊎ (b ≡ true) → refused 11 0 ≡ judged (line 11 (a || b) ∷ []) v
   unfolding judged firstOr
-  coded-refuses e (inl h) = simp (h, e .0, e .1)
-  coded-refuses e (inr h) = simp (h, or-true a, e .0, e .1)
+  judged-refuses (inl h) = simp h
+  judged-refuses (inr h) = simp (h, or-true a)
 
-  pub coded-accepts : {w : Value} → w ≡ v → a ≡ false → b ≡ false → accepted w ≡ judged (line 11 (a || b) ∷ []) v
+  judged-accepts : a ≡ false → b ≡ false → accepted v ≡ judged (line 11 (a || b) ∷ []) v
   unfolding judged firstOr
-  coded-accepts e h g = simp (h, g, e)
+  judged-accepts h g = simp (h, g)
 
-  -- where the code is in its set, the record alone decides; and only there is a value given
-  pub coded-given : b ≡ false → judged (line 11 a ∷ []) v ≡ judged (line 11 (a || b) ∷ []) v
+  -- only there is a value given, and it is that one
+  judged-only : (w : Value) → judged (line 11 (a || b) ∷ []) v ≡ accepted w → (b ≡ false) × (v ≡ w)
   unfolding judged firstOr
-  coded-given h = ap (λ (t : Bool). cond t (refused 11 0) (accepted v)) (sym (or-false a) ∙ ap (λ (t : Bool). a || t) (sym h))
-
-  pub coded-only : (w : Value) → judged (line 11 (a || b) ∷ []) v ≡ accepted w → judged (line 11 a ∷ []) v ≡ accepted w
-  unfolding judged firstOr
-  coded-only w = go a b
+  judged-only w = go a b
     where
-      go : (c d : Bool) → cond (c || d) (refused 11 0) (accepted v) ≡ accepted w → cond c (refused 11 0) (accepted v) ≡ accepted w
-      go true d e = e
+      go : (c d : Bool) → cond (c || d) (refused 11 0) (accepted v) ≡ accepted w → (d ≡ false) × (v ≡ w)
+      go true d e = let z : _≡_ {A = ℕ} 0 1 = cc in absurd (omega arith)
       go false true e = let z : _≡_ {A = ℕ} 0 1 = cc in absurd (omega arith)
-      go false false e = e
+      go false false e = (refl, cc)
+
+module _ {Value : Type 0} (l : Layout Value) (bytes : List ℕ) where
+  -- whether a code of the record is outside its set, and whether the record is of another kind or length
+  abbrev pub codeIsBad : Bool
+  codeIsBad = anyBadCode (l .fields) (heldFrom (l .fields) 1 bytes)
+
+  abbrev pub isBad : Bool
+  isBad = badRecord (l .kind) (recordSize l) bytes
+
+  pub reads-only : (v : Value) → readAs l bytes ≡ accepted v → (isBad ≡ false) × (valueIn l bytes ≡ v)
+  reads-only = judged-only (valueIn l bytes) codeIsBad isBad
+
+  module _ {number place : ℕ} (is : (number ≡ 11) × (place ≡ 0)) where
+    pub refuses : (codeIsBad ≡ true) ⊎ (isBad ≡ true) → refused number place ≡ readAs l bytes
+    refuses h = rw (is .0, is .1) (judged-refuses (valueIn l bytes) codeIsBad isBad h)
+
+    pub refuses-uncoded : isBad ≡ true → refused number place ≡ readUncoded l bytes
+    refuses-uncoded h = rw (is .0, is .1) (judged-refuses (valueIn l bytes) false isBad (inr h))
+
+  module _ {v : Value} (is : v ≡ valueIn l bytes) where
+    pub accepts : codeIsBad ≡ false → isBad ≡ false → accepted v ≡ readAs l bytes
+    accepts g h = rw is (judged-accepts (valueIn l bytes) codeIsBad isBad g h)
+
+    pub accepts-uncoded : isBad ≡ false → accepted v ≡ readUncoded l bytes
+    accepts-uncoded h = rw is (judged-accepts (valueIn l bytes) false isBad refl h)

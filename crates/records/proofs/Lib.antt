@@ -1,7 +1,7 @@
 pub mod Bytes
-pub mod Slots
-pub mod Layouts
+pub mod FieldLists
 pub mod Judged
 pub mod RoundTrip
 pub mod Exactly
 pub mod Tight
+pub mod EndToEnd

@@ -1,130 +1,138 @@
--- Reading a written record gives its value, and writing what was read gives the record's bytes, with the one NaN for any NaN. One law for every layout of fields, and
+-- Reading a written record gives its value, and writing what was read gives the record's bytes, with the one NaN for any NaN. One law for every layout that loses nothing, and
 -- kinds 1 to 4 by it. Assumes nothing.
-use mathlib.Core.Path.{_≡_, sym, ap, _∙_, subst}
+use mathlib.Core.Path.{_≡_, refl, sym, ap, _∙_, subst}
 use mathlib.Core.Bool.{false}
-use mathlib.Core.List.{List, [], _∷_}
-use Prim.Native.Nat.{ℕ, _^_, _<_, _≤_}
-use borrow.Author.Tests.{le-ltb}
+use mathlib.Core.List.{List, [], _∷_, _++_}
+use Prim.Native.Nat.{ℕ, suc, _^_, _<_, _≤_}
 use native.Mathlib.Omega.{arith}
 use lib.Dec.{T}
-use lib.ListN.{length, getD}
+use lib.ListN.{length, take, drop, getD}
 use lib.Ieee.{binary64, fits, isNan}
-use Rattle.refusals.specs.Outcome.{Outcome, accepted, line, judged}
-use Rattle.refusals.specs.Table.{badRecord}
+use Rattle.refusals.specs.Outcome.{accepted}
 use Rattle.records.specs.declared.Terms.{Terms}
 use Rattle.records.specs.declared.BondRecord.{BondRecord}
 use Rattle.records.specs.declared.Row.{Row}
 use Rattle.records.specs.declared.SwapRecord.{SwapRecord}
-use Rattle.records.specs.Kinds.{termsBytes, readTerms, badCode, bondKind, bondSize, bondBytes, bondIn, readBond, rowBytes, readRow, swapKind, swapSize, swapBytes, swapIn, readSwap}
-use Rattle.records.specs.OneNan.{AreBytes, oneNan, termsFields, bondFields, rowFields, swapFields}
-use Rattle.records.proofs.Slots.{Held, NoNan, Every, size, written, slotsIn, length-written, values-again, bytes-again, bytes-stay}
-use Rattle.records.proofs.Layouts.{Layout, termsLayout, bondSlots, bondLayout, rowLayout, swapSlots, swapLayout}
-use Rattle.records.proofs.Judged.{given, given-only, coded-given, coded-only}
+use Rattle.records.specs.Fields.{HeldByAll, anyBadCode, heldFrom, bytesInAll, sizeOfAll}
+use Rattle.records.specs.Kinds.{Layout, recordSize, recordOf, valueIn, readAs, termsLayout, termsBytes, readTerms, bondLayout, bondBytes, readBond, rowLayout, rowBytes, readRow, swapLayout, swapBytes, readSwap}
+use Rattle.records.specs.OneNan.{AreBytes, oneNan, oneNanAfterKind}
+use Rattle.records.proofs.FieldLists.{Every, Fits, NoNan, length-fields, values-again, bytes-again, bytes-stay, codes-good}
+use Rattle.records.proofs.Judged.{good, good-only, isBad, codeIsBad, accepts, reads-only}
 
-module _ {Value : Type 0} (l : Layout Value) where
-  abbrev answer : List ℕ → Outcome Value
-  answer bytes = judged (line 11 (badRecord (l .kind) (size (l .fields)) bytes) ∷ []) (l .valueIn bytes)
+-- a layout loses nothing: a value is what its fields hold, and fields hold what the value says
+pub record Lossless {Value : Type 0} (l : Layout Value) : Type 0 where
+  pub value : (v : Value) → l .valueOf (l .heldOf v) ≡ v
+  pub held : (h : HeldByAll (l .fields)) → l .heldOf (l .valueOf h) ≡ h
 
-  value-again : (v : Value) → Every Held (l .slots (l .kind) v) → answer (l .recordOf v) ≡ accepted v
-  value-again v held =
-      let bytes = l .recordOf v in
-      let ss = l .slots (l .kind) v in
-      let again : slotsIn (l .fields) bytes ≡ ss = rw (sym (l .shape (l .kind) v), sym (l .writes v)) (values-again ss held) in
-      let is = l .same (getD bytes 0 0) (l .kind) (l .valueIn bytes) v (sym (l .reads bytes) ∙ again) in
-      let long : length bytes ≡ size (l .fields) = ap length (sym (l .writes v)) ∙ length-written ss ∙ ap size (l .shape (l .kind) v) in
-      given (l .kind) (size (l .fields)) bytes (l .valueIn bytes) long (is .0) ∙ ap accepted (is .1)
+first-byte : (bytes : List ℕ) (n kind : ℕ) → length bytes ≡ suc n → getD bytes 0 0 ≡ kind → take 1 bytes ≡ kind ∷ []
+first-byte [] n kind l k = absurd (omega arith)
+first-byte (b ∷ bytes) n kind l k = ap (λ (m : ℕ). m ∷ []) k
 
-  -- what is read of a written record is the value itself
-  value-is : (v : Value) → Every Held (l .slots (l .kind) v) → l .valueIn (l .recordOf v) ≡ v
-  value-is v held = given-only (l .kind) (size (l .fields)) (l .recordOf v) (l .valueIn (l .recordOf v)) v (value-again v held) .1 .1
+whole-again : (bytes : List ℕ) → take 1 bytes ++ drop 1 bytes ≡ bytes
+whole-again [] = refl
+whole-again (b ∷ bytes) = refl
 
-  module _ (bytes : List ℕ) (v : Value) (small : AreBytes bytes) (reads : answer bytes ≡ accepted v) where
-    slots-are : slotsIn (l .fields) bytes ≡ l .slots (l .kind) v
-    slots-are =
-        let is = given-only (l .kind) (size (l .fields)) bytes (l .valueIn bytes) v reads in
-        l .reads bytes ∙ rw (is .1 .0, is .1 .1)
+module _ {Value : Type 0} (l : Layout Value) (same : Lossless l) where
+  pub value-again : (v : Value) → Every Fits (l .fields) (l .heldOf v) → readAs l (recordOf l v) ≡ accepted v
+  value-again v h =
+      let held : heldFrom (l .fields) 1 (recordOf l v) ≡ l .heldOf v = values-again (l .kind ∷ []) (l .fields) (l .heldOf v) h in
+      let is : v ≡ valueIn l (recordOf l v) = sym (ap (l .valueOf) held ∙ same .value v) in
+      let codes : codeIsBad l (recordOf l v) ≡ false = ap (anyBadCode (l .fields)) held ∙ codes-good (l .fields) (l .heldOf v) h in
+      let long : length (recordOf l v) ≡ recordSize l = ap suc (length-fields (l .fields) (l .heldOf v)) in
+      sym (accepts l (recordOf l v) is codes (good (l .kind) (recordSize l) (recordOf l v) long refl))
 
-    record-again : l .recordOf v ≡ oneNan (l .fields) bytes
+  module _ (bytes : List ℕ) (v : Value) (small : AreBytes bytes) (reads : readAs l bytes ≡ accepted v) where
+    right : (isBad l bytes ≡ false) × (valueIn l bytes ≡ v)
+    right = reads-only l bytes v reads
+
+    held-is : heldFrom (l .fields) 1 bytes ≡ l .heldOf v
+    held-is = sym (same .held (heldFrom (l .fields) 1 bytes)) ∙ ap (l .heldOf) (right .1)
+
+    pub record-again : recordOf l v ≡ oneNanAfterKind (l .fields) bytes
     record-again =
-        let is = given-only (l .kind) (size (l .fields)) bytes (l .valueIn bytes) v reads in
-        sym (l .writes v) ∙ ap written (sym slots-are) ∙ bytes-again (l .fields) bytes small (is .0)
+        let is = good-only (l .kind) (recordSize l) bytes (right .0) in
+        let front : take 1 bytes ≡ l .kind ∷ [] = first-byte bytes (sizeOfAll (l .fields)) (l .kind) (is .0) (is .1) in
+        let body : bytesInAll (l .fields) (l .heldOf v) ≡ oneNan (l .fields) (drop 1 bytes)
+        = ap (bytesInAll (l .fields)) (sym held-is) ∙ bytes-again (l .fields) 1 bytes small (is .0 ∙ omega arith) in
+        rw (front, body)
 
-    same-record : Every NoNan (l .slots (l .kind) v) → l .recordOf v ≡ bytes
-    same-record free = record-again ∙ bytes-stay (l .fields) bytes (subst (Every NoNan) (sym slots-are) free)
+    pub same-record : Every NoNan (l .fields) (l .heldOf v) → recordOf l v ≡ bytes
+    same-record free =
+        let stay : oneNan (l .fields) (drop 1 bytes) ≡ drop 1 bytes = bytes-stay (l .fields) 1 bytes (subst (Every NoNan (l .fields)) (sym held-is) free) in
+        record-again ∙ ap (λ (rest : List ℕ). take 1 bytes ++ rest) stay ∙ whole-again bytes
 
 -- ---- kind 1
 
+terms-lossless : Lossless termsLayout
+terms-lossless = record { value = λ v. refl; held = λ h. refl }
+
 pub terms-again : (t : Terms) → T (fits binary64 (t .principal)) → T (fits binary64 (t .rate)) → t .term < 2 ^ 32 → readTerms (termsBytes t) ≡ accepted t
-unfolding readTerms
-terms-again t principal rate term = value-again termsLayout t (omega arith, (principal, (rate, (term, tt))))
+unfolding readTerms termsBytes
+terms-again t principal rate term = value-again termsLayout terms-lossless t (principal, (rate, (term, tt)))
 
 module _ (bytes : List ℕ) (t : Terms) (small : AreBytes bytes) (reads : readTerms bytes ≡ accepted t) where
-  pub terms-record-again : termsBytes t ≡ oneNan termsFields bytes
-  unfolding readTerms
-  terms-record-again = record-again termsLayout bytes t small reads
+  pub terms-record-again : termsBytes t ≡ oneNanAfterKind (termsLayout .fields) bytes
+  unfolding readTerms termsBytes
+  terms-record-again = record-again termsLayout terms-lossless bytes t small reads
 
   pub terms-same-record : isNan (t .principal) ≡ false → isNan (t .rate) ≡ false → termsBytes t ≡ bytes
-  unfolding readTerms
-  terms-same-record principal rate = same-record termsLayout bytes t small reads (tt, (principal, (rate, (tt, tt))))
-
--- ---- kind 3
-
-pub row-again : (r : Row) → r .month < 2 ^ 32 → T (fits binary64 (r .payment)) → T (fits binary64 (r .principal)) → T (fits binary64 (r .interest))
-    → T (fits binary64 (r .balance)) → readRow (rowBytes r) ≡ accepted r
-unfolding readRow
-row-again r month payment principal interest balance =
-    value-again rowLayout r (omega arith, (month, (payment, (principal, (interest, (balance, tt))))))
-
-module _ (bytes : List ℕ) (r : Row) (small : AreBytes bytes) (reads : readRow bytes ≡ accepted r) where
-  pub row-record-again : rowBytes r ≡ oneNan rowFields bytes
-  unfolding readRow
-  row-record-again = record-again rowLayout bytes r small reads
-
-  pub row-same-record : isNan (r .payment) ≡ false → isNan (r .principal) ≡ false → isNan (r .interest) ≡ false → isNan (r .balance) ≡ false → rowBytes r ≡ bytes
-  unfolding readRow
-  row-same-record payment principal interest balance =
-      same-record rowLayout bytes r small reads (tt, (tt, (payment, (principal, (interest, (balance, tt))))))
+  unfolding readTerms termsBytes
+  terms-same-record principal rate = same-record termsLayout terms-lossless bytes t small reads (principal, (rate, (tt, tt)))
 
 -- ---- kind 2
 
+bond-lossless : Lossless bondLayout
+bond-lossless = record { value = λ v. refl; held = λ h. refl }
+
 pub bond-again : (b : BondRecord) → T (fits binary64 (b .face)) → T (fits binary64 (b .coupon)) → T (fits binary64 (b .maturity)) → b .frequency ≤ 3
     → readBond (bondBytes b) ≡ accepted b
-unfolding readBond
-bond-again b face coupon maturity code =
-    let held : Every Held (bondSlots bondKind b) = (omega arith, (face, (coupon, (maturity, (omega arith, tt))))) in
-    let is : bondIn (bondBytes b) ≡ b = value-is bondLayout b held in
-    sym (coded-given (bondIn (bondBytes b)) (badRecord bondKind bondSize (bondBytes b)) (badCode 3 (bondIn (bondBytes b) .frequency)) (rw is (le-ltb 3 (b .frequency) code)))
-    ∙ value-again bondLayout b held
+unfolding readBond bondBytes
+bond-again b face coupon maturity frequency = value-again bondLayout bond-lossless b (face, (coupon, (maturity, (frequency, tt))))
 
 module _ (bytes : List ℕ) (b : BondRecord) (small : AreBytes bytes) (reads : readBond bytes ≡ accepted b) where
-  plain-bond : judged (line 11 (badRecord bondKind bondSize bytes) ∷ []) (bondIn bytes) ≡ accepted b
-  unfolding readBond
-  plain-bond = coded-only (bondIn bytes) (badRecord bondKind bondSize bytes) (badCode 3 (bondIn bytes .frequency)) b reads
-
-  pub bond-record-again : bondBytes b ≡ oneNan bondFields bytes
-  bond-record-again = record-again bondLayout bytes b small plain-bond
+  pub bond-record-again : bondBytes b ≡ oneNanAfterKind (bondLayout .fields) bytes
+  unfolding readBond bondBytes
+  bond-record-again = record-again bondLayout bond-lossless bytes b small reads
 
   pub bond-same-record : isNan (b .face) ≡ false → isNan (b .coupon) ≡ false → isNan (b .maturity) ≡ false → bondBytes b ≡ bytes
-  bond-same-record face coupon maturity = same-record bondLayout bytes b small plain-bond (tt, (face, (coupon, (maturity, (tt, tt)))))
+  unfolding readBond bondBytes
+  bond-same-record face coupon maturity = same-record bondLayout bond-lossless bytes b small reads (face, (coupon, (maturity, (tt, tt))))
+
+-- ---- kind 3
+
+row-lossless : Lossless rowLayout
+row-lossless = record { value = λ v. refl; held = λ h. refl }
+
+pub row-again : (r : Row) → r .month < 2 ^ 32 → T (fits binary64 (r .payment)) → T (fits binary64 (r .principal)) → T (fits binary64 (r .interest))
+    → T (fits binary64 (r .balance)) → readRow (rowBytes r) ≡ accepted r
+unfolding readRow rowBytes
+row-again r month payment principal interest balance = value-again rowLayout row-lossless r (month, (payment, (principal, (interest, (balance, tt)))))
+
+module _ (bytes : List ℕ) (r : Row) (small : AreBytes bytes) (reads : readRow bytes ≡ accepted r) where
+  pub row-record-again : rowBytes r ≡ oneNanAfterKind (rowLayout .fields) bytes
+  unfolding readRow rowBytes
+  row-record-again = record-again rowLayout row-lossless bytes r small reads
+
+  pub row-same-record : isNan (r .payment) ≡ false → isNan (r .principal) ≡ false → isNan (r .interest) ≡ false → isNan (r .balance) ≡ false → rowBytes r ≡ bytes
+  unfolding readRow rowBytes
+  row-same-record payment principal interest balance =
+      same-record rowLayout row-lossless bytes r small reads (tt, (payment, (principal, (interest, (balance, tt)))))
 
 -- ---- kind 4
 
+swap-lossless : Lossless swapLayout
+swap-lossless = record { value = λ v. refl; held = λ h. refl }
+
 pub swap-again : (s : SwapRecord) → T (fits binary64 (s .notional)) → T (fits binary64 (s .rate)) → T (fits binary64 (s .tenor)) → s .frequency < 2 ^ 32 → s .count ≤ 2
     → readSwap (swapBytes s) ≡ accepted s
-unfolding readSwap
-swap-again s notional rate tenor frequency code =
-    let held : Every Held (swapSlots swapKind s) = (omega arith, (notional, (rate, (tenor, (frequency, (omega arith, tt)))))) in
-    let is : swapIn (swapBytes s) ≡ s = value-is swapLayout s held in
-    sym (coded-given (swapIn (swapBytes s)) (badRecord swapKind swapSize (swapBytes s)) (badCode 2 (swapIn (swapBytes s) .count)) (rw is (le-ltb 2 (s .count) code)))
-    ∙ value-again swapLayout s held
+unfolding readSwap swapBytes
+swap-again s notional rate tenor frequency count = value-again swapLayout swap-lossless s (notional, (rate, (tenor, (frequency, (count, tt)))))
 
 module _ (bytes : List ℕ) (s : SwapRecord) (small : AreBytes bytes) (reads : readSwap bytes ≡ accepted s) where
-  plain-swap : judged (line 11 (badRecord swapKind swapSize bytes) ∷ []) (swapIn bytes) ≡ accepted s
-  unfolding readSwap
-  plain-swap = coded-only (swapIn bytes) (badRecord swapKind swapSize bytes) (badCode 2 (swapIn bytes .count)) s reads
-
-  pub swap-record-again : swapBytes s ≡ oneNan swapFields bytes
-  swap-record-again = record-again swapLayout bytes s small plain-swap
+  pub swap-record-again : swapBytes s ≡ oneNanAfterKind (swapLayout .fields) bytes
+  unfolding readSwap swapBytes
+  swap-record-again = record-again swapLayout swap-lossless bytes s small reads
 
   pub swap-same-record : isNan (s .notional) ≡ false → isNan (s .rate) ≡ false → isNan (s .tenor) ≡ false → swapBytes s ≡ bytes
-  swap-same-record notional rate tenor = same-record swapLayout bytes s small plain-swap (tt, (notional, (rate, (tenor, (tt, (tt, tt))))))
+  unfolding readSwap swapBytes
+  swap-same-record notional rate tenor = same-record swapLayout swap-lossless bytes s small reads (notional, (rate, (tenor, (tt, (tt, tt)))))

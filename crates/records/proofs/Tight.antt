@@ -15,14 +15,14 @@ use Rattle.records.specs.declared.SwapRead.the-variants as swap-is
 use Rattle.records.specs.Kinds.{swapOutcome, bondOutcome, termsOutcome, rowOutcome}
 use Rattle.records.proofs.bond_record.read_bond.Kinds as read-bond-kinds
 use Rattle.records.proofs.bond_record.read_bond.Reads as read-bond
-use Rattle.records.proofs.bond_record.bond_fields.Kinds as bond-fields-kinds
-use Rattle.records.proofs.bond_record.bond_fields.Reads as bond-fields
+use Rattle.records.proofs.bond_record.read_bond_uncoded.Kinds as read-bond-uncoded-kinds
+use Rattle.records.proofs.bond_record.read_bond_uncoded.Reads as read-bond-uncoded
 use Rattle.records.proofs.bond_record.write_bond.Kinds as write-bond-kinds
 use Rattle.records.proofs.bond_record.write_bond.Reads as write-bond
 use Rattle.records.proofs.swap_record.read_swap.Kinds as read-swap-kinds
 use Rattle.records.proofs.swap_record.read_swap.Reads as read-swap
-use Rattle.records.proofs.swap_record.swap_fields.Kinds as swap-fields-kinds
-use Rattle.records.proofs.swap_record.swap_fields.Reads as swap-fields
+use Rattle.records.proofs.swap_record.read_swap_uncoded.Kinds as read-swap-uncoded-kinds
+use Rattle.records.proofs.swap_record.read_swap_uncoded.Reads as read-swap-uncoded
 use Rattle.records.proofs.swap_record.write_swap.Kinds as write-swap-kinds
 use Rattle.records.proofs.swap_record.write_swap.Reads as write-swap
 use Rattle.records.proofs.terms_record.read_terms.Kinds as read-terms-kinds
@@ -73,8 +73,8 @@ bond-told (bond-is.Given v) (bond-is.Refused b) e = cc
 pub read-bond-determined : Determined 1 read-bond-kinds.ps read-bond-kinds.r read-bond.Post
 read-bond-determined κs a x y e e′ p q = bond-told x y (p ∙ sym q)
 
-pub bond-fields-determined : Determined 1 bond-fields-kinds.ps bond-fields-kinds.r bond-fields.Post
-bond-fields-determined κs a x y e e′ p q = bond-told x y (p ∙ sym q)
+pub read-bond-uncoded-determined : Determined 1 read-bond-uncoded-kinds.ps read-bond-uncoded-kinds.r read-bond-uncoded.Post
+read-bond-uncoded-determined κs a x y e e′ p q = bond-told x y (p ∙ sym q)
 
 pub write-bond-settled : Settled 1 write-bond-kinds.ps write-bond-kinds.r write-bond.Post
 write-bond-settled κs a x y w w′ p q = ap (λ (l : List ℕ). (tt, (l, tt))) (p ∙ sym q)
@@ -90,8 +90,8 @@ swap-told (swap-is.Given v) (swap-is.Refused b) e = cc
 pub read-swap-determined : Determined 1 read-swap-kinds.ps read-swap-kinds.r read-swap.Post
 read-swap-determined κs a x y e e′ p q = swap-told x y (p ∙ sym q)
 
-pub swap-fields-determined : Determined 1 swap-fields-kinds.ps swap-fields-kinds.r swap-fields.Post
-swap-fields-determined κs a x y e e′ p q = swap-told x y (p ∙ sym q)
+pub read-swap-uncoded-determined : Determined 1 read-swap-uncoded-kinds.ps read-swap-uncoded-kinds.r read-swap-uncoded.Post
+read-swap-uncoded-determined κs a x y e e′ p q = swap-told x y (p ∙ sym q)
 
 pub write-swap-settled : Settled 1 write-swap-kinds.ps write-swap-kinds.r write-swap.Post
 write-swap-settled κs a x y w w′ p q = ap (λ (l : List ℕ). (tt, (l, tt))) (p ∙ sym q)

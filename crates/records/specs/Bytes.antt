@@ -18,7 +18,11 @@ bytesOf (suc k) n = n % 256 ∷ bytesOf k (n / 256)
 abbrev pub field : ℕ → ℕ → List ℕ → List ℕ
 field at size bytes = take size (drop at bytes)
 
--- a u32 is 4 bytes, an f64 the 8 bytes of its pattern; every NaN is written 7ff8000000000000, which is what `toBits` gives for it
+-- a whole number of 2 bytes, a u32 of 4, an f64 as the 8 bytes of its pattern; every NaN is written 7ff8000000000000, which is what `toBits` gives for it
+unfoldable pub pairAt : ℕ → List ℕ → ℕ
+unfolding valueOf
+pairAt at bytes = valueOf (field at 2 bytes)
+
 unfoldable pub wholeAt : ℕ → List ℕ → ℕ
 unfolding valueOf
 wholeAt at bytes = valueOf (field at 4 bytes)
@@ -26,6 +30,10 @@ wholeAt at bytes = valueOf (field at 4 bytes)
 unfoldable pub floatAt : ℕ → List ℕ → Float
 unfolding valueOf
 floatAt at bytes = ofBits binary64 (valueOf (field at 8 bytes))
+
+unfoldable pub pairBytes : ℕ → List ℕ
+unfolding bytesOf
+pairBytes n = bytesOf 2 n
 
 unfoldable pub wholeBytes : ℕ → List ℕ
 unfolding bytesOf

@@ -1,9 +1,8 @@
--- The records of document 01: "Little-endian, one byte of kind, then a fixed body." Definitions only. Assumes nothing.
-use Prim.Native.Nat.{ℕ}
-use mathlib.Core.Bool.{Bool, _||_}
-use mathlib.Core.List.{List, [], _∷_, _++_}
-use lib.Dec.{ltb}
-use lib.ListN.{getD}
+-- The records of document 01: "Little-endian, one byte of kind, then a fixed body." A layout says a kind's number, its fields, and how a value is held by them; its size, its bytes and
+-- what its readers answer follow. Definitions only. Assumes nothing.
+use Prim.Native.Nat.{ℕ, suc}
+use mathlib.Core.Bool.{_||_}
+use mathlib.Core.List.{List, [], _∷_}
 use Rattle.refusals.specs.Outcome.{Outcome, refused, accepted, line, judged}
 use Rattle.refusals.specs.Table.{badRecord}
 use Rattle.records.specs.declared.Terms.{Terms}
@@ -18,108 +17,154 @@ use Rattle.records.specs.declared.BondRead.{BondRead}
 use Rattle.records.specs.declared.BondRead.the-variants as bond-is
 use Rattle.records.specs.declared.SwapRead.{SwapRead}
 use Rattle.records.specs.declared.SwapRead.the-variants as swap-is
-use Rattle.records.specs.Bytes.{wholeAt, floatAt, wholeBytes, floatBytes}
+use Rattle.records.specs.Fields.{Field, code, whole, float, sizeOfAll, HeldByAll, bytesInAll, heldFrom, anyBadCode}
+
+pub record Layout (Value : Type 0) : Type 0 where
+  pub kind : ℕ
+  pub fields : List Field
+  pub heldOf : Value → HeldByAll fields
+  pub valueOf : HeldByAll fields → Value
+
+module _ {Value : Type 0} (l : Layout Value) where
+  -- how many bytes the record has
+  abbrev pub recordSize : ℕ
+  recordSize = suc (sizeOfAll (l .fields))
+
+  -- the record of a value
+  abbrev pub recordOf : Value → List ℕ
+  recordOf v = l .kind ∷ bytesInAll (l .fields) (l .heldOf v)
+
+  -- the value that bytes of this size hold
+  abbrev pub valueIn : List ℕ → Value
+  valueIn bytes = l .valueOf (heldFrom (l .fields) 1 bytes)
+
+  -- what a reader answers: the value, or 11 for another kind, another length or a code outside its set
+  abbrev pub readAs : List ℕ → Outcome Value
+  readAs bytes = judged (line 11 (anyBadCode (l .fields) (heldFrom (l .fields) 1 bytes) || badRecord (l .kind) recordSize bytes) ∷ []) (valueIn bytes)
+
+  -- the value of a record of this kind and length, whatever its codes
+  abbrev pub readUncoded : List ℕ → Outcome Value
+  readUncoded bytes = judged (line 11 (badRecord (l .kind) recordSize bytes) ∷ []) (valueIn bytes)
 
 -- ---- kind 1, a loan: "principal, rate (f64), term (u32), 21 bytes"
+abbrev pub termsLayout : Layout Terms
+termsLayout = record {
+  kind = 1;
+  fields = float ∷ float ∷ whole ∷ [];
+  heldOf = λ t. (t .principal, (t .rate, (t .term, tt)));
+  valueOf = λ h. record { principal = h .0; rate = h .1 .0; term = h .1 .1 .0 };
+}
+
 abbrev pub termsKind : ℕ
-termsKind = 1
+termsKind = termsLayout .kind
 
 abbrev pub termsSize : ℕ
-termsSize = 21
+termsSize = recordSize termsLayout
 
 unfoldable pub termsBytes : Terms → List ℕ
-termsBytes t = termsKind ∷ floatBytes (t .principal) ++ floatBytes (t .rate) ++ wholeBytes (t .term)
+termsBytes = recordOf termsLayout
 
 unfoldable pub termsIn : List ℕ → Terms
-termsIn bytes = record { principal = floatAt 1 bytes; rate = floatAt 9 bytes; term = wholeAt 17 bytes }
+termsIn = valueIn termsLayout
 
--- what a reader of a loan's record answers: the terms, or refusal 11
 unfoldable pub readTerms : List ℕ → Outcome Terms
-readTerms bytes = judged (line 11 (badRecord termsKind termsSize bytes) ∷ []) (termsIn bytes)
+unfolding termsIn
+readTerms = readAs termsLayout
 
 abbrev pub termsOutcome : TermsRead → Outcome Terms
 termsOutcome (terms-is.Refused r) = refused (r .number) (r .place)
 termsOutcome (terms-is.Given t) = accepted t
 
--- ---- kind 3, a row: "month (u32), payment, principal, interest, balance, 37"
-abbrev pub rowKind : ℕ
-rowKind = 3
-
-abbrev pub rowSize : ℕ
-rowSize = 37
-
-unfoldable pub rowBytes : Row → List ℕ
-rowBytes r =
-    rowKind ∷ wholeBytes (r .month) ++ floatBytes (r .payment) ++ floatBytes (r .principal) ++ floatBytes (r .interest) ++ floatBytes (r .balance)
-
-unfoldable pub rowIn : List ℕ → Row
-rowIn bytes = record {
-  month = wholeAt 1 bytes;
-  payment = floatAt 5 bytes;
-  principal = floatAt 13 bytes;
-  interest = floatAt 21 bytes;
-  balance = floatAt 29 bytes;
+-- ---- kind 2, a bond: "face, coupon, maturity (f64), frequency code 0 to 3 in the Rust's order, 26"
+abbrev pub bondLayout : Layout BondRecord
+bondLayout = record {
+  kind = 2;
+  fields = float ∷ float ∷ float ∷ code 3 ∷ [];
+  heldOf = λ b. (b .face, (b .coupon, (b .maturity, (b .frequency, tt))));
+  valueOf = λ h. record { face = h .0; coupon = h .1 .0; maturity = h .1 .1 .0; frequency = h .1 .1 .1 .0 };
 }
 
-unfoldable pub readRow : List ℕ → Outcome Row
-readRow bytes = judged (line 11 (badRecord rowKind rowSize bytes) ∷ []) (rowIn bytes)
-
-abbrev pub rowOutcome : RowRead → Outcome Row
-rowOutcome (row-is.Refused r) = refused (r .number) (r .place)
-rowOutcome (row-is.Given r) = accepted r
-
--- ---- a code is a byte of the record; outside 0 to the highest it is 11 too
-abbrev pub badCode : ℕ → ℕ → Bool
-badCode highest code = ltb highest code
-
--- ---- kind 2, a bond: "face, coupon, maturity (f64), frequency code 0 to 3 in the Rust's order, 26"
 abbrev pub bondKind : ℕ
-bondKind = 2
+bondKind = bondLayout .kind
 
 abbrev pub bondSize : ℕ
-bondSize = 26
+bondSize = recordSize bondLayout
 
 unfoldable pub bondBytes : BondRecord → List ℕ
-bondBytes b = bondKind ∷ floatBytes (b .face) ++ floatBytes (b .coupon) ++ floatBytes (b .maturity) ++ b .frequency ∷ []
+bondBytes = recordOf bondLayout
 
 unfoldable pub bondIn : List ℕ → BondRecord
-bondIn bytes = record { face = floatAt 1 bytes; coupon = floatAt 9 bytes; maturity = floatAt 17 bytes; frequency = getD bytes 25 0 }
-
--- the bond of a record of this kind and length, whatever its code
-unfoldable pub bondFields : List ℕ → Outcome BondRecord
-bondFields bytes = judged (line 11 (badRecord bondKind bondSize bytes) ∷ []) (bondIn bytes)
+bondIn = valueIn bondLayout
 
 unfoldable pub readBond : List ℕ → Outcome BondRecord
-readBond bytes = judged (line 11 (badRecord bondKind bondSize bytes || badCode 3 (bondIn bytes .frequency)) ∷ []) (bondIn bytes)
+unfolding bondIn
+readBond = readAs bondLayout
+
+unfoldable pub readBondUncoded : List ℕ → Outcome BondRecord
+unfolding bondIn
+readBondUncoded = readUncoded bondLayout
 
 abbrev pub bondOutcome : BondRead → Outcome BondRecord
 bondOutcome (bond-is.Refused r) = refused (r .number) (r .place)
 bondOutcome (bond-is.Given b) = accepted b
 
--- ---- kind 4, a swap: "notional, fixed rate, tenor, frequency (u32), day count 0 to 2, 30"
-abbrev pub swapKind : ℕ
-swapKind = 4
-
-abbrev pub swapSize : ℕ
-swapSize = 30
-
-unfoldable pub swapBytes : SwapRecord → List ℕ
-swapBytes s = swapKind ∷ floatBytes (s .notional) ++ floatBytes (s .rate) ++ floatBytes (s .tenor) ++ wholeBytes (s .frequency) ++ s .count ∷ []
-
-unfoldable pub swapIn : List ℕ → SwapRecord
-swapIn bytes = record {
-  notional = floatAt 1 bytes;
-  rate = floatAt 9 bytes;
-  tenor = floatAt 17 bytes;
-  frequency = wholeAt 25 bytes;
-  count = getD bytes 29 0;
+-- ---- kind 3, a row: "month (u32), payment, principal, interest, balance, 37"
+abbrev pub rowLayout : Layout Row
+rowLayout = record {
+  kind = 3;
+  fields = whole ∷ float ∷ float ∷ float ∷ float ∷ [];
+  heldOf = λ r. (r .month, (r .payment, (r .principal, (r .interest, (r .balance, tt)))));
+  valueOf = λ h. record { month = h .0; payment = h .1 .0; principal = h .1 .1 .0; interest = h .1 .1 .1 .0; balance = h .1 .1 .1 .1 .0 };
 }
 
-unfoldable pub swapFields : List ℕ → Outcome SwapRecord
-swapFields bytes = judged (line 11 (badRecord swapKind swapSize bytes) ∷ []) (swapIn bytes)
+abbrev pub rowKind : ℕ
+rowKind = rowLayout .kind
+
+abbrev pub rowSize : ℕ
+rowSize = recordSize rowLayout
+
+unfoldable pub rowBytes : Row → List ℕ
+rowBytes = recordOf rowLayout
+
+unfoldable pub rowIn : List ℕ → Row
+rowIn = valueIn rowLayout
+
+unfoldable pub readRow : List ℕ → Outcome Row
+unfolding rowIn
+readRow = readAs rowLayout
+
+abbrev pub rowOutcome : RowRead → Outcome Row
+rowOutcome (row-is.Refused r) = refused (r .number) (r .place)
+rowOutcome (row-is.Given r) = accepted r
+
+-- ---- kind 4, a swap: "notional, fixed rate, tenor, frequency (u32), day count 0 to 2, 30"
+abbrev pub swapLayout : Layout SwapRecord
+swapLayout = record {
+  kind = 4;
+  fields = float ∷ float ∷ float ∷ whole ∷ code 2 ∷ [];
+  heldOf = λ s. (s .notional, (s .rate, (s .tenor, (s .frequency, (s .count, tt)))));
+  valueOf = λ h. record { notional = h .0; rate = h .1 .0; tenor = h .1 .1 .0; frequency = h .1 .1 .1 .0; count = h .1 .1 .1 .1 .0 };
+}
+
+abbrev pub swapKind : ℕ
+swapKind = swapLayout .kind
+
+abbrev pub swapSize : ℕ
+swapSize = recordSize swapLayout
+
+unfoldable pub swapBytes : SwapRecord → List ℕ
+swapBytes = recordOf swapLayout
+
+unfoldable pub swapIn : List ℕ → SwapRecord
+swapIn = valueIn swapLayout
 
 unfoldable pub readSwap : List ℕ → Outcome SwapRecord
-readSwap bytes = judged (line 11 (badRecord swapKind swapSize bytes || badCode 2 (swapIn bytes .count)) ∷ []) (swapIn bytes)
+unfolding swapIn
+readSwap = readAs swapLayout
+
+unfoldable pub readSwapUncoded : List ℕ → Outcome SwapRecord
+unfolding swapIn
+readSwapUncoded = readUncoded swapLayout
 
 abbrev pub swapOutcome : SwapRead → Outcome SwapRecord
 swapOutcome (swap-is.Refused r) = refused (r .number) (r .place)

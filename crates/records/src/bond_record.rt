@@ -1,7 +1,7 @@
 // Kind 2, a bond: 26 bytes.
 ghost use mathlib.Core.Path.{_≡_};
 ghost use lib.ListN.{length};
-ghost use Rattle.records.specs.Kinds.{bondIn, bondFields, readBond, bondOutcome, bondBytes};
+ghost use Rattle.records.specs.Kinds.{bondSize, bondIn, readBondUncoded, readBond, bondOutcome, bondBytes};
 use crate::BondRead;
 use crate::BondRecord;
 use crate::bad_record;
@@ -27,8 +27,8 @@ pub fn read_bond(bytes: &[u8]) -> BondRead
 }
 
 // The bond that the bytes hold, whatever its frequency's code: refusal 11 is for another kind or length alone.
-pub fn bond_fields(bytes: &[u8]) -> BondRead
-    ensures { λ r. ⌜ bondOutcome r ≡ bondFields (now (bytes .entry)) ⌝ }
+pub fn read_bond_uncoded(bytes: &[u8]) -> BondRead
+    ensures { λ r. ⌜ bondOutcome r ≡ readBondUncoded (now (bytes .entry)) ⌝ }
 {
     if bad_record(BOND_KIND, BOND_SIZE, bytes) {
         return BondRead::Refused(refusals::refuse(11));
@@ -38,7 +38,7 @@ pub fn bond_fields(bytes: &[u8]) -> BondRead
 
 // Where no number is a NaN the patterns are the numbers, and the three tests come before anything is done with one.
 fn bond_in(bytes: &[u8]) -> BondRecord
-    requires { ⌜ length (now bytes) ≡ 26 ⌝ }
+    requires { ⌜ length (now bytes) ≡ bondSize ⌝ }
     ensures { λ r. ⌜ r ≡ bondIn (now (bytes .entry)) ⌝ }
 {
     let face = fields::pattern_at(bytes, 1);
@@ -62,7 +62,7 @@ fn bond_in(bytes: &[u8]) -> BondRecord
 }
 
 fn any_bond_in(bytes: &[u8]) -> BondRecord
-    requires { ⌜ length (now bytes) ≡ 26 ⌝ }
+    requires { ⌜ length (now bytes) ≡ bondSize ⌝ }
     ensures { λ r. ⌜ r ≡ bondIn (now (bytes .entry)) ⌝ }
 {
     BondRecord {
@@ -74,7 +74,7 @@ fn any_bond_in(bytes: &[u8]) -> BondRecord
 }
 
 // The record of the bond, in an array of its own length: nothing is refused.
-pub fn write_bond(bond: BondRecord, out: &mut [u8; 26])
+pub fn write_bond(bond: BondRecord, out: &mut [u8; BOND_SIZE])
     ensures { λ _. ⌜ now (out .exit) ≡ bondBytes bond ⌝ }
 {
     out[0] = BOND_KIND;

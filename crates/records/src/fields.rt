@@ -3,12 +3,12 @@ ghost use mathlib.Core.Path.{_≡_};
 ghost use Prim.Native.Nat.{_+_, _≤_};
 ghost use lib.ListN.{length};
 ghost use lib.Seq.{sets};
-ghost use Rattle.records.specs.Bytes.{valueOf, bytesOf, field, wholeAt, floatAt, wholeBytes, floatBytes};
+ghost use Rattle.records.specs.Bytes.{valueOf, bytesOf, field, pairAt, wholeAt, floatAt, pairBytes, wholeBytes, floatBytes};
 
-// The value of two bytes.
+// A whole number of two bytes.
 fn pair_at(bytes: &[u8], at: usize) -> u16
     requires { ⌜ at + 2 ≤ length (now bytes) ⌝ }
-    ensures { λ r. ⌜ r ≡ valueOf (field at 2 (now (bytes .entry))) ⌝ }
+    ensures { λ r. ⌜ r ≡ pairAt at (now (bytes .entry)) ⌝ }
 {
     let low = bytes[at];
     let high = bytes[at + 1];
@@ -43,10 +43,10 @@ pub(crate) fn float_at(bytes: &[u8], at: usize) -> f64
     numbers::patterns::float_of(pattern_at(bytes, at))
 }
 
-// Two bytes of a number.
+// A whole number in its two places: no other place changes.
 fn put_pair(out: &mut [u8], at: usize, n: u16)
     requires { ⌜ at + 2 ≤ length (now out) ⌝ }
-    ensures { λ _. ⌜ now (out .exit) ≡ sets (now (out .entry)) at (bytesOf 2 n) ⌝ }
+    ensures { λ _. ⌜ now (out .exit) ≡ sets (now (out .entry)) at (pairBytes n) ⌝ }
 {
     let low = (n % 0x100) as u8;
     let high = (n / 0x100) as u8;

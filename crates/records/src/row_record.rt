@@ -1,7 +1,7 @@
 // Kind 3, a row of a schedule: 37 bytes.
 ghost use mathlib.Core.Path.{_≡_};
 ghost use lib.ListN.{length};
-ghost use Rattle.records.specs.Kinds.{rowIn, readRow, rowOutcome, rowBytes};
+ghost use Rattle.records.specs.Kinds.{rowSize, rowIn, readRow, rowOutcome, rowBytes};
 use crate::Row;
 use crate::RowRead;
 use crate::bad_record;
@@ -22,7 +22,7 @@ pub fn read_row(bytes: &[u8]) -> RowRead
 }
 
 fn row_in(bytes: &[u8]) -> Row
-    requires { ⌜ length (now bytes) ≡ 37 ⌝ }
+    requires { ⌜ length (now bytes) ≡ rowSize ⌝ }
     ensures { λ r. ⌜ r ≡ rowIn (now (bytes .entry)) ⌝ }
 {
     Row {
@@ -35,7 +35,7 @@ fn row_in(bytes: &[u8]) -> Row
 }
 
 // The record of the row, in an array of its own length: nothing is refused.
-pub fn write_row(row: Row, out: &mut [u8; 37])
+pub fn write_row(row: Row, out: &mut [u8; ROW_SIZE])
     ensures { λ _. ⌜ now (out .exit) ≡ rowBytes row ⌝ }
 {
     out[0] = ROW_KIND;

@@ -1,7 +1,7 @@
 // Kind 4, a swap: 30 bytes.
 ghost use mathlib.Core.Path.{_≡_};
 ghost use lib.ListN.{length};
-ghost use Rattle.records.specs.Kinds.{swapIn, swapFields, readSwap, swapOutcome, swapBytes};
+ghost use Rattle.records.specs.Kinds.{swapSize, swapIn, readSwapUncoded, readSwap, swapOutcome, swapBytes};
 use crate::SwapRead;
 use crate::SwapRecord;
 use crate::bad_record;
@@ -26,8 +26,8 @@ pub fn read_swap(bytes: &[u8]) -> SwapRead
 }
 
 // The swap that the bytes hold, whatever its day count's code: refusal 11 is for another kind or length alone.
-pub fn swap_fields(bytes: &[u8]) -> SwapRead
-    ensures { λ r. ⌜ swapOutcome r ≡ swapFields (now (bytes .entry)) ⌝ }
+pub fn read_swap_uncoded(bytes: &[u8]) -> SwapRead
+    ensures { λ r. ⌜ swapOutcome r ≡ readSwapUncoded (now (bytes .entry)) ⌝ }
 {
     if bad_record(SWAP_KIND, SWAP_SIZE, bytes) {
         return SwapRead::Refused(refusals::refuse(11));
@@ -36,7 +36,7 @@ pub fn swap_fields(bytes: &[u8]) -> SwapRead
 }
 
 fn swap_in(bytes: &[u8]) -> SwapRecord
-    requires { ⌜ length (now bytes) ≡ 30 ⌝ }
+    requires { ⌜ length (now bytes) ≡ swapSize ⌝ }
     ensures { λ r. ⌜ r ≡ swapIn (now (bytes .entry)) ⌝ }
 {
     SwapRecord {
@@ -49,7 +49,7 @@ fn swap_in(bytes: &[u8]) -> SwapRecord
 }
 
 // The record of the swap, in an array of its own length: nothing is refused.
-pub fn write_swap(swap: SwapRecord, out: &mut [u8; 30])
+pub fn write_swap(swap: SwapRecord, out: &mut [u8; SWAP_SIZE])
     ensures { λ _. ⌜ now (out .exit) ≡ swapBytes swap ⌝ }
 {
     out[0] = SWAP_KIND;

@@ -1,7 +1,7 @@
 // Kind 1, a loan's terms: 21 bytes.
 ghost use mathlib.Core.Path.{_≡_};
 ghost use lib.ListN.{length};
-ghost use Rattle.records.specs.Kinds.{termsIn, readTerms, termsOutcome, termsBytes};
+ghost use Rattle.records.specs.Kinds.{termsSize, termsIn, readTerms, termsOutcome, termsBytes};
 use crate::Terms;
 use crate::TermsRead;
 use crate::bad_record;
@@ -22,7 +22,7 @@ pub fn read_terms(bytes: &[u8]) -> TermsRead
 }
 
 fn terms_in(bytes: &[u8]) -> Terms
-    requires { ⌜ length (now bytes) ≡ 21 ⌝ }
+    requires { ⌜ length (now bytes) ≡ termsSize ⌝ }
     ensures { λ r. ⌜ r ≡ termsIn (now (bytes .entry)) ⌝ }
 {
     Terms {
@@ -33,7 +33,7 @@ fn terms_in(bytes: &[u8]) -> Terms
 }
 
 // The record of the terms, in an array of its own length: nothing is refused.
-pub fn write_terms(terms: Terms, out: &mut [u8; 21])
+pub fn write_terms(terms: Terms, out: &mut [u8; TERMS_SIZE])
     ensures { λ _. ⌜ now (out .exit) ≡ termsBytes terms ⌝ }
 {
     out[0] = TERMS_KIND;

@@ -2,6 +2,7 @@
 use Prim.Native.Nat.{_+_}
 use native.Mathlib.Omega.{arith}
 use denote.Ref.{now}
+use Rattle.records.specs.Bytes.{pairAt}
 use Rattle.records.proofs.Bytes.{read-halves, read-byte}
 use borrow.Author.Needs.{needs}
 use Rattle.records.proofs.fields.pair_at.Statement.{statement}
@@ -29,6 +30,7 @@ add-result : tie.Need-add-result
 add-result c = let at = c .before .before .args .at in omega (arith, c .shared-slice-known2 .given at, c .shared-slice-known2 .given (at + 1))
 
 returns : tie.Need-returns
+unfolding pairAt
 returns c =
     let at = c .before .before .args .at in
     let bytes = now (c .before .before .args .bytes) in

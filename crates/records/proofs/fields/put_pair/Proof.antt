@@ -2,6 +2,7 @@
 use native.Mathlib.Omega.{arith}
 use denote.Ref.{now}
 use lib.ListN.{length-set}
+use Rattle.records.specs.Bytes.{pairBytes}
 use Rattle.records.proofs.Bytes.{write-pair}
 use borrow.Author.Needs.{needs}
 use Rattle.records.proofs.fields.put_pair.Statement.{statement}
@@ -26,6 +27,7 @@ same-length : tie.Need-same-length
 same-length c = search needs
 
 returns : tie.Need-returns
+unfolding pairBytes
 returns c = write-pair (c .args .at) (c .args .n) (now (c .args .out)) (omega arith)
 
 pub put-pair-spec : {M : Type 1} → statement M

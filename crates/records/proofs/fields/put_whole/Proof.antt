@@ -2,7 +2,7 @@
 use Prim.Native.Nat.{_/_, _%_}
 use native.Mathlib.Omega.{arith}
 use denote.Ref.{now}
-use Rattle.records.specs.Bytes.{wholeBytes}
+use Rattle.records.specs.Bytes.{pairBytes, wholeBytes}
 use Rattle.records.proofs.Bytes.{write-halves}
 use borrow.Author.Needs.{needs}
 use Rattle.records.proofs.fields.put_whole.Statement.{statement}
@@ -27,7 +27,7 @@ same-length : tie.Need-same-length
 same-length c = search needs
 
 returns : tie.Need-returns
-unfolding wholeBytes
+unfolding wholeBytes pairBytes
 returns c =
     let second = c .before .before in
     let first = second .before .before .before .before in

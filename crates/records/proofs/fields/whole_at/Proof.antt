@@ -1,7 +1,7 @@
 -- `records::fields::whole_at` meets its contract. Assumes nothing.
 use native.Mathlib.Omega.{arith}
 use denote.Ref.{now}
-use Rattle.records.specs.Bytes.{wholeAt}
+use Rattle.records.specs.Bytes.{pairAt, wholeAt}
 use Rattle.records.proofs.Bytes.{read-halves}
 use borrow.Author.Needs.{needs}
 use Rattle.records.proofs.fields.whole_at.Statement.{statement}
@@ -29,7 +29,7 @@ add-result : tie.Need-add-result
 add-result c = search needs
 
 returns : tie.Need-returns
-unfolding wholeAt
+unfolding wholeAt pairAt
 returns c =
     let start = c .before .before .before in
     read-halves 2 2 (start .args .at) (now (start .args .bytes)) (omega arith) (c .before .pair-at .ensures) (c .pair-at2 .ensures)

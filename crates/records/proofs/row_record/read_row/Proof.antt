@@ -1,7 +1,9 @@
 -- `records::row_record::read_row` meets its contract. Assumes nothing.
+use mathlib.Core.Path.{refl, sym, _∙_}
+use mathlib.Core.Logic.{inr}
 use borrow.Author.Needs.{needs}
-use Rattle.records.specs.Kinds.{readRow, rowKind, rowSize}
-use Rattle.records.proofs.Judged.{refuses, accepts, right-length}
+use Rattle.records.specs.Kinds.{readRow, rowLayout, rowKind, rowSize}
+use Rattle.records.proofs.Judged.{good-only, refuses, accepts}
 use Rattle.records.proofs.row_record.read_row.Statement.{statement}
 use Rattle.records.proofs.row_record.read_row.Tie as tie
 
@@ -13,14 +15,14 @@ refuse-requires c κs = search needs
 
 returns : tie.Need-returns
 unfolding readRow
-returns c = refuses rowKind rowSize _ (c .before .before .bad-record .ensures) _ (c .refuse .ensures) (c .before .if1 .taken)
+returns c = refuses rowLayout _ (c .refuse .ensures) (inr (sym (c .before .before .bad-record .ensures) ∙ c .before .if1 .taken))
 
 row-in-requires : tie.Need-row-in-requires
-row-in-requires c κs = right-length rowKind rowSize _ (c .before .bad-record .ensures) (c .if1 .left)
+row-in-requires c κs = good-only rowKind rowSize _ (sym (c .before .bad-record .ensures) ∙ c .if1 .left) .0
 
 returns-2 : tie.Need-returns-2
 unfolding readRow
-returns-2 c = accepts rowKind rowSize _ (c .before .before .bad-record .ensures) _ (c .row-in .ensures) (c .before .if1 .left)
+returns-2 c = accepts rowLayout _ (c .row-in .ensures) refl (sym (c .before .before .bad-record .ensures) ∙ c .before .if1 .left)
 
 pub read-row-spec : {M : Type 1} → statement M
 read-row-spec =

@@ -1,10 +1,9 @@
 -- `records::row_record::write_row` meets its contract: its fields, put one after the other, fill the array. Assumes nothing.
 use mathlib.Core.Path.{_≡_, sym, _∙_}
-use lib.ListN.{length, length-set}
+use lib.ListN.{length, length-set, set}
 use denote.Ref.{now}
-use Rattle.records.specs.Kinds.{rowKind, rowSize}
-use Rattle.records.proofs.Slots.{puts, filled}
-use Rattle.records.proofs.Layouts.{rowSlots, row-written}
+use Rattle.records.specs.Kinds.{rowLayout, rowKind, rowSize, rowBytes}
+use Rattle.records.proofs.FieldLists.{puts, filled}
 use borrow.Author.Needs.{needs}
 use Rattle.records.proofs.row_record.write_row.Statement.{statement}
 use Rattle.records.proofs.row_record.write_row.Tie as tie
@@ -28,13 +27,14 @@ put-float-requires-4 : tie.Need-put-float-requires-4
 put-float-requires-4 c κs = search needs
 
 returns : tie.Need-returns
+unfolding rowBytes
 returns c =
     let first = c .before .before .before .before .before .before .before .before .before in
     let row = first .before .args .row in
     let out = now (first .before .args .out) in
-    let stored : c .put-float4 .last .0 ≡ puts out 0 (rowSlots rowKind row) = cc in
+    let stored : c .put-float4 .last .0 ≡ puts (set out 0 rowKind) 1 (rowLayout .fields) (rowLayout .heldOf row) = cc in
     let room : length out ≡ rowSize = sym (length-set out 0 rowKind) ∙ first .put-whole-arg .given .0 .1 in
-    stored ∙ filled out (rowSlots rowKind row) room ∙ row-written row
+    stored ∙ filled out rowKind (rowLayout .fields) (rowLayout .heldOf row) room
 
 pub write-row-spec : {M : Type 1} → statement M
 write-row-spec =

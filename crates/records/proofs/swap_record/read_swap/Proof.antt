@@ -1,13 +1,14 @@
 -- `records::swap_record::read_swap` meets its contract. Assumes nothing.
 use mathlib.Core.Path.{_≡_, sym, ap, _∙_}
 use mathlib.Core.Logic.{inl, inr}
+use mathlib.Core.Bool.{Bool, true, false, _||_}
 use borrow.Author.Needs.{needs}
 use borrow.Author.Tests.{lt-ltb, le-ltb}
 use denote.Ref.{now}
-use Rattle.refusals.specs.Table.{badRecord}
+use Rattle.refusals.specs.Table.{badCode}
 use Rattle.records.specs.declared.SwapRecord.{SwapRecord}
-use Rattle.records.specs.Kinds.{badCode, swapKind, swapSize, swapIn, readSwap}
-use Rattle.records.proofs.Judged.{coded-refuses, coded-accepts, right-length}
+use Rattle.records.specs.Kinds.{swapLayout, swapKind, swapSize, swapIn, readSwap}
+use Rattle.records.proofs.Judged.{or-false, good-only, refuses, accepts}
 use Rattle.records.proofs.swap_record.read_swap.Statement.{statement}
 use Rattle.records.proofs.swap_record.read_swap.Tie as tie
 
@@ -19,30 +20,29 @@ refuse-requires c κs = search needs
 
 returns : tie.Need-returns
 unfolding readSwap
-returns c = coded-refuses _ _ _ (c .refuse .ensures) (inl (sym (c .before .before .bad-record .ensures) ∙ c .before .if1 .taken))
+returns c = refuses swapLayout _ (c .refuse .ensures) (inr (sym (c .before .before .bad-record .ensures) ∙ c .before .if1 .taken))
 
 swap-in-requires : tie.Need-swap-in-requires
-swap-in-requires c κs = right-length swapKind swapSize _ (c .before .bad-record .ensures) (c .if1 .left)
+swap-in-requires c κs = good-only swapKind swapSize _ (sym (c .before .bad-record .ensures) ∙ c .if1 .left) .0
 
 refuse-requires-2 : tie.Need-refuse-requires-2
 refuse-requires-2 c κs = search needs
 
--- the code that was read
-code-is : (v w : SwapRecord) → v ≡ w → badCode 2 (w .count) ≡ badCode 2 (v .count)
-code-is v w e = ap (λ (b : SwapRecord). badCode 2 (b .count)) (sym e)
+-- the code that was read is the only one
+code-is : (v w : SwapRecord) (bad : Bool) → v ≡ w → badCode 2 (v .count) ≡ bad → (badCode 2 (w .count) || false) ≡ bad
+code-is v w bad e h = or-false (badCode 2 (w .count)) ∙ ap (λ (b : SwapRecord). badCode 2 (b .count)) (sym e) ∙ h
 
 returns-2 : tie.Need-returns-2
-unfolding readSwap
+unfolding readSwap swapIn badCode
 returns-2 c =
     let d = c .before .before .before in
-    let bytes = now (d .before .before .before .before .args .bytes) in
-    coded-refuses (swapIn bytes) (badRecord swapKind swapSize bytes) (badCode 2 (swapIn bytes .count)) (c .refuse2 .ensures) (inr (code-is _ _ (d .swap-in .ensures) ∙ lt-ltb _ _ (c .before .if2 .taken)))
+    refuses swapLayout (now (d .before .before .before .before .args .bytes)) (c .refuse2 .ensures) (inl (code-is _ _ true (d .swap-in .ensures) (lt-ltb _ _ (c .before .if2 .taken))))
 
 returns-3 : tie.Need-returns-3
-unfolding readSwap
+unfolding readSwap swapIn badCode
 returns-3 c =
     let d = c .before .before in
-    coded-accepts _ _ _ (d .swap-in .ensures) (sym (d .before .before .bad-record .ensures) ∙ d .before .if1 .left) (code-is _ _ (d .swap-in .ensures) ∙ le-ltb _ _ (c .if2 .left))
+    accepts swapLayout _ (d .swap-in .ensures) (code-is _ _ false (d .swap-in .ensures) (le-ltb _ _ (c .if2 .left))) (sym (d .before .before .bad-record .ensures) ∙ d .before .if1 .left)
 
 pub read-swap-spec : {M : Type 1} → statement M
 read-swap-spec =

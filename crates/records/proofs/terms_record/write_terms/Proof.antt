@@ -1,10 +1,9 @@
 -- `records::terms_record::write_terms` meets its contract: its fields, put one after the other, fill the array. Assumes nothing.
 use mathlib.Core.Path.{_≡_, sym, _∙_}
-use lib.ListN.{length, length-set}
+use lib.ListN.{length, length-set, set}
 use denote.Ref.{now}
-use Rattle.records.specs.Kinds.{termsKind, termsSize}
-use Rattle.records.proofs.Slots.{puts, filled}
-use Rattle.records.proofs.Layouts.{termsSlots, terms-written}
+use Rattle.records.specs.Kinds.{termsLayout, termsKind, termsSize, termsBytes}
+use Rattle.records.proofs.FieldLists.{puts, filled}
 use borrow.Author.Needs.{needs}
 use Rattle.records.proofs.terms_record.write_terms.Statement.{statement}
 use Rattle.records.proofs.terms_record.write_terms.Tie as tie
@@ -22,13 +21,14 @@ put-whole-requires : tie.Need-put-whole-requires
 put-whole-requires c κs = search needs
 
 returns : tie.Need-returns
+unfolding termsBytes
 returns c =
     let first = c .before .before .before .before .before in
     let terms = first .before .args .terms in
     let out = now (first .before .args .out) in
-    let stored : c .put-whole .last .0 ≡ puts out 0 (termsSlots termsKind terms) = cc in
+    let stored : c .put-whole .last .0 ≡ puts (set out 0 termsKind) 1 (termsLayout .fields) (termsLayout .heldOf terms) = cc in
     let room : length out ≡ termsSize = sym (length-set out 0 termsKind) ∙ first .put-float-arg .given .0 .1 in
-    stored ∙ filled out (termsSlots termsKind terms) room ∙ terms-written terms
+    stored ∙ filled out termsKind (termsLayout .fields) (termsLayout .heldOf terms) room
 
 pub write-terms-spec : {M : Type 1} → statement M
 write-terms-spec =
