@@ -8,8 +8,9 @@ use lib.IntN.{ℤ}
 use lib.Dec.{lit≤}
 use lib.Pow.{pow-pos, pow-mono}
 use lib.Ieee.{Float, nan, inf, fin, Format, binary64, unlike, up, down, isNan, round, add, sub, mul, neg, lt, ofInt, ofBits}
-use Rattle.elementary.specs.Horner.{horner, ln2High, ln2Low}
-use Rattle.elementary.specs.Exp.{factorial, inverseFactorial, highest, lowest, below, halvings, signed, twoTo, reduced, expWithin}
+use Rattle.numbers.specs.Literals.{sevenHundredNine, minusSevenHundredEight, ln2High, ln2Low}
+use Rattle.elementary.specs.Horner.{horner}
+use Rattle.elementary.specs.Exp.{factorial, inverseFactorial, below, halvings, signed, twoTo, reduced, expWithin}
 use Rattle.elementary.proofs.Bounds.{Within, looser, neg-within, round-within, mul-within, add-within, sub-within}
 use Rattle.elementary.proofs.Roundings.{round-no-nan}
 use Rattle.elementary.proofs.Halvings.{in-range, at-most-1023}
@@ -87,10 +88,10 @@ unfolding twoTo
 two-to-within false k h = round-within binary64 false (2 ^ k) 1 1023 (zero-lt-suc 0) (omega arith) (rw mul-one (pow-mono h))
 two-to-within true k h = round-within binary64 false 1 (2 ^ k) 1023 (pow-pos k) (omega arith) (mul-pos (pow-pos 1023) (pow-pos k))
 
-within-range : (s : Bool) (m : ℕ) (e : ℤ) → lt highest (fin s m e) ≡ false → lt (fin s m e) lowest ≡ false → Within (fin s m e) 10
+within-range : (s : Bool) (m : ℕ) (e : ℤ) → lt sevenHundredNine (fin s m e) ≡ false → lt (fin s m e) minusSevenHundredEight ≡ false → Within (fin s m e) 10
 within-range s m e a b = le-trans (in-range s m e a b) (mul-le-mul-right (down e) (lit≤ tt))
 
-pub steps-no-nan : (s : Bool) (m : ℕ) (e : ℤ) → lt highest (fin s m e) ≡ false → lt (fin s m e) lowest ≡ false → isNan (expWithin (fin s m e)) ≡ false
+pub steps-no-nan : (s : Bool) (m : ℕ) (e : ℤ) → lt sevenHundredNine (fin s m e) ≡ false → lt (fin s m e) minusSevenHundredEight ≡ false → isNan (expWithin (fin s m e)) ≡ false
 unfolding expWithin
 steps-no-nan s m e a b =
     let x = fin s m e in

@@ -9,19 +9,20 @@ use lib.Dec.{T, ltb, eqb, ltb→lt, eqb→eq}
 use lib.Ieee.{Float, nan, inf, fin, binary64, up, down, neg, mul, lt, le, eq, ne, ofBits}
 use lib.Ieee.Fits.{and-l, and-r}
 use lib.Ieee.Compare.{differs-from-itself, nan-differs}
+use Rattle.numbers.specs.Literals.{sevenHundredNine, minusSevenHundredEight}
 use Rattle.numbers.specs.Clamps.{plusZero}
 use Rattle.numbers.proofs.Amounts.{passes}
 use Rattle.elementary.specs.Horner.{horner}
-use Rattle.elementary.specs.Exp.{inverseFactorial, highest, lowest, below, halvings, signed, twoTo, reduced, expWithin, expNotAbove, expOf, exp}
+use Rattle.elementary.specs.Exp.{inverseFactorial, below, halvings, signed, twoTo, reduced, expWithin, expNotAbove, expOf, exp}
 
 -- -708 as the program writes it
-pub minus-708 : neg (ofBits binary64 0x4086_2000_0000_0000) ≡ lowest
+pub minus-708 : neg (ofBits binary64 0x4086_2000_0000_0000) ≡ minusSevenHundredEight
 unfolding neg ofBits
 minus-708 = refl
 
 -- neither a NaN nor beyond an end
 abbrev pub Inside : Float → Type 0
-Inside x = (ne x x ≡ false) × (lt highest x ≡ false) × (lt x lowest ≡ false)
+Inside x = (ne x x ≡ false) × (lt sevenHundredNine x ≡ false) × (lt x minusSevenHundredEight ≡ false)
 
 -- two tests tell as much: a NaN passes neither
 not-less : (a b : ℕ) (same t : Bool) → (T same → a ≡ b) → T (ltb a b || (same && t)) → ltb b a ≡ false
@@ -43,7 +44,7 @@ equals-itself s m e = go s (m * up e * down e)
     go true a = rw (eq-eqb a a refl) refl
     go false a = rw (eq-eqb a a refl) refl
 
-within-ends : (x : Float) → T (le x highest) → T (le lowest x) → Inside x
+within-ends : (x : Float) → T (le x sevenHundredNine) → T (le minusSevenHundredEight x) → Inside x
 unfolding le lt eq ofBits
 within-ends nan a b = absurd a
 within-ends (inf true) a b = absurd b
@@ -52,8 +53,8 @@ within-ends (fin true m e) a b = (equals-itself true m e, refl, not-less (m * up
 within-ends (fin false m e) a b = (equals-itself false m e, not-less (m * up e * 1) (709 * down e) (eqb (m * up e * 1) (709 * down e)) true (eqb→eq (m * up e * 1) (709 * down e)) a, refl)
 
 -- both tests, and the tests before them
-pub further-inside : (before : Bool) (x : Float) → ((before && le x highest) && le lowest x) ≡ true → (before ≡ true) × Inside x
-further-inside true x h = (refl, within-ends x (and-l (le x highest) (le lowest x) (passes h)) (and-r (le x highest) (le lowest x) (passes h)))
+pub further-inside : (before : Bool) (x : Float) → ((before && le x sevenHundredNine) && le minusSevenHundredEight x) ≡ true → (before ≡ true) × Inside x
+further-inside true x h = (refl, within-ends x (and-l (le x sevenHundredNine) (le minusSevenHundredEight x) (passes h)) (and-r (le x sevenHundredNine) (le minusSevenHundredEight x) (passes h)))
 further-inside false x h = absurd (passes h)
 
 -- ---- the cases
@@ -61,26 +62,26 @@ pub at-nan : (x : Float) → ne x x ≡ true → x ≡ exp x
 unfolding exp
 at-nan x h = differs-from-itself x (passes h) ∙ sym (ap exp (differs-from-itself x (passes h)))
 
-not-nan : (x : Float) → ne x x ≡ false → exp x ≡ expOf (lt highest x) x
+not-nan : (x : Float) → ne x x ≡ false → exp x ≡ expOf (lt sevenHundredNine x) x
 unfolding exp
 not-nan nan h = absurd (subst T (sym nan-differs ∙ h) tt)
 not-nan (inf s) h = refl
 not-nan (fin s m e) h = refl
 
-pub above : (x : Float) → ne x x ≡ false → lt highest x ≡ true → inf false ≡ exp x
+pub above : (x : Float) → ne x x ≡ false → lt sevenHundredNine x ≡ true → inf false ≡ exp x
 unfolding expOf
 above x n h = sym (not-nan x n ∙ ap (λ (b : Bool). expOf b x) h)
 
-not-above : (x : Float) → ne x x ≡ false → lt highest x ≡ false → exp x ≡ expNotAbove (lt x lowest) x
+not-above : (x : Float) → ne x x ≡ false → lt sevenHundredNine x ≡ false → exp x ≡ expNotAbove (lt x minusSevenHundredEight) x
 unfolding expOf
 not-above x n h = not-nan x n ∙ ap (λ (b : Bool). expOf b x) h
 
-pub beneath : (x : Float) → ne x x ≡ false → lt highest x ≡ false → lt x lowest ≡ true → plusZero ≡ exp x
+pub beneath : (x : Float) → ne x x ≡ false → lt sevenHundredNine x ≡ false → lt x minusSevenHundredEight ≡ true → plusZero ≡ exp x
 unfolding expNotAbove
 beneath x n h l = sym (not-above x n h ∙ ap (λ (b : Bool). expNotAbove b x) l)
 
 -- the steps, each by what the program has of the one before
-pub steps : (x : Float) → ne x x ≡ false → lt highest x ≡ false → lt x lowest ≡ false → (r p t : Float)
+pub steps : (x : Float) → ne x x ≡ false → lt sevenHundredNine x ≡ false → lt x minusSevenHundredEight ≡ false → (r p t : Float)
     → r ≡ reduced x (signed (below x) (halvings x)) → p ≡ horner inverseFactorial r 0 13 → t ≡ twoTo (below x) (halvings x) → mul binary64 p t ≡ exp x
 unfolding expNotAbove expWithin
 steps x n h l r p t er ep et = rw (ep, er, et) (sym (not-above x n h ∙ ap (λ (b : Bool). expNotAbove b x) l))

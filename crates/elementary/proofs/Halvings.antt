@@ -11,10 +11,11 @@ use lib.Pow.{pow-pos}
 use lib.Ieee.{Float, nan, inf, fin, binary64, unlike, up, down, round, mul, lt, ofBits}
 use lib.Ieee.Fits.{down-pos}
 use lib.Ieee.Order.{round-mono}
+use Rattle.numbers.specs.Literals.{sevenHundredNine, minusSevenHundredEight, inverseLn2}
 use Rattle.numbers.specs.Clamps.{plusZero}
 use Rattle.numbers.specs.Sizes.{absolute}
 use Rattle.numbers.specs.Whole.{nearestWhole}
-use Rattle.elementary.specs.Exp.{inverseLn2, highest, lowest, below, halvings}
+use Rattle.elementary.specs.Exp.{below, halvings}
 use Rattle.elementary.proofs.Roundings.{absolute-round, size-not-below, nearest-no-less}
 
 -- inverseLn2 as a fraction of 2 ^ 51
@@ -55,21 +56,21 @@ unfolding nearestWhole round
 at-708 = refl
 
 -- ---- from the tests
-not-above : (m : ℕ) (e : ℤ) → lt highest (fin false m e) ≡ false → m * up e ≤ 709 * down e
+not-above : (m : ℕ) (e : ℤ) → lt sevenHundredNine (fin false m e) ≡ false → m * up e ≤ 709 * down e
 unfolding lt ofBits
 not-above m e h = plain (m * up e) (down e) (ltb-false (709 * 1 * down e) (m * up e * 1) h)
   where
     plain : (a d : ℕ) → a * 1 ≤ 709 * 1 * d → a ≤ 709 * d
     plain a d h = omega arith
 
-not-beneath : (m : ℕ) (e : ℤ) → lt (fin true m e) lowest ≡ false → m * up e ≤ 708 * down e
+not-beneath : (m : ℕ) (e : ℤ) → lt (fin true m e) minusSevenHundredEight ≡ false → m * up e ≤ 708 * down e
 unfolding lt ofBits
 not-beneath m e h = plain (m * up e) (down e) (ltb-false (177 * 4 * down e) (m * up e * 1) h)
   where
     plain : (a d : ℕ) → a * 1 ≤ 177 * 4 * d → a ≤ 708 * d
     plain a d h = omega arith
 
-pub in-range : (s : Bool) (m : ℕ) (e : ℤ) → lt highest (fin s m e) ≡ false → lt (fin s m e) lowest ≡ false → m * up e ≤ 709 * down e
+pub in-range : (s : Bool) (m : ℕ) (e : ℤ) → lt sevenHundredNine (fin s m e) ≡ false → lt (fin s m e) minusSevenHundredEight ≡ false → m * up e ≤ 709 * down e
 in-range false m e a b = not-above m e a
 in-range true m e a b = le-trans (not-beneath m e b) (mul-le-mul-right (down e) (lit≤ tt))
 
@@ -79,7 +80,7 @@ plus-not-below m e =
     ap (λ (y : Float). lt y plusZero) (product false m e ∙ sym (absolute-round binary64 false (m * up e * (numerator * 1)) (down e * 2 ^ 51)))
     ∙ size-not-below (round binary64 false (m * up e * (numerator * 1)) (down e * 2 ^ 51))
 
-pub few-halvings : (x : Float) → lt highest x ≡ false → lt x lowest ≡ false → halvings x ≤ cond (below x) 1022 1023
+pub few-halvings : (x : Float) → lt sevenHundredNine x ≡ false → lt x minusSevenHundredEight ≡ false → halvings x ≤ cond (below x) 1022 1023
 few-halvings nan a b = at-nan
   where
     at-nan : halvings nan ≤ cond (below nan) 1022 1023
@@ -93,7 +94,7 @@ few-halvings (fin true m e) a b = either (below (fin true m e)) (le-trans (halvi
     either true h = omega arith
     either false h = omega arith
 
-pub at-most-1023 : (x : Float) → lt highest x ≡ false → lt x lowest ≡ false → halvings x ≤ 1023
+pub at-most-1023 : (x : Float) → lt sevenHundredNine x ≡ false → lt x minusSevenHundredEight ≡ false → halvings x ≤ 1023
 at-most-1023 x a b = either (below x) (few-halvings x a b)
   where
     either : (b : Bool) {n : ℕ} → n ≤ cond b 1022 1023 → n ≤ 1023

@@ -9,8 +9,10 @@ use lib.Dec.{eqb}
 use lib.ListN.{getD}
 use lib.Ieee.{Float, nan, binary64, mul}
 use borrow.Author.Tests.{eq-eqb, ne-eqb}
-use Rattle.elementary.specs.WholePower.{one, turns, wholePower}
-use Rattle.elementary.specs.Powers.{powersFrom, squared}
+use Rattle.numbers.specs.Literals.{one}
+use Rattle.elementary.specs.WholePower.{turns, wholePower}
+use Rattle.elementary.specs.Powers.{powersFrom}
+use Rattle.elementary.specs.inner.Squared.{squared}
 use Rattle.elementary.proofs.Turns.{turn-on, turn-last, ended}
 use Rattle.elementary.proofs.PartWay.{map-alike}
 

@@ -11,13 +11,13 @@ use lib.Ieee.{Float, nan, inf, fin, binary64, up, down, size, fits, isNan, round
 use lib.Ieee.Digits.{size-lt, size-le, size-reaches, back}
 use lib.Ieee.Exact.{HasValue, round-exact}
 use lib.Ieee.Fits.{and-l, and-r, nan-fits, inf-fits, add-fits, mul-fits}
+use Rattle.numbers.specs.Literals.{one, sevenHundredNine, minusSevenHundredEight, rootTwo}
 use Rattle.numbers.specs.Clamps.{plusZero}
 use Rattle.numbers.specs.Sizes.{absolute}
 use Rattle.numbers.specs.Whole.{nearestWhole}
-use Rattle.elementary.specs.WholePower.{one}
 use Rattle.elementary.specs.Horner.{horner}
-use Rattle.elementary.specs.Exp.{factorial, inverseFactorial, highest, lowest, below, halvings, twoTo, reduced, expWithin, expNotAbove, expOf, exp}
-use Rattle.elementary.specs.Ln.{inverseOdd, rootTwo, leading, exponent, slope, lnOf, lnBy, ln}
+use Rattle.elementary.specs.Exp.{factorial, inverseFactorial, below, halvings, twoTo, reduced, expWithin, expNotAbove, expOf, exp}
+use Rattle.elementary.specs.Ln.{inverseOdd, leading, exponent, slope, lnOf, lnBy, ln}
 use Rattle.elementary.proofs.ExpFinite.{steps-no-nan}
 use Rattle.elementary.proofs.Sizes.{size-pos, power-sum}
 
@@ -36,7 +36,7 @@ no-nan : (x : Float) → isNan x ≡ false → x ≡ nan → ⊥
 unfolding isNan
 no-nan x h e = subst T (ap isNan (sym e) ∙ h) tt
 
-by-tests : (s : Bool) (m : ℕ) (e : ℤ) (a b : Bool) → lt highest (fin s m e) ≡ a → lt (fin s m e) lowest ≡ b → isNan (exp (fin s m e)) ≡ false
+by-tests : (s : Bool) (m : ℕ) (e : ℤ) (a b : Bool) → lt sevenHundredNine (fin s m e) ≡ a → lt (fin s m e) minusSevenHundredEight ≡ b → isNan (exp (fin s m e)) ≡ false
 unfolding exp expOf expNotAbove isNan ofBits
 by-tests s m e true b p q = ap (λ (t : Bool). isNan (expOf t (fin s m e))) p
 by-tests s m e false true p q = ap (λ (t : Bool). isNan (expOf t (fin s m e))) p ∙ ap (λ (t : Bool). isNan (expNotAbove t (fin s m e))) q
@@ -50,7 +50,7 @@ pub exp-gives-nan-for-nan-alone : (x : Float) → exp x ≡ nan → x ≡ nan
 exp-gives-nan-for-nan-alone nan h = refl
 exp-gives-nan-for-nan-alone (inf true) h = absurd (no-nan (exp (inf true)) (unfold exp expOf expNotAbove isNan lt ofBits in refl) h)
 exp-gives-nan-for-nan-alone (inf false) h = absurd (no-nan (exp (inf false)) (unfold exp expOf isNan lt ofBits in refl) h)
-exp-gives-nan-for-nan-alone (fin s m e) h = absurd (no-nan (exp (fin s m e)) (by-tests s m e (lt highest (fin s m e)) (lt (fin s m e) lowest) refl refl) h)
+exp-gives-nan-for-nan-alone (fin s m e) h = absurd (no-nan (exp (fin s m e)) (by-tests s m e (lt sevenHundredNine (fin s m e)) (lt (fin s m e) minusSevenHundredEight) refl refl) h)
 
 -- ---- the results fit
 exp-not-above-fits : (b : Bool) (x : Float) → T (fits binary64 (expNotAbove b x))
@@ -61,13 +61,13 @@ exp-not-above-fits false x = mul-fits binary64 (horner inverseFactorial (reduced
 exp-of-fits : (b : Bool) (x : Float) → T (fits binary64 (expOf b x))
 unfolding expOf
 exp-of-fits true x = inf-fits binary64 false
-exp-of-fits false x = exp-not-above-fits (lt x lowest) x
+exp-of-fits false x = exp-not-above-fits (lt x minusSevenHundredEight) x
 
 pub exp-fits : (x : Float) → T (fits binary64 (exp x))
 unfolding exp
 exp-fits nan = nan-fits binary64
-exp-fits (inf s) = exp-of-fits (lt highest (inf s)) (inf s)
-exp-fits (fin s m e) = exp-of-fits (lt highest (fin s m e)) (fin s m e)
+exp-fits (inf s) = exp-of-fits (lt sevenHundredNine (inf s)) (inf s)
+exp-fits (fin s m e) = exp-of-fits (lt sevenHundredNine (fin s m e)) (fin s m e)
 
 ln-by-fits : (b : Bool) (m : Float) (e : ℤ) → T (fits binary64 (lnBy b m e))
 unfolding lnBy lnOf

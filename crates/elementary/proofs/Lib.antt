@@ -14,6 +14,7 @@ pub mod Multiples
 pub mod ExpSteps
 pub mod ExpFinite
 pub mod PartWay
+pub mod Lanes
 pub mod InARow
 pub mod Leading
 pub mod LnSteps

@@ -12,11 +12,12 @@ use lib.Ieee.{Float, nan, inf, fin, binary64, up, down, fits, round, mul, lt, of
 use lib.Ieee.Exact.{HasValue, round-exact}
 use lib.Ieee.Fits.{up-pos, down-pos}
 use lib.Ieee.Scale.{finite, round-same}
+use Rattle.numbers.specs.Literals.{rootTwo}
 use Rattle.numbers.specs.Clamps.{plusZero}
 use Rattle.numbers.specs.Units.{count, units}
 use Rattle.numbers.proofs.Amounts.{passes, amount, Held, counts, held}
 use Rattle.numbers.proofs.Order.{lt-amount}
-use Rattle.elementary.specs.Ln.{rootTwo, lnBy, ln}
+use Rattle.elementary.specs.Ln.{lnBy, ln}
 use Rattle.numbers.proofs.Values.{pattern-by-count, pattern-of-value}
 use Rattle.elementary.proofs.Leading.{ReadOff, read-off}
 

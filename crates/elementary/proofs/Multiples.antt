@@ -15,14 +15,13 @@ use lib.Ieee.Compare.{nan-differs}
 use lib.Ieee.Digits.{size-le}
 use lib.Ieee.Fits.{down-pos, round-fits, mul-fits}
 use lib.Ieee.Back.{whole-unique}
+use Rattle.numbers.specs.Literals.{one, sevenHundredNine, minusSevenHundredEight, half, inverseLn2}
 use Rattle.numbers.specs.Clamps.{plusZero}
 use Rattle.numbers.specs.Sizes.{absolute}
 use Rattle.numbers.specs.Units.{units}
 use Rattle.numbers.specs.Whole.{nearestWhole}
 use Rattle.numbers.proofs.Amounts.{passes, amount, counts}
-use Rattle.elementary.specs.WholePower.{one}
-use Rattle.elementary.specs.Exp.{inverseLn2, highest, lowest, below, halvings, signed, twoTo}
-use Rattle.elementary.specs.Ln.{half}
+use Rattle.elementary.specs.Exp.{below, halvings, signed, twoTo}
 use Rattle.elementary.proofs.Bounds.{Within, round-within}
 use Rattle.elementary.proofs.Halvings.{numerator, product-size, in-range, few-halvings}
 use Rattle.elementary.proofs.NearestSmall.{lift, goes-up, stays}
@@ -49,7 +48,7 @@ no-sign nan = refl
 no-sign (inf s) = refl
 no-sign (fin s m e) = refl
 
-pub small-size : (x : Float) → ne x x ≡ false → lt highest x ≡ false → lt x lowest ≡ false → T (amount binary64 (absolute (mul binary64 x inverseLn2))) × (units (absolute (mul binary64 x inverseLn2)) ≤ 1024 * 2 ^ 1074)
+pub small-size : (x : Float) → ne x x ≡ false → lt sevenHundredNine x ≡ false → lt x minusSevenHundredEight ≡ false → T (amount binary64 (absolute (mul binary64 x inverseLn2))) × (units (absolute (mul binary64 x inverseLn2)) ≤ 1024 * 2 ^ 1074)
 small-size nan n a b = absurd (subst T (sym nan-differs ∙ n) tt)
 small-size (inf true) n a b = absurd (unfold lt ofBits in subst T b tt)
 small-size (inf false) n a b = absurd (unfold lt ofBits in subst T a tt)
@@ -120,7 +119,7 @@ zero-as-it-is : nearby minusZero ≡ ofInt binary64 (pos (nearestWhole (absolute
 unfolding add sub ofBits ofInt nearestWhole absolute minusZero
 zero-as-it-is = refl
 
-module _ (x : Float) (number : ne x x ≡ false) (not-above : lt highest x ≡ false) (not-beneath : lt x lowest ≡ false) (a : Float) (is : Sized (mul binary64 x inverseLn2) a) where
+module _ (x : Float) (number : ne x x ≡ false) (not-above : lt sevenHundredNine x ≡ false) (not-beneath : lt x minusSevenHundredEight ≡ false) (a : Float) (is : Sized (mul binary64 x inverseLn2) a) where
   abbrev y : Float
   y = mul binary64 x inverseLn2
 
@@ -235,5 +234,5 @@ scales true n h =
     turn : (n : ℕ) → n ≤ 1022 → 2 ^ 52 + 1023 - n ≡ 2 ^ 52 + (1023 - n)
     turn n h = omega arith
 
-pub scales-of : (x k : Float) → lt highest x ≡ false → lt x lowest ≡ false → k ≡ signed (below x) (halvings x) → Scales k (below x) (halvings x)
+pub scales-of : (x k : Float) → lt sevenHundredNine x ≡ false → lt x minusSevenHundredEight ≡ false → k ≡ signed (below x) (halvings x) → Scales k (below x) (halvings x)
 scales-of x k a b e = rw e (scales (below x) (halvings x) (few-halvings x a b))

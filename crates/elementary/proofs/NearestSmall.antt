@@ -15,14 +15,13 @@ use lib.Ieee.Exact.{HasValue, round-exact}
 use lib.Ieee.Fits.{down-pos, add-fits, ofInt-fits, round-fits}
 use lib.Ieee.Nearest.{closest}
 use lib.Ieee.Scale.{grid, round-same, round-val}
+use Rattle.numbers.specs.Literals.{one, half}
 use Rattle.numbers.specs.Units.{units}
 use Rattle.numbers.specs.Whole.{nearestTo, nearestWhole, largest}
 use Rattle.numbers.proofs.Amounts.{passes, amount, counts}
 use Rattle.numbers.proofs.Order.{le-amount}
 use Rattle.numbers.proofs.Ratios.{nearest-of-ratio, nearest-is, by-count}
 use Rattle.numbers.proofs.Snap.{snap, closest-within-half, WithinHalf, grid-is-snap}
-use Rattle.elementary.specs.WholePower.{one}
-use Rattle.elementary.specs.Ln.{half}
 use Rattle.numbers.proofs.Values.{same-value, count-of-value}
 use Rattle.elementary.proofs.Sizes.{size-above, same-difference, plain-difference}
 use Rattle.elementary.proofs.Wholes.{whole-value, whole-difference, whole-sum}

@@ -1,12 +1,13 @@
 -- Lists that a loop changes place by place: f of the first j numbers, and g of the others. Assumes nothing.
 use mathlib.Core.Path.{_≡_, refl, sym, ap, ap₂, _∙_}
 use mathlib.Core.List.{List, [], _∷_, _++_, map}
-use Prim.Native.Nat.{ℕ, zero, suc, _+_, _≤_, _<_}
+use Prim.Native.Nat.{ℕ, zero, suc, _+_, _-_, _≤_, _<_}
 use native.Mathlib.Nat.{zero-add, suc-add, not-suc-le-zero, le-of-suc-le-suc}
 use native.Mathlib.Numerals.{add-one}
 use native.Mathlib.Omega.{arith}
 use borrow.Author.Count.{below-more}
-use lib.ListN.{length, length-map, getD, set, take, drop, replicate}
+use borrow.Rule.Slice.PartMut.{same-len-mid}
+use lib.ListN.{length, length-map, length-set, getD, set, take, drop, replicate}
 use lib.Seq.{getD-set-same, getD-set-other}
 use lib.Ieee.{Float, nan}
 
@@ -53,11 +54,6 @@ module _ (f g : Float → Float) where
   at-end (suc j) [] h = refl
   at-end (suc j) (x ∷ xs) h = ap (λ (r : List Float). f x ∷ r) (at-end j xs (le-of-suc-le-suc h))
 
-pub map-at : (f : Float → Float) (j : ℕ) (xs : List Float) → j < length xs → getD (map f xs) j nan ≡ f (getD xs j nan)
-map-at f j [] h = absurd (not-suc-le-zero h)
-map-at f zero (x ∷ xs) h = refl
-map-at f (suc j) (x ∷ xs) h = map-at f j xs (le-of-suc-le-suc h)
-
 pub map-alike : (f g : Float → Float) → ((x : Float) → f x ≡ g x) → (xs : List Float) → map f xs ≡ map g xs
 map-alike f g e [] = refl
 map-alike f g e (x ∷ xs) = ap₂ (λ (y : Float) (r : List Float). y ∷ r) (e x) (map-alike f g e xs)
@@ -65,6 +61,27 @@ map-alike f g e (x ∷ xs) = ap₂ (λ (y : Float) (r : List Float). y ∷ r) (e
 pub map-same : (xs : List Float) → map (λ (x : Float). x) xs ≡ xs
 map-same [] = refl
 map-same (x ∷ xs) = ap (λ (r : List Float). x ∷ r) (map-same xs)
+
+-- ---- n numbers changed one after the other
+-- What the loop keeps: f of each number before place j, and the others as they were.
+pub record Passed (f : Float → Float) (n : ℕ) (xs ys : List Float) (j : ℕ) : Type 0 where
+  pub within : j ≤ n
+  pub so-far : ys ≡ partWay f (λ x. x) j xs
+  pub kept : length ys ≡ length xs
+
+pub none-passed : (f : Float → Float) (n : ℕ) (xs : List Float) → Passed f n xs xs 0
+none-passed f n xs = record { within = omega arith; so-far = sym (at-start f (λ x. x) xs ∙ map-same xs); kept = refl }
+
+module _ {f : Float → Float} {n : ℕ} {xs ys : List Float} {j : ℕ} (p : Passed f n xs ys j) (size : length xs ≡ n) where
+  -- what stands at the next place
+  pub as-it-was : j < n → getD ys j nan ≡ getD xs j nan
+  as-it-was h = next-of f (λ x. x) j xs ys (omega arith) (p .so-far)
+
+  pub one-passed : (v : Float) → j < n → v ≡ f (getD xs j nan) → Passed f n xs (set ys j v) (j + 1)
+  one-passed v h e = record { within = omega arith; so-far = one-further f (λ x. x) j xs ys v (omega arith) (p .so-far) e; kept = simp length-set (p .kept) }
+
+  pub all-passed : n ≤ j → ys ≡ map f xs
+  all-passed h = p .so-far ∙ at-end f (λ x. x) j xs (omega arith)
 
 -- the same number at each place
 pub copies : (n : ℕ) (v : Float) (xs : List Float) → length xs ≡ n → replicate n v ≡ map (λ (x : Float). v) xs
@@ -108,3 +125,14 @@ part f (suc a) n (x ∷ xs) h = rw (suc-add a n) (ap (λ (r : List Float). f x �
 pub part-further : (f : Float → Float) (a n : ℕ) (xs ys done : List Float) → a ≤ length xs → ys ≡ partWay f (λ x. x) a xs → done ≡ map f (take n (drop a ys))
     → take a ys ++ (done ++ drop n (drop a ys)) ≡ partWay f (λ x. x) (a + n) xs
 part-further f a n xs ys done h e d = rw (d, e) (part f a n xs h)
+
+-- the same of what a loop keeps
+pub part-passed : {f : Float → Float} {n : ℕ} {xs ys : List Float} {a : ℕ} → Passed f n xs ys a → length xs ≡ n → (b : ℕ) (done : List Float) → a ≤ b → b ≤ n → done ≡ map f (take (b - a) (drop a ys))
+    → length done ≡ length (take (b - a) (drop a ys)) → Passed f n xs (take a ys ++ (done ++ drop (b - a) (drop a ys))) b
+part-passed {f} {n} {xs} {ys} {a} p size b done low high e l =
+    let whole : a + (b - a) ≡ b = omega arith in
+    record {
+      within = high;
+      so-far = part-further f a (b - a) xs ys done (omega (arith, p .within)) (p .so-far) e ∙ ap (λ (k : ℕ). partWay f (λ x. x) k xs) whole;
+      kept = same-len-mid a (b - a) ys done l ∙ p .kept;
+    }

@@ -7,7 +7,8 @@ use mathlib.Core.Bool.{Bool, true, false, cond}
 use lib.Dec.{T, eqb}
 use lib.Ieee.{Float, binary64, mul, fits}
 use borrow.Author.Tests.{eq-eqb, ne-eqb}
-use Rattle.elementary.specs.WholePower.{one, turns}
+use Rattle.numbers.specs.Literals.{one}
+use Rattle.elementary.specs.WholePower.{turns}
 use Rattle.elementary.proofs.Unrounded.{times-one}
 
 half-fits : (m k : ℕ) → suc m ≤ suc k → suc m / 2 ≤ k

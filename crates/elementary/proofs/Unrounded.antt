@@ -11,6 +11,7 @@ use lib.Ieee.{Float, nan, inf, fin, Format, binary64, low, up, down, fits, unlik
 use lib.Ieee.Fits.{up-pos, down-pos}
 use lib.Ieee.Scale.{finite}
 use borrow.Author.Tests.{le-ltb, lt-ltb, ne-eqb}
+use Rattle.numbers.specs.Literals.{one}
 use Rattle.numbers.specs.Clamps.{plusZero}
 use Rattle.numbers.specs.Units.{count}
 use Rattle.numbers.proofs.Zeros.{round-nothing}
@@ -18,7 +19,6 @@ use Rattle.numbers.proofs.Amounts.{amount, one-count}
 use Rattle.numbers.proofs.Order.{zero-amount, lt-amount}
 use Rattle.numbers.proofs.Differences.{difference, left-above-amounts}
 use Rattle.numbers.proofs.Values.{round-itself}
-use Rattle.elementary.specs.WholePower.{one}
 
 -- ---- the zeros, and values other than 0
 abbrev pub nought : Bool → Float

@@ -11,12 +11,13 @@ use lib.Ieee.{Float, nan, inf, fin, binary64, up, down, round, lt, le, eq, isNan
 use lib.Ieee.Back.{round-whole}
 use lib.Ieee.Exact.{HasValue}
 use lib.Ieee.Fits.{down-pos, and-l, and-r, and-i, eq→eqb}
+use Rattle.numbers.specs.Literals.{one}
 use Rattle.numbers.specs.Clamps.{plusZero}
 use Rattle.numbers.specs.Sizes.{absolute}
 use Rattle.numbers.specs.Whole.{nearestTo, nearestWhole, largest}
 use Rattle.numbers.proofs.Amounts.{passes}
 use Rattle.numbers.proofs.Ratios.{nearest-of-ratio}
-use Rattle.elementary.specs.WholePower.{one, turns, wholePower, negativePower}
+use Rattle.elementary.specs.WholePower.{turns, wholePower, negativePower}
 use Rattle.elementary.proofs.Roundings.{le-sizes, zero-factor}
 use Rattle.elementary.specs.Power.{isWhole, sizeOf, bySign}
 

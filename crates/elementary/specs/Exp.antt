@@ -2,11 +2,12 @@
 use Prim.Native.Nat.{ℕ, zero, suc, _*_, _^_}
 use mathlib.Core.Bool.{Bool, true, false, cond}
 use lib.IntN.{pos}
-use lib.Ieee.{Float, nan, inf, fin, binary64, round, neg, sub, mul, lt, ofInt, ofBits}
+use lib.Ieee.{Float, nan, inf, fin, binary64, round, neg, sub, mul, lt, ofInt}
+use Rattle.numbers.specs.Literals.{sevenHundredNine, minusSevenHundredEight, inverseLn2, ln2High, ln2Low}
 use Rattle.numbers.specs.Clamps.{plusZero}
 use Rattle.numbers.specs.Sizes.{absolute}
 use Rattle.numbers.specs.Whole.{nearestWhole}
-use Rattle.elementary.specs.Horner.{horner, ln2High, ln2Low}
+use Rattle.elementary.specs.Horner.{horner}
 
 -- "the coefficients 1/k! for k from 0 to 13, each rounded once"
 unfoldable pub factorial : ℕ → ℕ
@@ -15,16 +16,6 @@ factorial (suc k) = suc k * factorial k
 
 unfoldable pub inverseFactorial : ℕ → Float
 inverseFactorial k = round binary64 false 1 (factorial k)
-
--- 1.4426950408889634, 709, -708
-abbrev pub inverseLn2 : Float
-inverseLn2 = ofBits binary64 0x3ff7_1547_652b_82fe
-
-abbrev pub highest : Float
-highest = ofBits binary64 0x4086_2800_0000_0000
-
-abbrev pub lowest : Float
-lowest = ofBits binary64 0xc086_2000_0000_0000
 
 -- "k is x·1.4426950408889634 to the nearest whole number, halves away": whether it is below zero, and its size
 unfoldable pub below : Float → Bool
@@ -56,9 +47,9 @@ expNotAbove false x = expWithin x
 
 unfoldable pub expOf : Bool → Float → Float
 expOf true x = inf false
-expOf false x = expNotAbove (lt x lowest) x
+expOf false x = expNotAbove (lt x minusSevenHundredEight) x
 
 unfoldable pub exp : Float → Float
 exp nan = nan
-exp (inf s) = expOf (lt highest (inf s)) (inf s)
-exp (fin s m e) = expOf (lt highest (fin s m e)) (fin s m e)
+exp (inf s) = expOf (lt sevenHundredNine (inf s)) (inf s)
+exp (fin s m e) = expOf (lt sevenHundredNine (fin s m e)) (fin s m e)

@@ -4,3 +4,4 @@ pub mod Horner
 pub mod Exp
 pub mod Ln
 pub mod Power
+pub mod inner

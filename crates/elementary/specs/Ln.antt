@@ -2,23 +2,13 @@
 use Prim.Native.Nat.{ℕ, zero, suc, _+_, _-_, _*_, _^_}
 use mathlib.Core.Bool.{Bool, true, false}
 use lib.IntN.{ℤ, pos, _+ℤ_}
-use lib.Ieee.{Float, nan, inf, fin, binary64, size, round, add, sub, mul, div, lt, ofInt, ofBits}
-use Rattle.elementary.specs.WholePower.{one}
-use Rattle.elementary.specs.Horner.{horner, ln2High, ln2Low}
+use lib.Ieee.{Float, nan, inf, fin, binary64, size, round, add, sub, mul, div, lt, ofInt}
+use Rattle.numbers.specs.Literals.{one, two, half, ln2High, ln2Low, rootTwo}
+use Rattle.elementary.specs.Horner.{horner}
 
 -- "1/(2j+1), j from 10 down to 0", each rounded once
 unfoldable pub inverseOdd : ℕ → Float
 inverseOdd j = round binary64 false 1 (2 * j + 1)
-
--- 2, 0.5 and 1.4142135623730951
-abbrev pub two : Float
-two = ofBits binary64 0x4000_0000_0000_0000
-
-abbrev pub half : Float
-half = ofBits binary64 0x3fe0_0000_0000_0000
-
-abbrev pub rootTwo : Float
-rootTwo = ofBits binary64 0x3ff6_a09e_667f_3bcd
 
 -- "x = m·2^e, m in [1,2)": the n · 2 ^ k that x is, with the leading digit of n before the point
 unfoldable pub leading : ℕ → Float

@@ -3,7 +3,8 @@ use Prim.Native.Nat.{ℕ, _*_, _/_, _%_}
 use mathlib.Core.Bool.{Bool, true, false, _&&_}
 use lib.Dec.{eqb, leb}
 use lib.Ieee.{Float, nan, inf, fin, binary64, up, down, mul, eq}
-use Rattle.elementary.specs.WholePower.{one, wholePower, negativePower}
+use Rattle.numbers.specs.Literals.{one}
+use Rattle.elementary.specs.WholePower.{wholePower, negativePower}
 use Rattle.elementary.specs.Exp.{exp}
 use Rattle.elementary.specs.Ln.{ln}
 

@@ -2,11 +2,8 @@
 use Prim.Native.Nat.{ℕ, zero, suc, _/_, _%_}
 use mathlib.Core.Bool.{cond}
 use lib.Dec.{eqb}
-use lib.Ieee.{Float, binary64, mul, div, ofBits}
-
--- 1
-abbrev pub one : Float
-one = ofBits binary64 0x3ff0_0000_0000_0000
+use lib.Ieee.{Float, binary64, mul, div}
+use Rattle.numbers.specs.Literals.{one}
 
 -- "While the exponent is not 0, multiply by the base if it is odd, halve, square the base if some is left": at most k turns, at exponent n
 unfoldable pub turns : ℕ → ℕ → Float → Float → Float

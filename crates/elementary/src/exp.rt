@@ -6,8 +6,9 @@ ghost use Prim.Native.Nat.{ℕ, _<_, _≤_, _%_};
 ghost use lib.ListN.{length, getD};
 ghost use lib.IntN.{pos};
 ghost use lib.Ieee.{nan, binary64, lt, ne, ofInt};
+ghost use Rattle.numbers.specs.Literals.{sevenHundredNine, minusSevenHundredEight};
 ghost use Rattle.elementary.specs.Horner.{horner};
-ghost use Rattle.elementary.specs.Exp.{inverseFactorial, signed, twoTo, reduced, highest, lowest, below, halvings, exp};
+ghost use Rattle.elementary.specs.Exp.{inverseFactorial, signed, twoTo, reduced, below, halvings, exp};
 use numbers::sizes::infinity;
 
 // 1/k! for k from 0 to 13, each rounded once.
@@ -58,7 +59,7 @@ fn taken_off(x: f64, k: f64) -> f64
 // The size of k, the nearest whole number to x / ln 2, where x passes neither end.
 // 2^52 added and taken off leaves the nearest, halves to even; where a half was left off, it goes up.
 fn size_of(x: f64) -> f64
-    requires { ⌜ (ne x x ≡ false) × (lt highest x ≡ false) × (lt x lowest ≡ false) ⌝ }
+    requires { ⌜ (ne x x ≡ false) × (lt sevenHundredNine x ≡ false) × (lt x minusSevenHundredEight ≡ false) ⌝ }
     ensures { λ r. ⌜ r ≡ ofInt binary64 (pos (halvings x)) ⌝ }
 {
     let y = x * 1.4426950408889634;
@@ -69,7 +70,7 @@ fn size_of(x: f64) -> f64
 
 // k with its sign.
 fn multiple_of(x: f64) -> f64
-    requires { ⌜ (ne x x ≡ false) × (lt highest x ≡ false) × (lt x lowest ≡ false) ⌝ }
+    requires { ⌜ (ne x x ≡ false) × (lt sevenHundredNine x ≡ false) × (lt x minusSevenHundredEight ≡ false) ⌝ }
     ensures { λ r. ⌜ r ≡ signed (below x) (halvings x) ⌝ }
 {
     let size = size_of(x);
@@ -82,7 +83,7 @@ fn multiple_of(x: f64) -> f64
 
 // 2 to the power k: over 2^52 the last digits of a float are a whole number, here the exponent's field.
 fn scale_of(x: f64, k: f64) -> f64
-    requires { ⌜ (lt highest x ≡ false) × (lt x lowest ≡ false) × (k ≡ signed (below x) (halvings x)) ⌝ }
+    requires { ⌜ (lt sevenHundredNine x ≡ false) × (lt x minusSevenHundredEight ≡ false) × (k ≡ signed (below x) (halvings x)) ⌝ }
     ensures { λ r. ⌜ r ≡ twoTo (below x) (halvings x) ⌝ }
 {
     f64::from_bits(f64::to_bits(k + 4503599627371519.0) << 52)
@@ -90,14 +91,14 @@ fn scale_of(x: f64, k: f64) -> f64
 
 // The steps that follow from k.
 fn by_multiple(x: f64, k: f64) -> f64
-    requires { ⌜ (ne x x ≡ false) × (lt highest x ≡ false) × (lt x lowest ≡ false) × (k ≡ signed (below x) (halvings x)) ⌝ }
+    requires { ⌜ (ne x x ≡ false) × (lt sevenHundredNine x ≡ false) × (lt x minusSevenHundredEight ≡ false) × (k ≡ signed (below x) (halvings x)) ⌝ }
     ensures { λ r. ⌜ r ≡ exp x ⌝ }
 {
     series(taken_off(x, k)) * scale_of(x, k)
 }
 
 fn between_ends(x: f64) -> f64
-    requires { ⌜ (ne x x ≡ false) × (lt highest x ≡ false) × (lt x lowest ≡ false) ⌝ }
+    requires { ⌜ (ne x x ≡ false) × (lt sevenHundredNine x ≡ false) × (lt x minusSevenHundredEight ≡ false) ⌝ }
     ensures { λ r. ⌜ r ≡ exp x ⌝ }
 {
     by_multiple(x, multiple_of(x))
@@ -105,7 +106,7 @@ fn between_ends(x: f64) -> f64
 
 // The same where x / ln 2 is below zero: nothing waits for the test for a half, which is rare.
 fn below_zero(x: f64) -> f64
-    requires { ⌜ (ne x x ≡ false) × (lt highest x ≡ false) × (lt x lowest ≡ false) × (below x ≡ true) ⌝ }
+    requires { ⌜ (ne x x ≡ false) × (lt sevenHundredNine x ≡ false) × (lt x minusSevenHundredEight ≡ false) × (below x ≡ true) ⌝ }
     ensures { λ r. ⌜ r ≡ exp x ⌝ }
 {
     let a = -(x * 1.4426950408889634);
@@ -117,7 +118,7 @@ fn below_zero(x: f64) -> f64
 }
 
 fn not_below_zero(x: f64) -> f64
-    requires { ⌜ (ne x x ≡ false) × (lt highest x ≡ false) × (lt x lowest ≡ false) × (below x ≡ false) ⌝ }
+    requires { ⌜ (ne x x ≡ false) × (lt sevenHundredNine x ≡ false) × (lt x minusSevenHundredEight ≡ false) × (below x ≡ false) ⌝ }
     ensures { λ r. ⌜ r ≡ exp x ⌝ }
 {
     let a = x * 1.4426950408889634;
@@ -150,8 +151,8 @@ pub fn exp(x: f64) -> f64
 fn all_inside(numbers: &[f64]) -> bool
     ensures { λ r. ⌜ (r ≡ true → (k : ℕ) → k < length (now (numbers .entry))
         → (ne (getD (now (numbers .entry)) k nan) (getD (now (numbers .entry)) k nan) ≡ false)
-        × (lt highest (getD (now (numbers .entry)) k nan) ≡ false)
-        × (lt (getD (now (numbers .entry)) k nan) lowest ≡ false)) ⌝ }
+        × (lt sevenHundredNine (getD (now (numbers .entry)) k nan) ≡ false)
+        × (lt (getD (now (numbers .entry)) k nan) minusSevenHundredEight ≡ false)) ⌝ }
 {
     let mut inside = true;
     let mut j: usize = 0;

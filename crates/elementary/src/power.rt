@@ -2,7 +2,7 @@
 ghost use mathlib.Core.Path.{_≡_};
 ghost use mathlib.Core.Bool.{true};
 ghost use lib.Ieee.{eq};
-ghost use Rattle.elementary.specs.WholePower.{one};
+ghost use Rattle.numbers.specs.Literals.{one};
 ghost use Rattle.elementary.specs.Power.{isWhole, bySign, byLn, power};
 use crate::exp::exp;
 use crate::ln::ln;

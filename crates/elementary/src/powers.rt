@@ -5,7 +5,8 @@ ghost use mathlib.Core.List.{map};
 ghost use Prim.Native.Nat.{_*_};
 ghost use lib.Ieee.{binary64, mul};
 ghost use Rattle.elementary.specs.WholePower.{turns};
-ghost use Rattle.elementary.specs.Powers.{powersFrom, squared};
+ghost use Rattle.elementary.specs.Powers.{powersFrom};
+ghost use Rattle.elementary.specs.inner.Squared.{squared};
 
 // The exponents from 0 to 15.
 fn first_sixteen(base: f64) -> [f64; 16]

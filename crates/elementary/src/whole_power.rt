@@ -3,7 +3,8 @@ ghost use mathlib.Core.Path.{_≡_};
 ghost use mathlib.Core.Bool.{cond};
 ghost use Prim.Native.Nat.{_%_};
 ghost use lib.Dec.{eqb};
-ghost use Rattle.elementary.specs.WholePower.{one, wholePower, negativePower};
+ghost use Rattle.numbers.specs.Literals.{one};
+ghost use Rattle.elementary.specs.WholePower.{wholePower, negativePower};
 
 // What the product is multiplied by: the square where the exponent is odd, else 1, which changes no product.
 fn factor_of(square: f64, left: u32) -> f64

@@ -1,68 +1,45 @@
 -- `elementary::exp::exp_blocks` meets its contract: the numbers before `at` are done, the others as they were. Assumes nothing.
-use mathlib.Core.Path.{_≡_, refl, sym, ap, _∙_}
-use Prim.Native.Nat.{ℕ, _+_, _-_, _%_, _≤_}
+use mathlib.Core.Path.{_≡_, refl}
+use Prim.Native.Nat.{_-_, _%_}
 use native.Mathlib.Omega.{arith}
 use borrow.Author.Needs.{needs}
-use borrow.Rule.Slice.PartMut.{same-len-mid}
-use denote.Ref.{now}
 use lib.ListN.{length, length-take, length-drop}
 use Rattle.elementary.specs.Exp.{exp}
-use Rattle.elementary.proofs.PartWay.{partWay, at-start, at-end, map-same, part-further}
+use Rattle.elementary.proofs.PartWay.{Passed, none-passed, all-passed, part-passed}
 use Rattle.elementary.proofs.exp.exp_blocks.Statement.{statement}
 use Rattle.elementary.proofs.exp.exp_blocks.Tie as tie
 
 abbrev Inv-loop : tie.InvT-loop
-Inv-loop numbers₀ at₀ numbers at = (at ≤ length numbers₀) × (at % 16 ≡ 0) × (numbers ≡ partWay exp (λ x. x) at numbers₀) × (length numbers ≡ length numbers₀)
+Inv-loop numbers₀ at₀ numbers at = Passed exp (length numbers₀) numbers₀ numbers at × (at % 16 ≡ 0)
 
 abbrev μ-loop : tie.MeasureT-loop
 μ-loop numbers₀ at₀ numbers at = length numbers₀ - at
 
 loop-holds : tie.Need-loop-holds Inv-loop μ-loop
-loop-holds c = (omega arith, refl, sym (at-start exp (λ x. x) _ ∙ map-same _), refl)
-
-add-end : tie.Need-add-end Inv-loop μ-loop
-add-end c = search needs
-
-mul-exp-sixteen : tie.Need-mul-exp-sixteen Inv-loop μ-loop
-mul-exp-sixteen c = search needs
-
-sub-exp-sixteen : tie.Need-sub-exp-sixteen Inv-loop μ-loop
-sub-exp-sixteen c = search needs
-
-part-exp-sixteen-start : tie.Need-part-exp-sixteen-start Inv-loop μ-loop
-part-exp-sixteen-start c = search needs
+loop-holds c = (none-passed exp _ _, refl)
 
 part-exp-sixteen-end : tie.Need-part-exp-sixteen-end Inv-loop μ-loop
 part-exp-sixteen-end c =
     let at = c .before in
-    omega (arith, at .loop .inv .1, at .loop .inv .3, at .before .before .pre)
+    omega (arith, at .loop .inv .1, at .loop .inv .0 .kept, at .before .before .pre)
 
 exp-sixteen-requires : tie.Need-exp-sixteen-requires Inv-loop μ-loop
 exp-sixteen-requires c κs =
     let at = c .before .before in
-    simp (length-take, length-drop) (omega (arith, at .loop .inv .1, at .loop .inv .3, at .before .before .pre))
-
-loop-less : tie.Need-loop-less Inv-loop μ-loop
-loop-less c = search needs
+    simp (length-take, length-drop) (omega (arith, at .loop .inv .1, at .loop .inv .0 .kept, at .before .before .pre))
 
 loop-again : tie.Need-loop-again Inv-loop μ-loop
 loop-again c =
     let at = c .before .before .before .before .before in
-    let xs = now (at .before .before .args .numbers) in
-    let i = at .loop .at in
-    let e : i + (i + 16 - i) ≡ i + 16 = omega arith in
-    let l = at .loop .inv .3 in (
-      omega (arith, l, at .loop .inv .1, at .before .before .pre),
-      omega (arith, at .loop .inv .1),
-      part-further exp i (i + 16 - i) xs (at .loop .numbers) _ (at .loop .inv .0) (at .loop .inv .2) (c .before .before .exp-sixteen .ensures) ∙ ap (λ (k : ℕ). partWay exp (λ x. x) k xs) e,
-      same-len-mid i (i + 16 - i) (at .loop .numbers) (c .before .before .exp-sixteen .last .0) (c .before .before .exp-sixteen .kept .0) ∙ l,
-    )
+    let p = at .loop .inv .0 in
+    let called = c .before .before .exp-sixteen in
+    (part-passed p refl _ (called .last .0) (omega arith) (omega (arith, p .kept, at .loop .inv .1, at .before .before .pre)) (called .ensures) (called .kept .0), omega (arith, at .loop .inv .1))
 
 same-length : tie.Need-same-length Inv-loop μ-loop
-same-length c = c .before .loop .inv .3
+same-length c = c .before .loop .inv .0 .kept
 
 returns : tie.Need-returns Inv-loop μ-loop
-returns c = let at = c .before in at .loop .inv .2 ∙ at-end exp (λ x. x) (at .loop .at) _ (omega (arith, at .loop .inv .3))
+returns c = let p = c .before .loop .inv .0 in all-passed p refl (omega (arith, p .kept))
 
 pub exp-blocks-spec : {M : Type 1} → statement M
 exp-blocks-spec =
@@ -71,13 +48,13 @@ exp-blocks-spec =
     Inv-loop
     μ-loop
     loop-holds
-    add-end
-    mul-exp-sixteen
-    sub-exp-sixteen
-    part-exp-sixteen-start
+    (λ c. search needs)
+    (λ c. search needs)
+    (λ c. search needs)
+    (λ c. search needs)
     part-exp-sixteen-end
     exp-sixteen-requires
-    loop-less
+    (λ c. search needs)
     loop-again
     same-length
     returns)

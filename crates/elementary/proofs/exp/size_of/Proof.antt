@@ -1,7 +1,7 @@
 -- `elementary::exp::size_of` meets its contract: 2^52 added and taken off, and one more where a half was left off. Assumes nothing.
 use mathlib.Core.Logic.{inl, inr, ⊎-elim}
 use lib.Ieee.{binary64, mul}
-use Rattle.elementary.specs.Exp.{inverseLn2}
+use Rattle.numbers.specs.Literals.{inverseLn2}
 use Rattle.elementary.proofs.Multiples.{Sized, size-up, size-as-it-is}
 use Rattle.elementary.proofs.exp.size_of.Statement.{statement}
 use Rattle.elementary.proofs.exp.size_of.Tie as tie

@@ -5,7 +5,8 @@ use Prim.Native.Nat.{ℕ, _+_, _*_}
 use native.Mathlib.Nat.{add-zero, le-refl}
 use lib.Ieee.{Float}
 use Rattle.elementary.specs.WholePower.{turns}
-use Rattle.elementary.specs.Powers.{powersFrom, squared}
+use Rattle.elementary.specs.Powers.{powersFrom}
+use Rattle.elementary.specs.inner.Squared.{squared}
 use Rattle.elementary.proofs.InARow.{raised}
 use borrow.Author.Needs.{needs}
 use Rattle.elementary.proofs.powers.sixteen_powers.Statement.{statement}

@@ -1,6 +1,6 @@
 -- `elementary::powers::sixteenth_power` meets its contract. Assumes nothing.
 use mathlib.Core.Path.{refl}
-use Rattle.elementary.specs.Powers.{squared}
+use Rattle.elementary.specs.inner.Squared.{squared}
 use Rattle.elementary.proofs.powers.sixteenth_power.Statement.{statement}
 use Rattle.elementary.proofs.powers.sixteenth_power.Tie as tie
 
