@@ -21,7 +21,7 @@ use Rattle.records.specs.declared.Terms.{Terms}
 use Rattle.mortgage.specs.declared.Loan.{Loan}
 use Rattle.mortgage.specs.Terms.{termsLines}
 use Rattle.mortgage.specs.Payment.{payment, loanOf, openedWith, opened}
-use Rattle.mortgage.specs.RowRule.{endMonth, due}
+use Rattle.mortgage.specs.Month.{endMonth, due}
 use Rattle.mortgage.specs.Rows.{rows}
 use Rattle.mortgage.specs.Demand3.{filed, Repaid, Repays, OpensAndRepays}
 use Rattle.mortgage.proofs.Sequences.{filed-to-the-end, term-accepted}

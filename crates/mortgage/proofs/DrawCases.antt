@@ -1,27 +1,23 @@
--- The cases of a draw and of the next row alone, in the order in which the code tests: what is answered, and what the room holds then. Before them, a loop that lays a loan's rows
--- into a room: what stands after each turn. Assumes nothing.
+-- The cases of a draw and of the next row alone, in the order in which the code tests: what is answered, and what the room holds then. Assumes nothing.
 use mathlib.Core.Path.{_≡_, refl, ap, _∙_}
 use mathlib.Core.Bool.{true, false}
 use mathlib.Core.List.{List}
-use Prim.Native.Nat.{ℕ, _+_, _-_, _*_, _/_, _<_, _≤_, zero-le, min}
+use Prim.Native.Nat.{ℕ, _-_, _/_, _<_, _≤_, min}
 use native.Mathlib.Omega.{arith}
 use lib.ListN.{length}
-use lib.Seq.{sets}
 use lib.Ieee.{Float}
 use borrow.Author.Tests.{lt-ltb, le-ltb, eq-eqb, ne-eqb}
 use Rattle.refusals.specs.declared.Refusal.{Refusal}
 use Rattle.refusals.proofs.Verdicts.{refused-as}
 use Rattle.refusals.specs.Outcome.{Outcome, refused, accepted, firstOr, judged}
 use Rattle.refusals.specs.Table.{badTerm, noRoom, pastEnd}
-use Rattle.records.specs.declared.Row.{Row}
 use Rattle.mortgage.specs.declared.Loan.{Loan}
 use Rattle.mortgage.specs.declared.draws.Portion.{Portion}
 use Rattle.mortgage.specs.Row.{width, places}
-use Rattle.mortgage.specs.RowRule.{endMonth, due, rowOf, nextOf}
-use Rattle.mortgage.specs.Steps.{stepped, written, laid}
+use Rattle.mortgage.specs.Month.{endMonth, due, rowOf, nextOf}
+use Rattle.steps.specs.Steps.{pieces, stepped, laid}
 use Rattle.mortgage.specs.Rows.{after, rows, finished, next, nextRow}
 use Rattle.mortgage.specs.Draws.{portion, drawn, filledBy, filled}
-use Rattle.mortgage.proofs.Portions.{turn}
 
 -- ---- the numbers of a loan's next row, as the piece of a room that the laws of portions speak of
 abbrev pub rowPlaces : Loan → List Float
@@ -29,22 +25,6 @@ rowPlaces l = places (rowOf l)
 
 pub wide : (l : Loan) → length (rowPlaces l) ≡ width
 wide l = refl
-
--- ---- a loop that lays rows from the start of a room, at most so many: k rows stand, the loan is k months on
-abbrev pub Underway : ℕ → List Float → Loan → List Float → Loan → ℕ → ℕ → Type 0
-Underway most room₀ l₀ room l at k = (room ≡ laid width k (rows k l₀) room₀) × (l ≡ after k l₀) × (at ≡ k * width) × (k ≤ most) × (length room ≡ length room₀)
-
-pub begun : (most : ℕ) (room : List Float) (l : Loan) → Underway most room l room l 0 0
-unfolding stepped written
-begun most room l = (refl, refl, refl, zero-le, refl)
-
-pub a-turn : (most : ℕ) (room₀ room room′ : List Float) (l₀ l l′ : Loan) (at k : ℕ) (row : Row)
-    → most * width ≤ length room₀ → Underway most room₀ l₀ room l at k → k < most
-    → (row ≡ rowOf l) × (l′ ≡ nextOf l) → room′ ≡ sets room at (places row) → length room′ ≡ length room
-    → Underway most room₀ l₀ room′ l′ (at + width) (k + 1)
-a-turn most room₀ room room′ l₀ l l′ at k row b i h m e n =
-    let t = turn nextOf rowPlaces width wide k l₀ l l′ room₀ room room′ at (places row) (i .0) (i .1) (i .2) (ap places (m .0)) (m .1) e (omega arith) in
-    (t .0, t .1, omega arith, omega arith, n ∙ i .4)
 
 -- ---- the next row alone
 module _ (l : Loan) where
@@ -99,7 +79,7 @@ module _ (l : Loan) (room : List Float) where
   -- and so does a finished loan
   pub finished-draw : badTerm (l .term) ≡ false → endMonth l ≡ l .done
       → (accepted (record { written = 0; owed = 0; loan = l }) ≡ drawn l room) × (room ≡ filled l room)
-  unfolding filled written
+  unfolding filled pieces
   finished-draw t h = let e = drawn-finished t h in (e, ap (λ (x : Outcome Portion). filledBy x l room) e)
 
   -- any other writes the rows that are due and fit

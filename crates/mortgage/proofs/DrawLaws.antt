@@ -18,12 +18,12 @@ use Rattle.refusals.specs.Table.{badTerm}
 use Rattle.mortgage.specs.declared.Loan.{Loan}
 use Rattle.mortgage.specs.declared.draws.Portion.{Portion}
 use Rattle.mortgage.specs.Row.{width}
-use Rattle.mortgage.specs.RowRule.{endMonth, due, nextOf}
-use Rattle.mortgage.specs.Steps.{stepped, written, laid}
+use Rattle.mortgage.specs.Month.{endMonth, due, nextOf}
+use Rattle.steps.specs.Steps.{pieces, stepped, laid}
 use Rattle.mortgage.specs.Rows.{after, rows}
 use Rattle.mortgage.specs.Draws.{drawLines, count, portion, drawn, filledBy, filled}
 use Rattle.mortgage.specs.Demand3.{rowsIn, handedBack, wrote}
-use Rattle.mortgage.proofs.Portions.{length-written}
+use Rattle.steps.proofs.Portions.{length-written}
 use Rattle.mortgage.proofs.DrawCases.{rowPlaces, wide, drawn-short, drawn-rows}
 
 -- ---- so many rows are so many times their places
@@ -58,7 +58,7 @@ module _ (l : Loan) (room : List Float) (d : Portion) (e : drawn l room ≡ acce
 
   -- "A finished loan writes 0 and owes 0, whatever the room."
   pub finished-draws-nothing : due l ≡ 0 → (d .written ≡ 0) × (d .owed ≡ 0) × (filled l room ≡ room)
-  unfolding written
+  unfolding pieces
   finished-draws-nothing h =
       let w : d .written ≡ 0 = omega (arith, written-is) in
       (w, omega (arith, owed-is), filled-is ∙ rw w)
@@ -85,7 +85,7 @@ refused-changes-nothing l room k p e = rw e
 module _ (l : Loan) (room : List Float) where
   -- the numbers written are so many rows by the row rule
   pub wrote-is : wrote l room ≡ rows (rowsIn (drawn l room)) l
-  unfolding wrote filled written
+  unfolding wrote filled pieces
   wrote-is = go (drawn l room)
     where
       go : (o : Outcome Portion) → take (rowsIn o * width) (filledBy o l room) ≡ rows (rowsIn o) l

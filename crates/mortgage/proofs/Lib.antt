@@ -1,10 +1,8 @@
-pub mod Portions
-pub mod Columns
+pub mod RuleLaws
 pub mod RowLaws
 pub mod RowFits
 pub mod DrawCases
-pub mod Apart
-pub mod PairLaws
+pub mod PlaceLaws
 pub mod DrawLaws
 pub mod Sequences
 pub mod RowsRepay

@@ -1,4 +1,5 @@
--- Every number of a loan's next row, and of the loan after it, is one that the machine holds, where the loan's own payment and balance are. Assumes nothing.
+-- Every amount of a month by the row rule, and the balance after any number of rows, is a number that the machine holds, where the payment and the balance before are. Assumes nothing.
+use mathlib.Core.Bool.{Bool}
 use Prim.Native.Nat.{ℕ, zero, suc}
 use lib.Dec.{T}
 use lib.IntN.{pos}
@@ -8,8 +9,9 @@ use Rattle.numbers.specs.Clamps.{plusZero, raised, lowered}
 use Rattle.records.specs.declared.Terms.{Terms}
 use Rattle.mortgage.specs.declared.Loan.{Loan}
 use Rattle.mortgage.specs.Payment.{monthlyRate, growth, payment, levelPayment}
-use Rattle.mortgage.specs.RowRule.{last, interestOf, principalOf, paymentOf, newBalance, nextOf}
-use Rattle.mortgage.specs.Steps.{stepped}
+use Rattle.mortgage.specs.Month.{nextOf}
+use Rattle.mortgage.specs.RowRule.{interestOf, principalOf, paymentOf, leftOf}
+use Rattle.steps.specs.Steps.{stepped}
 use Rattle.mortgage.specs.Rows.{after}
 
 pub raised-held : (x : Float) → T (fits binary64 x) → T (fits binary64 (raised x))
@@ -26,31 +28,29 @@ payment-held t =
     cond-fits binary64 (eq (monthlyRate (t .rate)) plusZero) (div binary64 (t .principal) (ofInt binary64 (pos (t .term))))
     (levelPayment (t .principal) (monthlyRate (t .rate)) (growth (monthlyRate (t .rate)) (t .term))) (div-fits binary64 _ _) (div-fits binary64 _ _)
 
--- ---- a row of a loan in hand
-module _ (l : Loan) (pays : T (fits binary64 (l .payment))) (owes : T (fits binary64 (l .balance))) where
-  pub interest-held : T (fits binary64 (interestOf l))
+-- ---- a month's amounts
+module _ (last : Bool) (pay r balance : Float) (pays : T (fits binary64 pay)) (owes : T (fits binary64 balance)) where
+  pub interest-held : T (fits binary64 (interestOf r balance))
   unfolding interestOf
   interest-held = mul-fits binary64 _ _
 
-  pub principal-held : T (fits binary64 (principalOf l))
+  pub principal-held : T (fits binary64 (principalOf last pay r balance))
   unfolding principalOf
-  principal-held =
-      cond-fits binary64 (last l) (l .balance) _ owes
-      (lowered-held (raised (sub binary64 (l .payment) (interestOf l))) (l .balance) (raised-held _ (sub-fits binary64 _ _)) owes)
+  principal-held = cond-fits binary64 last balance _ owes (lowered-held (raised (sub binary64 pay (interestOf r balance))) balance (raised-held _ (sub-fits binary64 _ _)) owes)
 
-  pub payment-column-held : T (fits binary64 (paymentOf l))
+  pub payment-column-held : T (fits binary64 (paymentOf last pay r balance))
   unfolding paymentOf
-  payment-column-held = cond-fits binary64 (last l) _ (l .payment) (add-fits binary64 _ _) pays
+  payment-column-held = cond-fits binary64 last _ pay (add-fits binary64 _ _) pays
 
-  pub balance-held : T (fits binary64 (newBalance l))
-  unfolding newBalance
-  balance-held = sub-fits binary64 _ _
+  pub left-held : T (fits binary64 (leftOf last pay r balance))
+  unfolding leftOf
+  left-held = sub-fits binary64 _ _
 
-  pub balance-column-held : T (fits binary64 (raised (newBalance l)))
-  balance-column-held = raised-held (newBalance l) balance-held
+  pub balance-column-held : T (fits binary64 (raised (leftOf last pay r balance)))
+  balance-column-held = raised-held (leftOf last pay r balance) left-held
 
 -- ---- the balance after so many rows
 pub balance-after-held : (k : ℕ) (l : Loan) → T (fits binary64 (l .balance)) → T (fits binary64 (after k l .balance))
-unfolding stepped nextOf newBalance
+unfolding stepped nextOf leftOf
 balance-after-held zero l owes = owes
 balance-after-held (suc k) l owes = sub-fits binary64 _ _

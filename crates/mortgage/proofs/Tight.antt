@@ -15,6 +15,8 @@ use Rattle.mortgage.specs.declared.draws.Drawing.the-variants as drawing
 use Rattle.mortgage.specs.Payment.{openingOutcome}
 use Rattle.mortgage.specs.Rows.{nextOutcome}
 use Rattle.mortgage.specs.Draws.{drawingOutcome}
+use Rattle.mortgage.proofs.payment.monthly_rate.Kinds as monthly-rate-kinds
+use Rattle.mortgage.proofs.payment.monthly_rate.Reads as monthly-rate
 use Rattle.mortgage.proofs.payment.monthly_payment.Kinds as monthly-payment-kinds
 use Rattle.mortgage.proofs.payment.monthly_payment.Reads as monthly-payment
 use Rattle.mortgage.proofs.opening.open_with_payment.Kinds as open-with-payment-kinds
@@ -59,6 +61,9 @@ drawing-one-to-one (drawing-is.Drawn d) (drawing-is.Refused s) e = cc
 drawing-one-to-one (drawing-is.Drawn d) (drawing-is.Drawn g) e = cc
 
 -- ---- so each promise leaves one result
+pub monthly-rate-determined : Determined 0 monthly-rate-kinds.ps monthly-rate-kinds.r monthly-rate.Post
+monthly-rate-determined κs a x y e e′ p q = p ∙ sym q
+
 pub monthly-payment-determined : Determined 0 monthly-payment-kinds.ps monthly-payment-kinds.r monthly-payment.Post
 monthly-payment-determined κs a x y e e′ p q = number-one-to-one x y (p ∙ sym q)
 

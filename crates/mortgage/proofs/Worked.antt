@@ -1,7 +1,7 @@
 -- Document 01's loan of three months, drawn as one row, then into a room that is refused, then as two rows: what was filed repays it, and is the paper's listing. Assumes nothing.
 use mathlib.Core.Path.{_≡_, refl, subst}
 use mathlib.Core.List.{List, [], _∷_, map}
-use Prim.Native.Nat.{ℕ}
+use Prim.Native.Nat.{ℕ, _-_, _*_}
 use native.Mathlib.Omega.{arith}
 use lib.ListN.{replicate}
 use lib.Ieee.{Float, nan, binary64, add, sub, mul, div, lt, eq, fits, ofInt, ofBits}
@@ -9,9 +9,12 @@ use Rattle.refusals.specs.Outcome.{refused, accepted, firstOr, judged}
 use Rattle.refusals.specs.Table.{badAmount, badTerm, noRoom, pastEnd}
 use Rattle.records.specs.declared.Terms.{Terms}
 use Rattle.mortgage.specs.declared.Loan.{Loan}
+use Rattle.mortgage.specs.Row.{width}
 use Rattle.mortgage.specs.Payment.{monthlyRate, payment, loanOf, openedWith, opened}
-use Rattle.mortgage.specs.RowRule.{endMonth, due, last, interestOf, principalOf, paymentOf, newBalance, rowOf, nextOf}
-use Rattle.mortgage.specs.Steps.{stepped, written}
+use Rattle.mortgage.specs.Month.{endMonth, due, last, rowOf, nextOf}
+use Rattle.mortgage.specs.RowRule.{interestOf, principalOf, paymentOf, leftOf}
+use Rattle.steps.specs.Steps.{pieces, stepped}
+use Rattle.steps.specs.Calls as calls
 use Rattle.mortgage.specs.Draws.{portion, drawn, filled}
 use Rattle.mortgage.specs.Demand3.{wrote, filed, left, Repaid, Repays, OpensAndRepays}
 use Rattle.mortgage.proofs.Demand3.{demand3-worked-out}
@@ -28,13 +31,13 @@ loan = record { term = 3; rate = number 0; payment = number 0x4079_0000_0000_000
 
 -- room for one row, for none, and for two
 abbrev one : List Float
-one = replicate 5 nan
+one = replicate width nan
 
 abbrev none : List Float
-none = replicate 4 nan
+none = replicate (width - 1) nan
 
 abbrev two : List Float
-two = replicate 10 nan
+two = replicate (2 * width) nan
 
 abbrev pub rooms : List (List Float)
 rooms = one ∷ none ∷ two ∷ []
@@ -49,11 +52,11 @@ unfolding fits lt ofBits
 repays = subst (OpensAndRepays terms) opens (demand3-worked-out terms tt tt tt (omega arith) (omega arith))
 
 pub second-is-refused : drawn (left loan (one ∷ [])) none ≡ refused 3 0
-unfolding left drawn judged firstOr badTerm noRoom pastEnd portion due endMonth stepped nextOf
+unfolding calls.left drawn judged firstOr badTerm noRoom pastEnd portion due endMonth stepped nextOf
 second-is-refused = refl
 
 pub drawn-to-the-end : due (left loan rooms) ≡ 0
-unfolding left drawn judged firstOr badTerm noRoom pastEnd portion due endMonth stepped nextOf
+unfolding calls.left drawn judged firstOr badTerm noRoom pastEnd portion due endMonth stepped nextOf
 drawn-to-the-end = refl
 
 pub repaid-in-portions : Repaid (terms .principal) 3 (filed loan rooms)
@@ -64,5 +67,5 @@ pub listing : filed loan rooms ≡ map number
     (0x3ff0_0000_0000_0000 ∷ 0x4079_0000_0000_0000 ∷ 0x4079_0000_0000_0000 ∷ 0 ∷ 0x4089_0000_0000_0000
     ∷ 0x4000_0000_0000_0000 ∷ 0x4079_0000_0000_0000 ∷ 0x4079_0000_0000_0000 ∷ 0 ∷ 0x4079_0000_0000_0000
     ∷ 0x4008_0000_0000_0000 ∷ 0x4079_0000_0000_0000 ∷ 0x4079_0000_0000_0000 ∷ 0 ∷ 0 ∷ [])
-unfolding filed wrote filled drawn judged firstOr badTerm noRoom pastEnd portion due endMonth stepped written rowOf nextOf newBalance paymentOf principalOf interestOf last monthlyRate add sub mul div lt ofInt ofBits
+unfolding calls.filed wrote filled drawn judged firstOr badTerm noRoom pastEnd portion due endMonth stepped pieces rowOf nextOf leftOf paymentOf principalOf interestOf last monthlyRate add sub mul div lt ofInt ofBits
 listing = refl

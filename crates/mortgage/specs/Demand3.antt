@@ -1,20 +1,17 @@
 -- Demand 3, as the user says it: of the numbers that a sequence of draws, each handing the loan back as received, wrote into its rooms. Definitions only. Assumes nothing.
 use mathlib.Core.Path.{_≡_}
-use mathlib.Core.List.{List, [], _∷_, _++_}
-use Prim.Native.Nat.{ℕ, zero, suc, _+_, _-_, _*_, _^_, _≤_, _<_}
-use mathlib.Core.Bool.{cond}
-use lib.Dec.{T, ltb}
-use lib.ListN.{length, take, getD}
-use lib.Ieee.{Float, nan, le}
-use Rattle.numbers.specs.Clamps.{plusZero}
-use Rattle.numbers.specs.Units.{units, miss}
-use Rattle.numbers.specs.Sums.{exactSum}
+use mathlib.Core.List.{List}
+use Prim.Native.Nat.{ℕ, _*_}
+use lib.ListN.{take}
+use lib.Ieee.{Float}
 use Rattle.refusals.specs.Outcome.{Outcome, refused, accepted}
 use Rattle.records.specs.declared.Terms.{Terms}
+use Rattle.steps.specs.Calls as calls
+use Rattle.steps.specs.Repaid as of-width
 use Rattle.mortgage.specs.declared.Loan.{Loan}
 use Rattle.mortgage.specs.declared.draws.Portion.{Portion}
 use Rattle.mortgage.specs.Row.{width, principalPlace, balancePlace}
-use Rattle.mortgage.specs.RowRule.{due}
+use Rattle.mortgage.specs.Month.{due}
 use Rattle.mortgage.specs.Rows.{rows}
 use Rattle.mortgage.specs.Draws.{drawn, filled}
 
@@ -31,38 +28,20 @@ handedBack (accepted d) l = d .loan
 unfoldable pub wrote : Loan → List Float → List Float
 wrote l room = take (rowsIn (drawn l room) * width) (filled l room)
 
--- those that all the draws wrote, in order, and the loan that the last one handed back
-unfoldable pub filed : Loan → List (List Float) → List Float
-filed l [] = []
-filed l (room ∷ rooms) = wrote l room ++ filed (handedBack (drawn l room) l) rooms
+-- and the loan that it hands back
+abbrev pub handsBack : Loan → List Float → Loan
+handsBack l room = handedBack (drawn l room) l
 
-unfoldable pub left : Loan → List (List Float) → Loan
-left l [] = l
-left l (room ∷ rooms) = left (handedBack (drawn l room) l) rooms
+-- the numbers that all the draws wrote, in order, and the loan that the last one handed back
+abbrev pub filed : Loan → List (List Float) → List Float
+filed = calls.filed wrote handsBack
 
--- ---- columns of filed numbers, for the row i from 0
-abbrev pub principalAt : List Float → ℕ → Float
-principalAt numbers i = getD numbers (i * width + principalPlace) nan
+abbrev pub left : Loan → List (List Float) → Loan
+left = calls.left handsBack
 
-abbrev pub balanceAt : List Float → ℕ → Float
-balanceAt numbers i = getD numbers (i * width + balancePlace) nan
-
--- the balance before the row i: the principal lent, or the balance of the row before
-abbrev pub balanceBefore : Float → List Float → ℕ → Float
-balanceBefore P numbers zero = P
-balanceBefore P numbers (suc i) = balanceAt numbers i
-
--- n rows that repay P
-pub record Repaid (P : Float) (n : ℕ) (numbers : List Float) : Type 0 where
-  pub n-rows : length numbers ≡ n * width
-  -- "each row's principal lies between zero and the balance before it"
-  pub above-zero : (i : ℕ) → i < n → T (le plusZero (principalAt numbers i))
-  pub within-balance : (i : ℕ) → i < n → T (le (principalAt numbers i) (balanceBefore P numbers i))
-  -- "balances never rise, the last is zero"
-  pub never-rise : (i : ℕ) → i < n → T (le (balanceAt numbers i) (balanceBefore P numbers i))
-  pub last-zero : balanceAt numbers (n - 1) ≡ plusZero
-  -- "the principal column added exactly misses P by at most (n-1)·P/2^53", both counted in 2^-1074
-  pub adds-up : 2 ^ 53 * miss (exactSum (principalAt numbers) n) (units P) ≤ (n - 1) * units P
+-- n rows of a schedule that repay P
+abbrev pub Repaid : Float → ℕ → List Float → Type 0
+Repaid = of-width.Repaid width principalPlace balancePlace
 
 -- drawn to the end in any portions, a loan of these terms files exactly its rows by the row rule, and they repay it
 abbrev pub Repays : Terms → Loan → Type 0
@@ -72,8 +51,3 @@ Repays t l = (rooms : List (List Float)) → due (left l rooms) ≡ 0 → (filed
 abbrev pub OpensAndRepays : Terms → Outcome Loan → Type 0
 OpensAndRepays t (refused k p) = ⊥
 OpensAndRepays t (accepted l) = Repays t l
-
--- how many of the rooms hold a whole row
-unfoldable pub roomy : List (List Float) → ℕ
-roomy [] = 0
-roomy (room ∷ rooms) = cond (ltb (length room) width) (roomy rooms) (suc (roomy rooms))

@@ -10,8 +10,8 @@ use Rattle.mortgage.specs.declared.draws.Portion.{Portion}
 use Rattle.mortgage.specs.declared.draws.Drawing.{Drawing}
 use Rattle.mortgage.specs.declared.draws.Drawing.the-variants as drawing-is
 use Rattle.mortgage.specs.Row.{width}
-use Rattle.mortgage.specs.RowRule.{endMonth, due}
-use Rattle.mortgage.specs.Steps.{fitting, laid}
+use Rattle.mortgage.specs.Month.{endMonth, due}
+use Rattle.steps.specs.Steps.{fitting, laid}
 use Rattle.mortgage.specs.Rows.{after, rows}
 
 -- the lines of the table that a draw meets

@@ -2,9 +2,10 @@ pub mod Terms
 pub mod Payment
 pub mod Row
 pub mod RowRule
-pub mod Steps
+pub mod Month
 pub mod Rows
 pub mod Draws
+pub mod Places
 pub mod Demand3
 pub mod Totals
 pub mod Savings

@@ -2,9 +2,10 @@
 use Prim.Native.Nat.{ℕ}
 use mathlib.Core.Bool.{cond}
 use lib.IntN.{pos}
-use lib.Ieee.{Float, binary64, add, sub, mul, div, eq, ofInt, ofBits}
+use lib.Ieee.{Float, binary64, add, sub, mul, div, eq, ofInt}
+use Rattle.numbers.specs.Literals.{one, twelve}
 use Rattle.numbers.specs.Clamps.{plusZero}
-use Rattle.elementary.specs.WholePower.{one, wholePower}
+use Rattle.elementary.specs.WholePower.{wholePower}
 use Rattle.refusals.specs.Outcome.{Outcome, refused, accepted, judged}
 use Rattle.records.specs.declared.Terms.{Terms}
 use Rattle.mortgage.specs.declared.Loan.{Loan}
@@ -13,9 +14,6 @@ use Rattle.mortgage.specs.declared.opening.Opening.the-variants as openi
 use Rattle.mortgage.specs.Terms.{termsLines}
 
 -- "r = rate/12"
-abbrev pub twelve : Float
-twelve = ofBits binary64 0x4028_0000_0000_0000
-
 unfoldable pub monthlyRate : Float → Float
 monthlyRate rate = div binary64 rate twelve
 

@@ -9,9 +9,15 @@ use Rattle.records.specs.declared.Row.{Row}
 abbrev pub width : ℕ
 width = 5
 
--- which of them hold the principal and the balance, from 0
+-- which of them hold the payment, the principal, the interest and the balance, from 0
+abbrev pub paymentPlace : ℕ
+paymentPlace = 1
+
 abbrev pub principalPlace : ℕ
 principalPlace = 2
+
+abbrev pub interestPlace : ℕ
+interestPlace = 3
 
 abbrev pub balancePlace : ℕ
 balancePlace = 4

@@ -11,8 +11,8 @@ use Rattle.mortgage.specs.declared.Loan.{Loan}
 use Rattle.mortgage.specs.declared.rows.Next.{Next}
 use Rattle.mortgage.specs.declared.rows.Next.the-variants as next-is
 use Rattle.mortgage.specs.Row.{places}
-use Rattle.mortgage.specs.RowRule.{endMonth, due, rowOf, nextOf}
-use Rattle.mortgage.specs.Steps.{stepped, written}
+use Rattle.mortgage.specs.Month.{endMonth, due, rowOf, nextOf}
+use Rattle.steps.specs.Steps.{stepped, written}
 
 -- the loan in hand after k rows, and the numbers of those rows
 abbrev pub after : ℕ → Loan → Loan

@@ -1,7 +1,8 @@
 -- What paying more each month saves. Definitions only. Assumes nothing.
 use Prim.Native.Nat.{ℕ, zero, suc, _+_, _-_, _*_}
 use mathlib.Core.Bool.{cond}
-use lib.Ieee.{Float, binary64, add, sub, mul, lt, le, ofBits}
+use lib.Ieee.{Float, binary64, add, sub, mul, lt, le}
+use Rattle.numbers.specs.Literals.{millionth}
 use Rattle.numbers.specs.Clamps.{plusZero, raised, lowered}
 use Rattle.refusals.specs.Outcome.{Outcome, refused, accepted, judged}
 use Rattle.records.specs.declared.Terms.{Terms}
@@ -12,10 +13,6 @@ use Rattle.mortgage.specs.declared.savings.SavingsAnswer.the-variants as
 use Rattle.mortgage.specs.Terms.{termsLines}
 use Rattle.mortgage.specs.Payment.{monthlyRate, payment}
 use Rattle.mortgage.specs.Totals.{interestSum}
-
--- 1e-6
-abbrev pub millionth : Float
-millionth = ofBits binary64 0x3eb0_c6f7_a0b5_ed8d
 
 -- a month's interest, and its principal: "lowers to the balance first and raises to 0 after (NaN lowers to the balance)"
 abbrev pub interestOn : Float → Float → Float
@@ -33,15 +30,15 @@ paidDown pay r s = record {
 }
 
 -- "It runs while the balance is above 0 and months are below 2n, stopping once it is at or below 1e-6": at most k months more
-unfoldable pub run : Float → Float → ℕ → Paydown → Paydown
-run pay r zero s = s
-run pay r (suc k) s =
-    cond (lt plusZero (s .balance)) (cond (le (paidDown pay r s .balance) millionth) (paidDown pay r s) (run pay r k (paidDown pay r s))) s
+unfoldable pub paidDownFor : Float → Float → ℕ → Paydown → Paydown
+paidDownFor pay r zero s = s
+paidDownFor pay r (suc k) s =
+    cond (lt plusZero (s .balance)) (cond (le (paidDown pay r s .balance) millionth) (paidDown pay r s) (paidDownFor pay r k (paidDown pay r s))) s
 
--- the whole run, at the worked-out payment and so much more
+-- paid down to the end, at the worked-out payment and so much more
 unfoldable pub paidOff : Terms → Float → Paydown
 paidOff t extra =
-    run (add binary64 (payment t) extra) (monthlyRate (t .rate)) (2 * t .term) (record { balance = t .principal; months = 0; interest = plusZero })
+    paidDownFor (add binary64 (payment t) extra) (monthlyRate (t .rate)) (2 * t .term) (record { balance = t .principal; months = 0; interest = plusZero })
 
 -- months and interest saved, neither below zero
 unfoldable pub saved : Terms → Float → Savings

@@ -9,12 +9,12 @@ use Rattle.records.specs.declared.Terms.{Terms}
 use Rattle.mortgage.specs.declared.Loan.{Loan}
 use Rattle.mortgage.specs.Terms.{termsLines}
 use Rattle.mortgage.specs.Payment.{payment, loanOf}
-use Rattle.mortgage.specs.RowRule.{interestOf, rowOf}
+use Rattle.mortgage.specs.Month.{rowOf}
 use Rattle.mortgage.specs.Rows.{after}
 
 -- the interest of the row k of a loan, from 0
 abbrev pub interestAt : Loan → ℕ → Float
-interestAt l k = interestOf (after k l)
+interestAt l k = rowOf (after k l) .interest
 
 -- "the sum of the interest column, left to right", over the whole term at the worked-out payment
 unfoldable pub interestSum : Terms → Float

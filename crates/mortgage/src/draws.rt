@@ -4,8 +4,8 @@ ghost use Prim.Native.Nat.{_+_, _*_, _<_, _≤_, min};
 ghost use lib.ListN.{length};
 ghost use lib.Seq.{sets};
 ghost use Rattle.mortgage.specs.Row.{width, places};
-ghost use Rattle.mortgage.specs.RowRule.{endMonth};
-ghost use Rattle.mortgage.specs.Steps.{laid};
+ghost use Rattle.mortgage.specs.Month.{endMonth};
+ghost use Rattle.steps.specs.Steps.{laid};
 ghost use Rattle.mortgage.specs.Rows.{after, rows};
 ghost use Rattle.mortgage.specs.Draws.{drawn, filled, drawingOutcome};
 use crate::Loan;
@@ -33,7 +33,7 @@ struct Run {
 }
 
 // The smaller of the rows due and the rows that the room holds.
-fn fewer(due: u32, room: usize) -> u32
+pub(crate) fn fewer(due: u32, room: usize) -> u32
     ensures { λ r. ⌜ r ≡ min due room ⌝ }
 {
     if room < due as usize {

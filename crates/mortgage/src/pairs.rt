@@ -1,13 +1,15 @@
-// Rows at a place of a room: one loan's, and two loans' at once.
+// Rows at places of a room: one loan's, and two loans' at once.
 ghost use mathlib.Core.Path.{_≡_};
-ghost use Prim.Native.Nat.{_+_, _*_, _≤_};
+ghost use Prim.Native.Nat.{_+_, _*_, _<_, _≤_};
 ghost use lib.ListN.{length};
 ghost use lib.Seq.{sets};
 ghost use Rattle.mortgage.specs.Row.{width};
-ghost use Rattle.mortgage.specs.RowRule.{endMonth};
+ghost use Rattle.mortgage.specs.Month.{endMonth};
 ghost use Rattle.mortgage.specs.Rows.{after, rows};
+ghost use Rattle.mortgage.specs.Places.{countAt, countAtBoth};
 use crate::Loan;
 use crate::draws::WIDTH;
+use crate::draws::fewer;
 use crate::draws::put_row;
 
 // Two loans in hand.
@@ -23,24 +25,34 @@ struct PairRun {
     second: Loan,
 }
 
+// Of the rows that are asked for, those that are due and lie between the place and the end.
+fn count_at(loan: Loan, asked: u32, at: usize, end: usize) -> u32
+    ensures { λ r. ⌜ r ≡ countAt loan asked at end ⌝ }
+{
+    if end < at {
+        return 0;
+    }
+    fewer(
+        fewer(crate::rows::rows_due(loan), (end - at) / WIDTH),
+        asked as usize,
+    )
+}
+
 // The next rows of a loan, from a place of the room.
-pub fn lay_at(loan: Loan, room: &mut [f64], at: usize, count: u32) -> Loan
-    requires { ⌜ (at + count * width ≤ length (now room)) × (loan .done + count ≤ endMonth loan) ⌝ }
+fn lay_from(loan: Loan, room: &mut [f64], at: usize, count: u32) -> Loan
+    requires { ⌜ (0 < count) × (at + count * width ≤ length (now room)) × (loan .done + count ≤ endMonth loan) ⌝ }
     ensures { λ r. ⌜ r ≡ after count loan ⌝ }
     ensures { λ _. ⌜ now (room .exit) ≡ sets (now (room .entry)) at (rows count loan) ⌝ }
 {
-    if count == 0 {
-        return loan;
-    }
     crate::draws::lay_rows(loan, &mut room[at..], count, count - 1)
 }
 
 // Rows of ordinary months of two loans at once, fewer than so many of each: it stops before a month whose principal a bound changes.
 // The two wait for nothing of each other, so that one's product and differences are worked out while the other's are waited for.
 fn pair_rows(first: Loan, second: Loan, room: &mut [f64], a: usize, b: usize, most: u32) -> PairRun
-    requires { ⌜ (a + most * width ≤ b) × (b + most * width ≤ length (now room)) ⌝ }
+    requires { ⌜ (0 < most) × (a + most * width ≤ b) × (b + most * width ≤ length (now room)) ⌝ }
     requires { ⌜ (first .done + most ≤ endMonth first) × (second .done + most ≤ endMonth second) ⌝ }
-    ensures { λ r. ⌜ (r .count ≤ most) × (r .first ≡ after (r .count) first) × (r .second ≡ after (r .count) second) ⌝ }
+    ensures { λ r. ⌜ (r .count < most) × (r .first ≡ after (r .count) first) × (r .second ≡ after (r .count) second) ⌝ }
     ensures { λ r. ⌜ now (room .exit) ≡ sets (sets (now (room .entry)) a (rows (r .count) first)) b (rows (r .count) second) ⌝ }
 {
     let x_rate = crate::payment::monthly_rate(first.rate);
@@ -89,8 +101,8 @@ fn pair_rows(first: Loan, second: Loan, room: &mut [f64], a: usize, b: usize, mo
 }
 
 // The next rows of two loans, from two places of the room: ordinary months of both at once, then what is left of each.
-pub fn lay_both(first: Loan, second: Loan, room: &mut [f64], a: usize, b: usize, count: u32) -> Pair
-    requires { ⌜ (a + count * width ≤ b) × (b + count * width ≤ length (now room)) ⌝ }
+fn lay_pair(first: Loan, second: Loan, room: &mut [f64], a: usize, b: usize, count: u32) -> Pair
+    requires { ⌜ (0 < count) × (a + count * width ≤ b) × (b + count * width ≤ length (now room)) ⌝ }
     requires { ⌜ (first .done + count ≤ endMonth first) × (second .done + count ≤ endMonth second) ⌝ }
     ensures { λ r. ⌜ (r .first ≡ after count first) × (r .second ≡ after count second) ⌝ }
     ensures { λ _. ⌜ now (room .exit) ≡ sets (sets (now (room .entry)) a (rows count first)) b (rows count second) ⌝ }
@@ -100,10 +112,36 @@ pub fn lay_both(first: Loan, second: Loan, room: &mut [f64], a: usize, b: usize,
     let x = run.first;
     let y = run.second;
     let laid = k as usize * WIDTH;
-    let first_left = lay_at(x, room, a + laid, count - k);
-    let second_left = lay_at(y, room, b + laid, count - k);
+    let first_left = lay_from(x, room, a + laid, count - k);
+    let second_left = lay_from(y, room, b + laid, count - k);
     Pair {
         first: first_left,
         second: second_left,
     }
+}
+
+// The next rows of a loan, from a place of the room: as many of those asked for as are due and the room holds from there.
+pub fn lay_at(loan: Loan, room: &mut [f64], at: usize, asked: u32) -> Loan
+    ensures { λ r. ⌜ r ≡ after (countAt loan asked at (length (now (room .entry)))) loan ⌝ }
+    ensures { λ _. ⌜ now (room .exit) ≡ sets (now (room .entry)) at (rows (countAt loan asked at (length (now (room .entry)))) loan) ⌝ }
+{
+    let count = count_at(loan, asked, at, room.len());
+    if count == 0 {
+        return loan;
+    }
+    lay_from(loan, room, at, count)
+}
+
+// The next rows of two loans, as many of each, from two places of the room: as many of those asked for as both have due and as lie before the second place and behind it.
+pub fn lay_both(first: Loan, second: Loan, room: &mut [f64], a: usize, b: usize, asked: u32) -> Pair
+    ensures { λ r. ⌜ (r .first ≡ after (countAtBoth first second asked a b (length (now (room .entry)))) first) × (r .second ≡ after (countAtBoth first second asked a b (length (now (room .entry)))) second) ⌝ }
+    ensures { λ _. ⌜ now (room .exit) ≡ sets (sets (now (room .entry)) a (rows (countAtBoth first second asked a b (length (now (room .entry)))) first)) b (rows (countAtBoth first second asked a b (length (now (room .entry)))) second) ⌝ }
+{
+    let of_first = count_at(first, asked, a, b);
+    let of_second = count_at(second, asked, b, room.len());
+    let count = fewer(of_first, of_second as usize);
+    if count == 0 {
+        return Pair { first, second };
+    }
+    lay_pair(first, second, room, a, b, count)
 }

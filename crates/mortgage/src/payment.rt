@@ -7,7 +7,7 @@ use refusals::Number;
 use refusals::Verdict;
 
 // A twelfth of the annual rate.
-pub(crate) fn monthly_rate(rate: f64) -> f64
+pub fn monthly_rate(rate: f64) -> f64
     ensures { λ r. ⌜ r ≡ monthlyRate rate ⌝ }
 {
     rate / 12.0

@@ -4,7 +4,9 @@ ghost use Prim.Native.Nat.{_+_, _<_};
 ghost use mathlib.Core.Bool.{true};
 ghost use lib.Ieee.{binary64, sub, lt};
 ghost use Rattle.numbers.specs.Clamps.{plusZero, raised, lowered};
-ghost use Rattle.mortgage.specs.RowRule.{endMonth, due, interestOf, rowOf, nextOf};
+ghost use Rattle.mortgage.specs.Payment.{monthlyRate};
+ghost use Rattle.mortgage.specs.Month.{endMonth, due, rowOf, nextOf};
+ghost use Rattle.mortgage.specs.RowRule.{interestOf};
 ghost use Rattle.mortgage.specs.Rows.{nextRow, nextOutcome};
 use crate::Loan;
 use records::Row;
@@ -90,7 +92,7 @@ pub(crate) fn any_month(loan: Loan) -> Month
 // A month before the last whose principal neither bound changes: its new balance is above 0, so the column needs no raising.
 pub(crate) fn ordinary_month(loan: Loan, interest: f64, principal: f64) -> Month
     requires { ⌜ loan .done + 1 < endMonth loan ⌝ }
-    requires { ⌜ (interest ≡ interestOf loan) × (principal ≡ sub binary64 (loan .payment) interest) ⌝ }
+    requires { ⌜ (interest ≡ interestOf (monthlyRate (loan .rate)) (loan .balance)) × (principal ≡ sub binary64 (loan .payment) interest) ⌝ }
     requires { ⌜ (lt plusZero principal ≡ true) × (lt principal (loan .balance) ≡ true) ⌝ }
     ensures { λ r. ⌜ (r .row ≡ rowOf loan) × (r .next ≡ nextOf loan) ⌝ }
 {

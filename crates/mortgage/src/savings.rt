@@ -2,7 +2,7 @@
 ghost use mathlib.Core.Path.{_≡_};
 ghost use Prim.Native.Nat.{_+_, _*_, _<_, _-_, _≤_};
 ghost use Rattle.numbers.specs.Clamps.{plusZero};
-ghost use Rattle.mortgage.specs.Savings.{paidDown, run, saved, prepaymentSavings, savingsOutcome};
+ghost use Rattle.mortgage.specs.Savings.{paidDown, paidDownFor, saved, prepaymentSavings, savingsOutcome};
 use records::Terms;
 use refusals::Verdict;
 
@@ -38,9 +38,9 @@ fn month_down(payment: f64, r: f64, state: Paydown) -> Paydown
     }
 }
 
-// The run: while the balance is above 0, at most so many months, stopping once it is at or below 1e-6.
+// Paying down: while the balance is above 0, at most so many months, stopping once it is at or below 1e-6.
 fn pay_down(payment: f64, r: f64, principal: f64, most: u32) -> Paydown
-    ensures { λ s. ⌜ s ≡ run payment r most (record { balance = principal; months = 0; interest = plusZero }) ⌝ }
+    ensures { λ s. ⌜ s ≡ paidDownFor payment r most (record { balance = principal; months = 0; interest = plusZero }) ⌝ }
 {
     let mut state = Paydown {
         balance: principal,

@@ -3,7 +3,7 @@ ghost use mathlib.Core.Path.{_≡_};
 ghost use Prim.Native.Nat.{_+_, _≤_, min};
 ghost use Rattle.numbers.specs.Sums.{addedUp};
 ghost use Rattle.refusals.specs.Answers.{numberOutcome};
-ghost use Rattle.mortgage.specs.RowRule.{endMonth};
+ghost use Rattle.mortgage.specs.Month.{endMonth};
 ghost use Rattle.mortgage.specs.Totals.{interestAt, interestSum, totalInterest, balanceAfter, remainingBalance, loanToValue};
 use crate::Loan;
 use records::Terms;

@@ -1,21 +1,24 @@
 -- `mortgage::draws::any_rows` meets its contract: after k turns the room begins with k rows and the loan is k months on. Assumes nothing.
-use mathlib.Core.Path.{_≡_}
+use mathlib.Core.Path.{_≡_, ap}
 use Prim.Native.Nat.{_-_}
 use native.Mathlib.Omega.{arith}
 use denote.Ref.{now}
+use Rattle.steps.proofs.Laying.{Underway, begun, a-turn}
+use Rattle.mortgage.specs.Row.{width, places}
+use Rattle.mortgage.specs.Month.{nextOf}
 use Rattle.mortgage.proofs.RowLaws.{next-due}
-use Rattle.mortgage.proofs.DrawCases.{Underway, begun, a-turn}
+use Rattle.mortgage.proofs.DrawCases.{rowPlaces, wide}
 use Rattle.mortgage.proofs.draws.any_rows.Statement.{statement}
 use Rattle.mortgage.proofs.draws.any_rows.Tie as tie
 
 abbrev Inv-loop : tie.InvT-loop
-Inv-loop room₀ count l₀ at₀ k₀ room l at k = Underway count room₀ l₀ room l at k
+Inv-loop room₀ count l₀ at₀ k₀ room l at k = Underway nextOf rowPlaces width count room₀ l₀ room l at k
 
 abbrev μ-loop : tie.MeasureT-loop
 μ-loop room₀ count l₀ at₀ k₀ room l at k = count - k
 
 loop-holds : tie.Need-loop-holds Inv-loop μ-loop
-loop-holds c = let a = c .before .args in begun (a .count) (now (a .room)) (a .loan)
+loop-holds c = let a = c .before .args in begun nextOf rowPlaces width (a .count) (now (a .room)) (a .loan)
 
 any-month-requires : tie.Need-any-month-requires Inv-loop μ-loop
 any-month-requires c κs = let h = c .before in next-due (h .loop .k) (h .before .before .args .count) _ _ (h .loop .inv .1) (c .loop-test .taken) (h .before .before .pre .1)
@@ -38,8 +41,8 @@ loop-again c =
     let s = h .before .before in
     let put = c .before .before .put-row in
     let m = c .before .before .before .before .before .before .any-month in
-    a-turn (s .args .count) (now (s .args .room)) (h .loop .room) (put .last .0) (s .args .loan) (h .loop .l) (m .result .next) (h .loop .at) (h .loop .k) (m .result .row)
-    (s .pre .0) (h .loop .inv) (c .before .before .before .before .before .before .before .loop-test .taken) (m .ensures) (put .ensures) (put .kept .0)
+    a-turn nextOf rowPlaces width wide (s .args .count) (now (s .args .room)) (h .loop .room) (put .last .0) (s .args .loan) (h .loop .l) (m .result .next) (h .loop .at) (h .loop .k) (places (m .result .row))
+    (s .pre .0) (h .loop .inv) (c .before .before .before .before .before .before .before .loop-test .taken) (ap places (m .ensures .0)) (m .ensures .1) (put .ensures) (put .kept .0)
 
 same-length : tie.Need-same-length Inv-loop μ-loop
 same-length c = c .before .loop .inv .4

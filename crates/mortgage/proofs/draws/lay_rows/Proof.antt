@@ -4,8 +4,8 @@ use native.Mathlib.Omega.{arith}
 use denote.Ref.{now}
 use borrow.Author.Needs.{needs}
 use Rattle.mortgage.specs.Row.{width}
-use Rattle.mortgage.specs.RowRule.{nextOf}
-use Rattle.mortgage.proofs.Portions.{room-left, joined}
+use Rattle.mortgage.specs.Month.{nextOf}
+use Rattle.steps.proofs.Portions.{room-left, joined}
 use Rattle.mortgage.proofs.RowLaws.{rest-due}
 use Rattle.mortgage.proofs.DrawCases.{rowPlaces, wide}
 use Rattle.mortgage.proofs.draws.lay_rows.Statement.{statement}

@@ -1,16 +1,19 @@
 -- `mortgage::draws::ordinary_rows` meets its contract: after k turns the room begins with k rows and the loan is k months on, whichever way the loop is left. Assumes nothing.
-use mathlib.Core.Path.{refl}
+use mathlib.Core.Path.{refl, ap}
 use Prim.Native.Nat.{_-_}
 use native.Mathlib.Omega.{arith}
 use denote.Ref.{now}
 use borrow.Author.Needs.{needs}
+use Rattle.steps.proofs.Laying.{Underway, begun, a-turn}
+use Rattle.mortgage.specs.Row.{width, places}
+use Rattle.mortgage.specs.Month.{nextOf}
 use Rattle.mortgage.proofs.RowLaws.{next-not-last, interest-after}
-use Rattle.mortgage.proofs.DrawCases.{Underway, begun, a-turn}
+use Rattle.mortgage.proofs.DrawCases.{rowPlaces, wide}
 use Rattle.mortgage.proofs.draws.ordinary_rows.Statement.{statement}
 use Rattle.mortgage.proofs.draws.ordinary_rows.Tie as tie
 
 abbrev Inv-loop : tie.InvT-loop
-Inv-loop room₀ most rate l₀ at₀ k₀ room l at k = Underway most room₀ l₀ room l at k
+Inv-loop room₀ most rate l₀ at₀ k₀ room l at k = Underway nextOf rowPlaces width most room₀ l₀ room l at k
 
 abbrev μ-loop : tie.MeasureT-loop
 μ-loop room₀ most rate l₀ at₀ k₀ room l at k = most - k
@@ -19,7 +22,7 @@ monthly-rate-requires : tie.Need-monthly-rate-requires Inv-loop μ-loop
 monthly-rate-requires c κs = search needs
 
 loop-holds : tie.Need-loop-holds Inv-loop μ-loop
-loop-holds c = let a = c .before .before .args in begun (a .most) (now (a .room)) (a .loan)
+loop-holds c = let a = c .before .before .args in begun nextOf rowPlaces width (a .most) (now (a .room)) (a .loan)
 
 ordinary-month-requires : tie.Need-ordinary-month-requires Inv-loop μ-loop
 ordinary-month-requires c κs =
@@ -47,8 +50,8 @@ loop-again c =
     let s = h .before .before .before in
     let put = c .before .before .put-row in
     let m = c .before .before .before .before .before .before .ordinary-month in
-    a-turn (s .args .most) (now (s .args .room)) (h .loop .room) (put .last .0) (s .args .loan) (h .loop .l) (m .result .next) (h .loop .at) (h .loop .k) (m .result .row)
-    (s .pre .0) (h .loop .inv) (c .before .before .before .before .before .before .before .before .before .before .before .before .loop-test .taken) (m .ensures) (put .ensures) (put .kept .0)
+    a-turn nextOf rowPlaces width wide (s .args .most) (now (s .args .room)) (h .loop .room) (put .last .0) (s .args .loan) (h .loop .l) (m .result .next) (h .loop .at) (h .loop .k) (places (m .result .row))
+    (s .pre .0) (h .loop .inv) (c .before .before .before .before .before .before .before .before .before .before .before .before .loop-test .taken) (ap places (m .ensures .0)) (m .ensures .1) (put .ensures) (put .kept .0)
 
 same-length : tie.Need-same-length Inv-loop μ-loop
 same-length c = c .before .loop .inv .4

@@ -1,4 +1,4 @@
--- `mortgage::draws::put_row` meets its contract: five stores in a row are the stores of the list. Assumes nothing.
+-- `mortgage::draws::put_row` meets its contract: stores at the places of a row, one after the other, are the stores of the list. Assumes nothing.
 use native.Mathlib.Omega.{arith}
 use native.Mathlib.Numerals.{unary-clauses}
 use lib.ListN.{length-set}

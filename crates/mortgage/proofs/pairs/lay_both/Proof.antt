@@ -1,74 +1,64 @@
--- `mortgage::pairs::lay_both` meets its contract: the ordinary months of both loans and then the rest of each are all the rows of both. Assumes nothing.
-use Prim.Native.Nat.{_≤_}
-use native.Mathlib.Omega.{arith}
+-- `mortgage::pairs::lay_both` meets its contract: where a loan has no row due or there is no room for one of each, nothing is laid. Assumes nothing.
+use mathlib.Core.Path.{sym, _∙_}
 use denote.Ref.{now}
 use borrow.Author.Needs.{needs}
-use Rattle.mortgage.proofs.RowLaws.{rest-due}
-use Rattle.mortgage.proofs.PairLaws.{both-joined}
+use Rattle.steps.proofs.Pairs.{none-of-both}
+use Rattle.mortgage.specs.Row.{width}
+use Rattle.mortgage.specs.Month.{nextOf}
+use Rattle.mortgage.proofs.DrawCases.{rowPlaces}
+use Rattle.mortgage.proofs.PlaceLaws.{both-count, both-within}
 use Rattle.mortgage.proofs.pairs.lay_both.Statement.{statement}
 use Rattle.mortgage.proofs.pairs.lay_both.Tie as tie
 
-pair-rows-requires : tie.Need-pair-rows-requires
-pair-rows-requires c κs = search needs
+count-at-requires : tie.Need-count-at-requires
+count-at-requires c κs = search needs
 
-cast-laid : tie.Need-cast-laid
-cast-laid c = search needs
+count-at-requires-2 : tie.Need-count-at-requires-2
+count-at-requires-2 c κs = search needs
 
-mul-laid : tie.Need-mul-laid
-mul-laid c = search needs
+cast-fewer : tie.Need-cast-fewer
+cast-fewer c = search needs
 
-add-lay-at : tie.Need-add-lay-at
-add-lay-at c = search needs
+fewer-requires : tie.Need-fewer-requires
+fewer-requires c κs = search needs
 
-sub-lay-at : tie.Need-sub-lay-at
-sub-lay-at c = search needs
+returns : tie.Need-returns
+returns c =
+    let n = c .before .fewer in
+    let y = c .before .before .count-at2 in
+    let x = c .before .before .before .count-at in
+    let a = c .before .before .before .before .before .args in
+    none-of-both nextOf rowPlaces width (now (a .room)) (a .a) (a .b) _ (a .first) (a .second) (sym (both-count (a .first) (a .second) (a .asked) (a .a) (a .b) _ _ _ _ (x .ensures) (y .ensures) (n .ensures)) ∙ c .if1 .taken)
 
-lay-at-requires : tie.Need-lay-at-requires
-lay-at-requires c κs =
-    let r = c .before .before .before .before .before .pair-rows in
-    let s = c .before .before .before .before .before .before .before .before in
-    let h : r .result .count ≤ s .args .count = r .ensures .0 .0 in
-    (omega arith, rest-due (r .result .count) (s .args .count) _ _ (r .ensures .0 .1) h (s .pre .1 .0))
-
-add-lay-at-2 : tie.Need-add-lay-at-2
-add-lay-at-2 c = search needs
-
-sub-lay-at-2 : tie.Need-sub-lay-at-2
-sub-lay-at-2 c = search needs
-
-lay-at-requires-2 : tie.Need-lay-at-requires-2
-lay-at-requires-2 c κs =
-    let r = c .before .before .before .before .before .before .before .before .before .pair-rows in
-    let s = c .before .before .before .before .before .before .before .before .before .before .before .before in
-    let h : r .result .count ≤ s .args .count = r .ensures .0 .0 in
-    (omega arith, rest-due (r .result .count) (s .args .count) _ _ (r .ensures .0 .2) h (s .pre .1 .1))
+lay-pair-requires : tie.Need-lay-pair-requires
+lay-pair-requires c κs =
+    let n = c .before .before .fewer in
+    let y = c .before .before .before .count-at2 in
+    let x = c .before .before .before .before .count-at in
+    let a = c .before .before .before .before .before .before .args in
+    both-within (a .first) (a .second) (a .asked) (a .a) (a .b) _ _ _ (n .result) (x .ensures) (y .ensures) (n .ensures) (c .before .if1 .left)
 
 same-length : tie.Need-same-length
 same-length c = search needs
 
-returns : tie.Need-returns
-returns c =
-    let y = c .before .before .lay-at2 in
-    let x = c .before .before .before .before .before .before .lay-at in
-    let r = c .before .before .before .before .before .before .before .before .before .before .before .before .pair-rows in
-    let s = c .before .before .before .before .before .before .before .before .before .before .before .before .before .before .before in
-    let a = s .args in
-    both-joined (a .count) (now (a .room)) (a .a) (a .b) (a .first) (a .second) (r .result .count) (a .count) (r .result .first) (r .result .second) (x .result) (y .result)
-    (r .last .1 .1 .0) (x .last .1 .0) (y .last .1 .0) (r .ensures .0 .0) (s .pre .0 .0) (r .ensures .0 .1) (r .ensures .0 .2) (r .ensures .1)
-    (x .ensures .0) (x .ensures .1) (y .ensures .0) (y .ensures .1)
+returns-2 : tie.Need-returns-2
+returns-2 c =
+    let p = c .before .before .lay-pair in
+    let n = c .before .before .before .before .before .fewer in
+    let y = c .before .before .before .before .before .before .count-at2 in
+    let x = c .before .before .before .before .before .before .before .count-at in
+    let a = c .before .before .before .before .before .before .before .before .before .args in
+    rw (sym (both-count (a .first) (a .second) (a .asked) (a .a) (a .b) _ _ _ _ (x .ensures) (y .ensures) (n .ensures))) (p .ensures)
 
 pub lay-both-spec : {M : Type 1} → statement M
 lay-both-spec =
     tie.close
     (tie.spec
-    pair-rows-requires
-    cast-laid
-    mul-laid
-    add-lay-at
-    sub-lay-at
-    lay-at-requires
-    add-lay-at-2
-    sub-lay-at-2
-    lay-at-requires-2
+    count-at-requires
+    count-at-requires-2
+    cast-fewer
+    fewer-requires
+    returns
+    lay-pair-requires
     same-length
-    returns)
+    returns-2)

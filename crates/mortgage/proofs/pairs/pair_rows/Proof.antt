@@ -1,16 +1,19 @@
 -- `mortgage::pairs::pair_rows` meets its contract: after k turns k rows of each loan stand from its place, and each loan is k months on, whichever way the loop is left. Assumes nothing.
-use mathlib.Core.Path.{refl, _∙_}
+use mathlib.Core.Path.{refl, ap, _∙_}
 use Prim.Native.Nat.{_-_}
 use native.Mathlib.Omega.{arith}
 use denote.Ref.{now}
 use borrow.Author.Needs.{needs}
-use Rattle.mortgage.proofs.RowLaws.{interest-after}
-use Rattle.mortgage.proofs.PairLaws.{Underway, begun, before-last, a-turn}
+use Rattle.steps.proofs.Pairs.{Underway, begun, a-turn}
+use Rattle.mortgage.specs.Row.{width, places}
+use Rattle.mortgage.specs.Month.{nextOf}
+use Rattle.mortgage.proofs.RowLaws.{interest-after, before-last}
+use Rattle.mortgage.proofs.DrawCases.{rowPlaces, wide}
 use Rattle.mortgage.proofs.pairs.pair_rows.Statement.{statement}
 use Rattle.mortgage.proofs.pairs.pair_rows.Tie as tie
 
 abbrev Inv-loop : tie.InvT-loop
-Inv-loop room₀ a b most x-rate y-rate x₀ y₀ x-at₀ y-at₀ k₀ room x y x-at y-at k = Underway most room₀ a b x₀ y₀ room x y x-at y-at k
+Inv-loop room₀ a b most x-rate y-rate x₀ y₀ x-at₀ y-at₀ k₀ room x y x-at y-at k = Underway nextOf rowPlaces width most room₀ a b x₀ y₀ room x y x-at y-at k
 
 abbrev μ-loop : tie.MeasureT-loop
 μ-loop room₀ a b most x-rate y-rate x₀ y₀ x-at₀ y-at₀ k₀ room x y x-at y-at k = most - k
@@ -22,7 +25,7 @@ monthly-rate-requires-2 : tie.Need-monthly-rate-requires-2 Inv-loop μ-loop
 monthly-rate-requires-2 c κs = search needs
 
 loop-holds : tie.Need-loop-holds Inv-loop μ-loop
-loop-holds c = let s = c .before .before .before .args in begun (s .most) (now (s .room)) (s .a) (s .b) (s .first) (s .second)
+loop-holds c = let s = c .before .before .before .args in begun nextOf rowPlaces width (s .most) (now (s .room)) (s .a) (s .b) (s .first) (s .second)
 
 add-loop : tie.Need-add-loop Inv-loop μ-loop
 add-loop c = omega arith
@@ -87,39 +90,39 @@ loop-again c =
     let x = c .before .before .before .before .before .before .before .before .before .before .before .before .before .ordinary-month in
     let h = c .before .before .before .before .before .before .before .before .before .before .before .before .before .before .before .before .before .before .before .before .before .before .before .before .before in
     let s = h .before .before .before .before in
-    a-turn (s .args .most) (now (s .args .room)) (s .args .a) (s .args .b) (s .args .first) (s .args .second) (h .loop .room) (first .last .0) (second .last .0)
-    (h .loop .x) (h .loop .y) (x .result .next) (y .result .next) (h .loop .x-at) (h .loop .y-at) (h .loop .k) (x .result .row) (y .result .row)
-    (s .pre .0 .0) (h .loop .inv) (c .before .before .before .before .before .before .before .before .before .before .before .before .before .before .before .before .before .before .before .before .before .before .before .before .loop-test .taken) (x .ensures) (y .ensures) (first .ensures) (second .ensures) (second .kept .0 ∙ first .kept .0)
+    a-turn nextOf rowPlaces width wide (now (s .args .room)) (s .args .a) (s .args .b) (s .args .first) (s .args .second) (s .args .most) (h .loop .room) (first .last .0) (second .last .0)
+    (h .loop .x) (h .loop .y) (x .result .next) (y .result .next) (h .loop .x-at) (h .loop .y-at) (h .loop .k) (places (x .result .row)) (places (y .result .row))
+    (s .pre .0 .1) (h .loop .inv) (c .before .before .before .before .before .before .before .before .before .before .before .before .before .before .before .before .before .before .before .before .before .before .before .before .loop-test .taken) (ap places (x .ensures .0)) (x .ensures .1) (ap places (y .ensures .0)) (y .ensures .1) (first .ensures) (second .ensures) (second .kept .0 ∙ first .kept .0)
 
 same-length : tie.Need-same-length Inv-loop μ-loop
 same-length c = c .before .loop .inv .6
 
 returns : tie.Need-returns Inv-loop μ-loop
-returns c = let i = c .before .loop .inv in ((omega (arith, i .5), i .1, i .2), i .0)
+returns c = let h = c .before in let i = h .loop .inv in ((omega (arith, i .5, h .before .before .before .before .pre .0), i .1, i .2), i .0)
 
 same-length-2 : tie.Need-same-length-2 Inv-loop μ-loop
 same-length-2 c = c .before .before .before .before .before .before .loop .inv .6
 
 returns-2 : tie.Need-returns-2 Inv-loop μ-loop
-returns-2 c = let i = c .before .before .before .before .before .before .loop .inv in ((omega (arith, i .5), i .1, i .2), i .0)
+returns-2 c = let h = c .before .before .before .before .before .before in let i = h .loop .inv in ((omega (arith, i .5, h .before .before .before .before .pre .0), i .1, i .2), i .0)
 
 same-length-3 : tie.Need-same-length-3 Inv-loop μ-loop
 same-length-3 c = c .before .before .before .before .before .before .before .before .loop .inv .6
 
 returns-3 : tie.Need-returns-3 Inv-loop μ-loop
-returns-3 c = let i = c .before .before .before .before .before .before .before .before .loop .inv in ((omega (arith, i .5), i .1, i .2), i .0)
+returns-3 c = let h = c .before .before .before .before .before .before .before .before in let i = h .loop .inv in ((omega (arith, i .5, h .before .before .before .before .pre .0), i .1, i .2), i .0)
 
 same-length-4 : tie.Need-same-length-4 Inv-loop μ-loop
 same-length-4 c = c .before .before .before .before .before .before .before .before .before .loop .inv .6
 
 returns-4 : tie.Need-returns-4 Inv-loop μ-loop
-returns-4 c = let i = c .before .before .before .before .before .before .before .before .before .loop .inv in ((omega (arith, i .5), i .1, i .2), i .0)
+returns-4 c = let h = c .before .before .before .before .before .before .before .before .before in let i = h .loop .inv in ((omega (arith, i .5, h .before .before .before .before .pre .0), i .1, i .2), i .0)
 
 same-length-5 : tie.Need-same-length-5 Inv-loop μ-loop
 same-length-5 c = c .before .before .before .before .before .before .before .before .before .before .before .loop .inv .6
 
 returns-5 : tie.Need-returns-5 Inv-loop μ-loop
-returns-5 c = let i = c .before .before .before .before .before .before .before .before .before .before .before .loop .inv in ((omega (arith, i .5), i .1, i .2), i .0)
+returns-5 c = let h = c .before .before .before .before .before .before .before .before .before .before .before in let i = h .loop .inv in ((omega (arith, i .5, h .before .before .before .before .pre .0), i .1, i .2), i .0)
 
 pub pair-rows-spec : {M : Type 1} → statement M
 pair-rows-spec =

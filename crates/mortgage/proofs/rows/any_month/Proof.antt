@@ -1,7 +1,8 @@
 -- `mortgage::rows::any_month` meets its contract: the test says whether the month is the last, and each arm has its steps. Assumes nothing.
 use mathlib.Core.Path.{sym, _∙_}
 use native.Mathlib.Omega.{arith}
-use Rattle.mortgage.specs.RowRule.{endMonth, interestOf}
+use Rattle.mortgage.specs.Month.{endMonth}
+use Rattle.mortgage.specs.RowRule.{interestOf}
 use Rattle.mortgage.proofs.RowLaws.{last-month, other-month}
 use borrow.Author.Needs.{needs}
 use Rattle.mortgage.proofs.rows.any_month.Statement.{statement}

@@ -1,6 +1,6 @@
 -- `mortgage::rows::end_month` meets its contract. Assumes nothing.
 use mathlib.Core.Path.{refl}
-use Rattle.mortgage.specs.RowRule.{endMonth}
+use Rattle.mortgage.specs.Month.{endMonth}
 use Rattle.mortgage.proofs.rows.end_month.Statement.{statement}
 use Rattle.mortgage.proofs.rows.end_month.Tie as tie
 

@@ -1,6 +1,6 @@
 -- `mortgage::rows::month_of` meets its contract: a month that is due is at most the term, so its number fits. Assumes nothing.
 use native.Mathlib.Omega.{arith}
-use Rattle.mortgage.specs.RowRule.{endMonth}
+use Rattle.mortgage.specs.Month.{endMonth}
 use borrow.Author.Needs.{needs}
 use Rattle.mortgage.proofs.rows.month_of.Statement.{statement}
 use Rattle.mortgage.proofs.rows.month_of.Tie as tie

@@ -1,7 +1,8 @@
 -- `mortgage::rows::ordinary_month` meets its contract: neither bound changes the principal, and what it leaves is above 0. Assumes nothing.
 use mathlib.Core.Path.{_∙_}
 use native.Mathlib.Omega.{arith}
-use Rattle.mortgage.proofs.RowLaws.{other-month, within, left-as-it-is}
+use Rattle.mortgage.proofs.RuleLaws.{within, left-as-it-is}
+use Rattle.mortgage.proofs.RowLaws.{other-month}
 use borrow.Author.Needs.{needs}
 use Rattle.mortgage.proofs.rows.ordinary_month.Statement.{statement}
 use Rattle.mortgage.proofs.rows.ordinary_month.Tie as tie

@@ -1,6 +1,6 @@
 -- `mortgage::rows::rows_due` meets its contract. Assumes nothing.
 use native.Mathlib.Omega.{arith}
-use Rattle.mortgage.specs.RowRule.{due}
+use Rattle.mortgage.specs.Month.{due}
 use borrow.Author.Needs.{needs}
 use Rattle.mortgage.proofs.rows.rows_due.Statement.{statement}
 use Rattle.mortgage.proofs.rows.rows_due.Tie as tie

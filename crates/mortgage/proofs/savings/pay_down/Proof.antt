@@ -1,11 +1,11 @@
--- `mortgage::savings::pay_down` meets its contract: after k months the run that is left starts at the state in hand. Assumes nothing.
+-- `mortgage::savings::pay_down` meets its contract: after k months the paying down that is left starts at the state in hand. Assumes nothing.
 use mathlib.Core.Path.{_≡_, refl, sym, _∙_}
 use Prim.Native.Nat.{_-_}
 use native.Mathlib.Omega.{arith}
 use lib.Ieee.{Float}
 use Rattle.numbers.specs.Clamps.{plusZero}
 use Rattle.mortgage.specs.declared.savings.Paydown.{Paydown}
-use Rattle.mortgage.specs.Savings.{run}
+use Rattle.mortgage.specs.Savings.{paidDownFor}
 use Rattle.mortgage.proofs.PayingDown.{months-up, paid, pays-off, goes-on, counted}
 use Rattle.mortgage.proofs.savings.pay_down.Statement.{statement}
 use Rattle.mortgage.proofs.savings.pay_down.Tie as tie
@@ -14,7 +14,7 @@ abbrev start : Float → Paydown
 start principal = record { balance = principal; months = 0; interest = plusZero }
 
 abbrev Inv-loop : tie.InvT-loop
-Inv-loop payment r principal most state₀ k₀ state k = (run payment r most (start principal) ≡ run payment r (most - k) state) × (state .months ≡ k)
+Inv-loop payment r principal most state₀ k₀ state k = (paidDownFor payment r most (start principal) ≡ paidDownFor payment r (most - k) state) × (state .months ≡ k)
 
 abbrev μ-loop : tie.MeasureT-loop
 μ-loop payment r principal most state₀ k₀ state k = most - k

@@ -3,11 +3,13 @@ use mathlib.Core.Path.{_≡_, refl, _∙_, ap}
 use Prim.Native.Nat.{_-_, _≤_}
 use native.Mathlib.Omega.{arith}
 use Rattle.numbers.specs.Sums.{addedUp}
-use Rattle.mortgage.specs.Steps.{stepped}
+use Rattle.steps.specs.Steps.{stepped}
+use Rattle.steps.proofs.Portions.{steps-on}
+use Rattle.mortgage.specs.Month.{nextOf}
 use Rattle.mortgage.specs.Rows.{after}
 use Rattle.mortgage.specs.Totals.{interestAt}
 use Rattle.mortgage.proofs.RowLaws.{next-due}
-use Rattle.mortgage.proofs.RowColumns.{next-reached, interest-added}
+use Rattle.mortgage.proofs.RowColumns.{interest-added}
 use Rattle.mortgage.proofs.totals.interest_over.Statement.{statement}
 use Rattle.mortgage.proofs.totals.interest_over.Tie as tie
 
@@ -34,7 +36,7 @@ loop-again : tie.Need-loop-again Inv-loop μ-loop
 loop-again c =
     let month = c .before .before .before in
     let head = month .before .before .loop in (
-      next-reached _ _ _ (head .inv .0) _ (month .any-month .ensures .1),
+      steps-on nextOf _ _ _ _ (head .inv .0) (month .any-month .ensures .1),
       interest-added _ _ _ (head .inv .0) _ _ (month .any-month .ensures .0) (head .inv .1),
       omega arith,
     )

@@ -3,7 +3,7 @@ use mathlib.Core.Path.{_∙_}
 use native.Mathlib.Omega.{arith}
 use borrow.Author.Needs.{needs}
 use Rattle.mortgage.specs.Payment.{loanOf}
-use Rattle.mortgage.specs.RowRule.{endMonth}
+use Rattle.mortgage.specs.Month.{endMonth}
 use Rattle.mortgage.specs.Totals.{interestSum}
 use Rattle.mortgage.proofs.totals.interest_sum.Statement.{statement}
 use Rattle.mortgage.proofs.totals.interest_sum.Tie as tie

@@ -3,7 +3,7 @@ use native.Mathlib.Omega.{arith}
 use borrow.Author.Needs.{needs}
 use Rattle.refusals.proofs.Verdicts.{refused-by, accepted-by}
 use Rattle.mortgage.specs.Payment.{loanOf}
-use Rattle.mortgage.specs.RowRule.{endMonth}
+use Rattle.mortgage.specs.Month.{endMonth}
 use Rattle.mortgage.specs.Totals.{remainingBalance}
 use Rattle.mortgage.proofs.totals.remaining_balance.Statement.{statement}
 use Rattle.mortgage.proofs.totals.remaining_balance.Tie as tie
