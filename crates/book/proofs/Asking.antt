@@ -1,28 +1,35 @@
--- What a loan of a book answers and asks for: by its terms alone where they are judged, and by its record. Assumes nothing.
+-- What a loan of a book answers and asks for: by its terms alone where they are judged, and by its record; and how it begins. Assumes nothing.
 use mathlib.Core.Path.{_≡_, refl, sym, ap, _∙_}
+use mathlib.Core.Bool.{false}
 use mathlib.Core.List.{List}
-use Prim.Native.Nat.{ℕ, _+_, _-_, _*_, _≤_}
+use Prim.Native.Nat.{ℕ, _*_, _≤_, _<_}
 use native.Mathlib.Omega.{arith}
-use lib.ListN.{take, drop, length}
+use lib.Dec.{eqb, ltb}
+use lib.ListN.{length}
+use borrow.Author.Tests.{eqb-false}
 use Rattle.refusals.specs.declared.Refusal.{Refusal}
 use Rattle.refusals.specs.declared.Verdict.{Verdict}
 use Rattle.refusals.specs.declared.Verdict.the-variants as verdict-is
 use Rattle.refusals.specs.Answers.{verdictOutcome}
 use Rattle.refusals.specs.Outcome.{Outcome, refused, accepted, andThen, judged}
+use Rattle.refusals.specs.Table.{badTerm}
+use Rattle.refusals.proofs.Causes.{neither}
+use Rattle.refusals.proofs.Judging.{passed, none-is}
 use Rattle.refusals.proofs.Verdicts.{refused-by, accepted-by, accepted-value}
 use Rattle.records.specs.declared.Terms.{Terms}
 use Rattle.records.specs.declared.TermsRead.{TermsRead}
 use Rattle.records.specs.declared.TermsRead.the-variants as terms-is
-use Rattle.records.specs.Kinds.{readTerms, termsOutcome}
+use Rattle.records.specs.Kinds.{termsSize, readTerms, termsOutcome}
+use Rattle.records.specs.EndToEnd.{recordAt}
 use Rattle.mortgage.specs.declared.Loan.{Loan}
 use Rattle.mortgage.specs.Row.{width}
 use Rattle.mortgage.specs.Terms.{termsLines}
 use Rattle.mortgage.specs.Payment.{payment, loanOf, openedWith, opened}
-use Rattle.mortgage.specs.RowRule.{endMonth, due}
+use Rattle.mortgage.specs.Month.{endMonth, due}
 use Rattle.mortgage.specs.Rows.{rows}
-use Rattle.mortgage.specs.Steps.{written}
+use Rattle.steps.specs.Steps.{pieces}
 use Rattle.mortgage.proofs.DrawLaws.{length-rows}
-use Rattle.book.specs.Book.{recordAt, loanAt, answer, asked, firstRows}
+use Rattle.book.specs.Book.{loanAt, answer, asked, firstRows}
 
 -- ---- by its terms
 module _ (t : Terms) (x : Verdict) (e : verdictOutcome x ≡ judged (termsLines t) tt) where
@@ -38,14 +45,7 @@ module _ (t : Terms) (x : Verdict) (e : verdictOutcome x ≡ judged (termsLines 
       (ap answer same, d ∙ ap asked same)
 
 -- ---- by its record
--- the bytes of the record, as a part of all
-pub part-is : (bytes : List ℕ) (i : ℕ) → take (i * 21 + 21 - i * 21) (drop (i * 21) bytes) ≡ recordAt bytes i
-unfolding recordAt
-part-is bytes i =
-    let e : i * 21 + 21 - i * 21 ≡ 21 = omega arith in
-    ap (λ (k : ℕ). take k (drop (i * 21) bytes)) e
-
-module _ (bytes : List ℕ) (i : ℕ) (x : TermsRead) (e : termsOutcome x ≡ readTerms (recordAt bytes i)) where
+module _ (bytes : List ℕ) (i : ℕ) (x : TermsRead) (e : termsOutcome x ≡ readTerms (recordAt termsSize bytes i)) where
   pub refused-record : (r : Refusal) → x ≡ terms-is.Refused r → refused (r .number) (r .place) ≡ loanAt bytes i
   unfolding loanAt
   refused-record r h = ap (λ (o : Outcome Terms). andThen o opened) (sym (ap termsOutcome h) ∙ e)
@@ -57,23 +57,35 @@ module _ (bytes : List ℕ) (i : ℕ) (x : TermsRead) (e : termsOutcome x ≡ re
 pub both-of : (number rows : ℕ) (o q : Outcome Loan) → (number ≡ answer o) × (rows ≡ asked o) → o ≡ q → (number ≡ answer q) × (rows ≡ asked q)
 both-of number rows o q b e = rw (sym e) b
 
--- ---- a loan that is opened has no month done
-begins-with : (t : Terms) (l : Loan) → opened t ≡ accepted l → l .done ≡ 0
+-- ---- a loan of a book has a good term, and no month done
+pub record Fresh (l : Loan) : Type 0 where
+  pub good : badTerm (l .term) ≡ false
+  pub unstarted : l .done ≡ 0
+
+fresh-terms : (t : Terms) (l : Loan) → opened t ≡ accepted l → Fresh l
 unfolding opened openedWith loanOf
-begins-with t l e = ap (λ (m : Loan). m .done) (accepted-value (termsLines t) (loanOf t (payment t)) l e)
+fresh-terms t l e =
+    let m : l ≡ loanOf t (payment t) = accepted-value (termsLines t) (loanOf t (payment t)) l e in
+    let a = passed (loanOf t (payment t)) l _ _ (sym e) in
+    let b = passed (loanOf t (payment t)) l _ _ (a .1) in
+    record { good = ap (λ (k : Loan). badTerm (k .term)) m ∙ none-is (b .0) 0; unstarted = ap (λ (k : Loan). k .done) m }
 
-pub begins : (bytes : List ℕ) (i : ℕ) (l : Loan) → loanAt bytes i ≡ accepted l → l .done ≡ 0
+pub fresh : (bytes : List ℕ) (i : ℕ) (l : Loan) → loanAt bytes i ≡ accepted l → Fresh l
 unfolding loanAt
-begins bytes i l e = go (readTerms (recordAt bytes i)) e
+fresh bytes i l e = go (readTerms (recordAt termsSize bytes i)) e
   where
-    go : (o : Outcome Terms) → andThen o opened ≡ accepted l → l .done ≡ 0
+    go : (o : Outcome Terms) → andThen o opened ≡ accepted l → Fresh l
     go (refused k p) g = let z : _≡_ {A = ℕ} 0 1 = cc in absurd (omega arith)
-    go (accepted t) g = begins-with t l g
+    go (accepted t) g = fresh-terms t l g
 
--- so that its rows fill its term
-pub within-term : (l : Loan) (k : ℕ) → l .done ≡ 0 → k ≤ due l → l .done + k ≤ endMonth l
-unfolding due endMonth
-within-term l k e h = omega arith
+-- so that some month is due
+some-term : (n : ℕ) → badTerm n ≡ false → 0 < n
+unfolding badTerm
+some-term n e = let h : n ≡ 0 → ⊥ = eqb-false n 0 (neither (eqb n 0) (ltb 1200 n) e .0) in omega (arith, h)
+
+pub some-due : (l : Loan) → Fresh l → l .done < endMonth l
+unfolding endMonth
+some-due l new = omega (arith, some-term (l .term) (new .good), new .unstarted)
 
 -- ---- so many rows are so many times their places
 pub length-first : (k : ℕ) (o : Outcome Loan) → k ≤ asked o → length (firstRows k o) ≡ k * width
@@ -81,6 +93,6 @@ length-first k (refused n p) h = omega arith
 length-first k (accepted l) h = length-rows k l
 
 pub none-first : (o : Outcome Loan) (k : ℕ) → k ≡ 0 → firstRows k o ≡ firstRows 0 (refused 0 0)
-unfolding written
+unfolding pieces
 none-first (refused n p) k e = refl
 none-first (accepted l) k e = rw e

@@ -1,40 +1,39 @@
 -- The cases of a draw of a book, in the order in which the code tests: what is answered, and what the lent lists hold then. Assumes nothing.
 use mathlib.Core.Path.{_≡_, refl, ap, _∙_}
 use mathlib.Core.Logic.{_⊎_, inl, inr}
-use mathlib.Core.Bool.{Bool, true, false, not, _||_, _&&_}
+use mathlib.Core.Bool.{Bool, true, false, _&&_}
 use mathlib.Core.List.{List, _++_}
 use Prim.Native.Nat.{ℕ, _+_, _-_, _*_, _%_, _<_, _≤_, min}
 use native.Mathlib.Nat.{eq-zero-or-pos}
 use native.Mathlib.Omega.{arith}
-use lib.Dec.{eqb, ltb}
+use lib.Dec.{ltb}
 use lib.ListN.{length, drop}
 use lib.Seq.{sets}
 use lib.Ieee.{Float}
-use borrow.Author.Tests.{lt-ltb, le-ltb, ltb-false, eq-eqb, ne-eqb}
+use borrow.Author.Tests.{lt-ltb, le-ltb, ltb-true, ltb-false, eq-eqb, ne-eqb}
 use Rattle.refusals.specs.declared.Refusal.{Refusal}
 use Rattle.refusals.specs.Outcome.{Outcome, refused, accepted, firstOr, judged}
+use Rattle.refusals.specs.Table.{noRoom, noRoomForAll, badLength, badTotal}
+use Rattle.refusals.proofs.Causes.{neither}
 use Rattle.refusals.proofs.Verdicts.{refused-as}
+use Rattle.records.specs.Kinds.{termsSize}
 use Rattle.mortgage.specs.Row.{width}
-use Rattle.book.specs.Book.{loanCount, loanAt, asked, firstRows, askedBy, finished, cutShort, answered, Progress, progress, rowsUpTo, answersUpTo, roomAfter, answersAfter, badTotal, tooLittle, bookDrawn, unlessRefused, bookRoom, bookAnswers}
-use Rattle.book.proofs.Planning.{Planned}
+use Rattle.book.specs.Book.{mostLoans, loanCount, loanAt, asked, firstRows, askedBy, finished, cutShort, answered, Progress, progress, rowsUpTo, answersUpTo, roomAfter, answersAfter, badBook, tooLittle, bookDrawn, unlessRefused, bookRoom, bookAnswers}
+use Rattle.book.proofs.Planning.{Planned, all-held, not-all-held}
 use Rattle.book.proofs.Taking.{Laid, behind-them}
 
 -- ---- line 11
-pub odd-length : (bytes : List ℕ) → (length bytes % 21 ≡ 0 → ⊥) → true ≡ badTotal bytes
-unfolding badTotal
+pub odd-length : (bytes : List ℕ) → (length bytes % termsSize ≡ 0 → ⊥) → true ≡ badBook bytes
+unfolding badTotal badLength
 odd-length bytes h = rw (ne-eqb _ _ h)
 
-pub by-count : (bytes : List ℕ) (n : ℕ) → length bytes % 21 ≡ 0 → n ≡ loanCount bytes → ltb 256 n ≡ badTotal bytes
-unfolding badTotal
+pub by-count : (bytes : List ℕ) (n : ℕ) → length bytes % termsSize ≡ 0 → n ≡ loanCount bytes → ltb mostLoans n ≡ badBook bytes
+unfolding badTotal badLength
 by-count bytes n h e = rw (eq-eqb _ _ h, e)
 
-few-loans : (bytes : List ℕ) → badTotal bytes ≡ false → loanCount bytes ≤ 256
+few-loans : (bytes : List ℕ) → badBook bytes ≡ false → loanCount bytes ≤ mostLoans
 unfolding badTotal
-few-loans bytes e = ltb-false 256 (loanCount bytes) (go (not (eqb (length bytes % 21) 0)) (ltb 256 (loanCount bytes)) e)
-  where
-    go : (a b : Bool) → (a || b) ≡ false → b ≡ false
-    go true b g = let z : _≡_ {A = ℕ} 0 1 = cc in absurd (omega arith)
-    go false b g = g
+few-loans bytes e = ltb-false mostLoans (loanCount bytes) (neither (badLength termsSize (length bytes)) (ltb mostLoans (loanCount bytes)) e .1)
 
 -- ---- what a plan asks for, and what it draws
 pub answered-within : (n f k d : ℕ) → d ≡ f + min k 1 → f ≤ n → (0 < k → f < n) → d ≤ n
@@ -43,8 +42,8 @@ answered-within n f k d e h g = elim (eq-zero-or-pos k) [
   | inr w ↦ omega (arith, g w)
 ]
 
-pub may-draw : (bytes : List ℕ) (answers room done rows cut : ℕ) → badTotal bytes ≡ false → loanCount bytes ≤ answers → Planned bytes room done rows cut
-    → ((loanCount bytes ≤ 256) × (loanCount bytes ≤ answers))
+pub may-draw : (bytes : List ℕ) (answers room done rows cut : ℕ) → badBook bytes ≡ false → loanCount bytes ≤ answers → Planned bytes room done rows cut
+    → ((loanCount bytes ≤ mostLoans) × (loanCount bytes ≤ answers))
     × (((done ≡ finished bytes room) × (rows ≡ askedBy bytes done) × (cut ≡ cutShort bytes room))
     × (((done ≤ loanCount bytes) × ((rows + cut) * width ≤ room) × (cut ≤ asked (loanAt bytes done))) × (0 < cut → done < loanCount bytes)))
 may-draw bytes answers room done rows cut good h p =
@@ -76,35 +75,44 @@ unfolding progress
 progress-is bytes room f c w ef ec ew = rw (ef, ec, ew)
 
 -- ---- the lines
+and-false : (b : Bool) → (b && false) ≡ false
+and-false true = refl
+and-false false = refl
+
 module _ (bytes : List ℕ) (answers room : ℕ) where
-  eleven : badTotal bytes ≡ true → refused 11 0 ≡ bookDrawn bytes answers room
+  eleven : badBook bytes ≡ true → refused 11 0 ≡ bookDrawn bytes answers room
   unfolding bookDrawn judged firstOr
   eleven t = rw t
 
-  three : badTotal bytes ≡ false → tooLittle bytes answers room ≡ true → refused 3 0 ≡ bookDrawn bytes answers room
+  three : badBook bytes ≡ false → tooLittle bytes answers room ≡ true → refused 3 0 ≡ bookDrawn bytes answers room
   unfolding bookDrawn judged firstOr
   three t s = rw (t, s)
 
-  none : badTotal bytes ≡ false → tooLittle bytes answers room ≡ false → accepted (progress bytes room) ≡ bookDrawn bytes answers room
+  none : badBook bytes ≡ false → tooLittle bytes answers room ≡ false → accepted (progress bytes room) ≡ bookDrawn bytes answers room
   unfolding bookDrawn judged firstOr
   none t s = rw (t, s)
 
   short-answers : answers < loanCount bytes → tooLittle bytes answers room ≡ true
-  unfolding tooLittle
-  short-answers w = rw (lt-ltb answers (loanCount bytes) w)
+  unfolding tooLittle noRoomForAll
+  short-answers w = rw (lt-ltb answers (loanCount bytes * 1) (omega arith))
 
-  short-room : loanCount bytes ≤ answers → room < width → finished bytes room < loanCount bytes → tooLittle bytes answers room ≡ true
-  unfolding tooLittle
-  short-room a w f = rw (le-ltb answers (loanCount bytes) a, lt-ltb room width w, lt-ltb (finished bytes room) (loanCount bytes) f)
+  module _ (h : loanCount bytes ≤ answers) where
+    all-answered : noRoomForAll (loanCount bytes) answers 1 ≡ false
+    unfolding noRoomForAll
+    all-answered = le-ltb answers (loanCount bytes * 1) (omega arith)
 
-  enough : loanCount bytes ≤ answers → (width ≤ room) ⊎ (loanCount bytes ≤ finished bytes room) → tooLittle bytes answers room ≡ false
-  unfolding tooLittle
-  enough a (inl w) = rw (le-ltb answers (loanCount bytes) a, le-ltb room width w)
-  enough a (inr f) = rw (le-ltb answers (loanCount bytes) a, le-ltb (finished bytes room) (loanCount bytes) f) (and-false (ltb room width))
-    where
-      and-false : (b : Bool) → (b && false) ≡ false
-      and-false true = refl
-      and-false false = refl
+    short-room : room < width → finished bytes room < loanCount bytes → tooLittle bytes answers room ≡ true
+    unfolding tooLittle noRoom
+    short-room w f = rw (all-answered, lt-ltb 0 (askedBy bytes (loanCount bytes)) (omega (arith, not-all-held bytes room f)), lt-ltb room width w)
+
+    enough : (width ≤ room) ⊎ (loanCount bytes ≤ finished bytes room) → tooLittle bytes answers room ≡ false
+    unfolding tooLittle noRoom
+    enough (inl w) = rw (all-answered, le-ltb room width w) (and-false (ltb 0 (askedBy bytes (loanCount bytes))))
+    enough (inr f) = rw all-answered (go (ltb room width) (ltb-true room width))
+      where
+        go : (small : Bool) → (small ≡ true → room < width) → (ltb 0 (askedBy bytes (loanCount bytes)) && small) ≡ false
+        go true s = let w = s refl in rw (le-ltb 0 (askedBy bytes (loanCount bytes)) (omega (arith, all-held bytes room f)))
+        go false s = and-false (ltb 0 (askedBy bytes (loanCount bytes)))
 
 -- ---- the answers
 module _ (bytes answers : List ℕ) (room : List Float) where
@@ -122,17 +130,17 @@ module _ (bytes answers : List ℕ) (room : List Float) where
     (ap (λ (o : Outcome Progress). unlessRefused o room (roomAfter bytes room)) e, ap (λ (o : Outcome Progress). unlessRefused o answers (answersAfter bytes (length room) answers)) e),
   )
 
-  pub bad-total : (r : Refusal) → (r .number ≡ 11) × (r .place ≡ 0) → badTotal bytes ≡ true → Given (refused (r .number) (r .place)) room answers
+  pub bad-total : (r : Refusal) → (r .number ≡ 11) × (r .place ≡ 0) → badBook bytes ≡ true → Given (refused (r .number) (r .place)) room answers
   bad-total r h t = refused-book 11 r h (eleven bytes (length answers) (length room) t)
 
-  module _ (good : badTotal bytes ≡ false) (r : Refusal) (h : (r .number ≡ 3) × (r .place ≡ 0)) where
+  module _ (good : badBook bytes ≡ false) (r : Refusal) (h : (r .number ≡ 3) × (r .place ≡ 0)) where
     pub few-answers : length answers < loanCount bytes → Given (refused (r .number) (r .place)) room answers
     few-answers w = refused-book 3 r h (three bytes (length answers) (length room) good (short-answers bytes (length answers) (length room) w))
 
     pub no-row : loanCount bytes ≤ length answers → length room < width → finished bytes (length room) < loanCount bytes → Given (refused (r .number) (r .place)) room answers
     no-row a w f = refused-book 3 r h (three bytes (length answers) (length room) good (short-room bytes (length answers) (length room) a w f))
 
-  pub drawn-book : badTotal bytes ≡ false → loanCount bytes ≤ length answers → (width ≤ length room) ⊎ (loanCount bytes ≤ finished bytes (length room))
+  pub drawn-book : badBook bytes ≡ false → loanCount bytes ≤ length answers → (width ≤ length room) ⊎ (loanCount bytes ≤ finished bytes (length room))
       → (p : Progress) (room′ : List Float) (answers′ : List ℕ) → p ≡ progress bytes (length room) → room′ ≡ roomAfter bytes room → answers′ ≡ answersAfter bytes (length room) answers
       → Given (accepted p) room′ answers′
   unfolding bookRoom bookAnswers

@@ -1,7 +1,6 @@
 pub mod Asking
 pub mod Planning
 pub mod Taking
-pub mod Answering
 pub mod Drawing
 pub mod OneByOne
 pub mod Figures

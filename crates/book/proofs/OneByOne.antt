@@ -1,67 +1,31 @@
 -- One call draws what single calls draw, one at a time in order: the room they leave and the loans they finish are the same, on every book and every room. Assumes nothing.
 use mathlib.Core.Path.{_≡_, refl, sym, ap, _∙_}
-use mathlib.Core.Bool.{Bool, true, false, cond, _||_}
+use mathlib.Core.Bool.{Bool, true, false, cond}
 use mathlib.Core.List.{List, _++_, append-assoc, append-nil}
 use Prim.Native.Nat.{ℕ, zero, suc, _+_, _-_, _*_, _/_, _<_, _≤_}
 use native.Mathlib.Omega.{arith}
-use lib.Dec.{eqb, ltb}
+use lib.Dec.{ltb}
 use lib.ListN.{length, take, drop, length-drop}
 use lib.Seq.{take-at, drop-at, drop-drop}
 use lib.Ieee.{Float}
-use borrow.Author.Tests.{lt-ltb, le-ltb, ltb-true, ltb-false, eqb-false}
-use Rattle.refusals.specs.Outcome.{Outcome, refused, accepted, andThen}
-use Rattle.refusals.specs.Table.{badTerm}
-use Rattle.refusals.proofs.Judging.{passed, none-is}
-use Rattle.refusals.proofs.Verdicts.{accepted-value}
-use Rattle.records.specs.declared.Terms.{Terms}
-use Rattle.records.specs.Kinds.{readTerms}
+use borrow.Author.Tests.{lt-ltb, le-ltb, ltb-true, ltb-false}
+use Rattle.refusals.specs.Outcome.{Outcome, refused, accepted}
 use Rattle.mortgage.specs.declared.Loan.{Loan}
 use Rattle.mortgage.specs.declared.draws.Portion.{Portion}
 use Rattle.mortgage.specs.Row.{width}
-use Rattle.mortgage.specs.Terms.{termsLines}
-use Rattle.mortgage.specs.Payment.{payment, loanOf, openedWith, opened}
-use Rattle.mortgage.specs.RowRule.{endMonth, due}
-use Rattle.mortgage.specs.Steps.{written, laid}
+use Rattle.mortgage.specs.Month.{due}
+use Rattle.steps.specs.Steps.{pieces, laid}
 use Rattle.mortgage.specs.Rows.{rows}
 use Rattle.mortgage.specs.Draws.{count, portion, drawn, filledBy, filled}
 use Rattle.mortgage.specs.Demand3.{rowsIn}
 use Rattle.mortgage.proofs.DrawCases.{drawn-short, drawn-rows}
 use Rattle.mortgage.proofs.DrawLaws.{length-rows, rows-drawn}
-use Rattle.book.specs.Book.{loanCount, recordAt, loanAt, asked, firstRows, askedBy, finishing, held, finished, cutShort, rowsUpTo, roomAfter}
+use Rattle.book.specs.Book.{loanCount, loanAt, asked, firstRows, allRows, askedBy, finishing, held, finished, cutShort, rowsUpTo, roomAfter}
 use Rattle.book.specs.OneByOne.{stops, behind, singly, counted, finishedSingly}
-use Rattle.book.proofs.Asking.{none-first}
+use Rattle.book.proofs.Asking.{Fresh, fresh, some-due, none-first}
 use Rattle.book.proofs.Planning.{asked-within}
 
--- ---- a loan of a book has a good term, and no month done
-pub record Fresh (l : Loan) : Type 0 where
-  pub good : badTerm (l .term) ≡ false
-  pub unstarted : l .done ≡ 0
-
-fresh-terms : (t : Terms) (l : Loan) → opened t ≡ accepted l → Fresh l
-unfolding opened openedWith loanOf
-fresh-terms t l e =
-    let m : l ≡ loanOf t (payment t) = accepted-value (termsLines t) (loanOf t (payment t)) l e in
-    let a = passed (loanOf t (payment t)) l _ _ (sym e) in
-    let b = passed (loanOf t (payment t)) l _ _ (a .1) in
-    record { good = ap (λ (k : Loan). badTerm (k .term)) m ∙ none-is (b .0) 0; unstarted = ap (λ (k : Loan). k .done) m }
-
-fresh : (bytes : List ℕ) (i : ℕ) (l : Loan) → loanAt bytes i ≡ accepted l → Fresh l
-unfolding loanAt
-fresh bytes i l e = go (readTerms (recordAt bytes i)) e
-  where
-    go : (o : Outcome Terms) → andThen o opened ≡ accepted l → Fresh l
-    go (refused k p) g = let z : _≡_ {A = ℕ} 0 1 = cc in absurd (omega arith)
-    go (accepted t) g = fresh-terms t l g
-
-some-term : (n : ℕ) → badTerm n ≡ false → 0 < n
-unfolding badTerm
-some-term n e = let h : n ≡ 0 → ⊥ = eqb-false n 0 (go (eqb n 0) (ltb 1200 n) e) in omega (arith, h)
-  where
-    go : (a b : Bool) → (a || b) ≡ false → a ≡ false
-    go true b g = g
-    go false b g = refl
-
--- ---- one draw of it
+-- ---- one draw of a loan of a book
 same-test : (a b c d : ℕ) → (c < d → a < b) → (d ≤ c → b ≤ a) → ltb a b ≡ ltb c d
 same-test a b c d f g = go (ltb c d) (ltb-true c d) (ltb-false c d)
   where
@@ -70,10 +34,6 @@ same-test a b c d f g = go (ltb c d) (ltb-true c d) (ltb-false c d)
     go false h k = le-ltb a b (g (k refl))
 
 module _ (l : Loan) (new : Fresh l) (room : List Float) where
-  some-due : l .done < endMonth l
-  unfolding endMonth
-  some-due = omega (arith, some-term (l .term) (new .good), new .unstarted)
-
   stops-when : stops (drawn l room) ≡ ltb (held (length room)) (due l)
   unfolding portion due
   stops-when = go (ltb (length room) width) (ltb-true (length room) width) (ltb-false (length room) width)
@@ -81,14 +41,14 @@ module _ (l : Loan) (new : Fresh l) (room : List Float) where
       go : (small : Bool) → (small ≡ true → length room < width) → (small ≡ false → width ≤ length room) → stops (drawn l room) ≡ ltb (held (length room)) (due l)
       go true s r =
           let n : length room < width = s refl in
-          let z : held (length room) < due l = omega (arith, some-due) in
-          sym (ap stops (drawn-short l room (new .good) some-due n)) ∙ sym (lt-ltb (held (length room)) (due l) z)
+          let z : held (length room) < due l = omega (arith, some-due l new) in
+          sym (ap stops (drawn-short l room (new .good) (some-due l new) n)) ∙ sym (lt-ltb (held (length room)) (due l) z)
       go false s r =
-          sym (ap stops (drawn-rows l room (new .good) some-due (r refl)))
+          sym (ap stops (drawn-rows l room (new .good) (some-due l new) (r refl)))
           ∙ same-test 0 (due l - count l (length room)) (held (length room)) (due l) (λ h. omega arith) (λ h. omega arith)
 
   filled-rows : filled l room ≡ laid width (count l (length room)) (rows (count l (length room)) l) room
-  unfolding filled written
+  unfolding filled pieces
   filled-rows = go (drawn l room) ∙ ap (λ (k : ℕ). laid width k (rows k l) room) (rows-drawn l room (new .good))
     where
       go : (o : Outcome Portion) → filledBy o l room ≡ laid width (rowsIn o) (rows (rowsIn o) l) room
@@ -131,11 +91,11 @@ module _ (bytes : List ℕ) (i : ℕ) (room : List Float) where
           rw (stops-when l new room, lt-ltb (held (length room)) (due l) g) (cut-room l new room g)
 
   whole-call : (others : List Float → List Float) → Wanted ≤ held (length room)
-      → behind (loanAt bytes i) others room ≡ firstRows Wanted (loanAt bytes i) ++ others (drop (Wanted * width) room)
+      → behind (loanAt bytes i) others room ≡ allRows (loanAt bytes i) ++ others (drop (Wanted * width) room)
   unfolding behind
   whole-call others h = go (loanAt bytes i) refl h
     where
-      go : (o : Outcome Loan) → loanAt bytes i ≡ o → asked o ≤ held (length room) → behind o others room ≡ firstRows (asked o) o ++ others (drop (asked o * width) room)
+      go : (o : Outcome Loan) → loanAt bytes i ≡ o → asked o ≤ held (length room) → behind o others room ≡ allRows o ++ others (drop (asked o * width) room)
       go (refused k p) e g = refl
       go (accepted l) e g =
           let new = fresh bytes i l e in
@@ -162,7 +122,7 @@ module _ (bytes : List ℕ) (i : ℕ) (room : List Float) where
 held-behind : (room : List Float) (n : ℕ) → held (length (drop (n * width) room)) ≡ held (length room) - n
 held-behind room n = ap held (length-drop (n * width) room) ∙ fewer (length room) n
   where
-    fewer : (x n : ℕ) → (x - n * 5) / 5 ≡ x / 5 - n
+    fewer : (x n : ℕ) → (x - n * width) / width ≡ x / width - n
     fewer x n = omega arith
 
 module _ (bytes : List ℕ) where
@@ -198,13 +158,13 @@ module _ (bytes : List ℕ) where
       ap (λ (xs : List Float). (rowsUpTo bytes f ++ firstRows c (loanAt bytes f)) ++ xs)
       (drop-drop ((askedBy bytes f + c - askedBy bytes (suc i)) * width) (asked (loanAt bytes i) * width) room ∙ ap (λ (k : ℕ). drop k room) e)
     where
-      apart : (a b d c : ℕ) → a + b ≤ d → b * 5 + (d + c - (a + b)) * 5 ≡ (d + c - a) * 5
+      apart : (a b d c : ℕ) → a + b ≤ d → b * width + (d + c - (a + b)) * width ≡ (d + c - a) * width
       apart a b d c h = omega arith
 
   -- a loan's rows are the next of all
-  next-rows : (i : ℕ) (others : List Float) → rowsUpTo bytes i ++ (firstRows (asked (loanAt bytes i)) (loanAt bytes i) ++ others) ≡ rowsUpTo bytes (suc i) ++ others
-  unfolding rowsUpTo
-  next-rows i others = sym (append-assoc (rowsUpTo bytes i) (firstRows (asked (loanAt bytes i)) (loanAt bytes i)) others)
+  next-rows : (i : ℕ) (others : List Float) → rowsUpTo bytes i ++ (allRows (loanAt bytes i) ++ others) ≡ rowsUpTo bytes (suc i) ++ others
+  unfolding pieces
+  next-rows i others = sym (append-assoc (rowsUpTo bytes i) (allRows (loanAt bytes i)) others)
 
   still-held : (i total : ℕ) (room : List Float) → asked (loanAt bytes i) ≤ held (length room) → held (length room) + askedBy bytes i ≡ total
       → held (length (drop (asked (loanAt bytes i) * width) room)) + askedBy bytes (suc i) ≡ total
@@ -251,7 +211,7 @@ module _ (bytes : List ℕ) where
 
   -- ---- so one call is all of them
   pub same-room : (room : List Float) → roomAfter bytes room ≡ singly bytes 0 (loanCount bytes) room
-  unfolding roomAfter cutShort rowsUpTo askedBy finished
+  unfolding roomAfter cutShort pieces askedBy finished
   same-room room =
       let f : ℕ = finished bytes (length room) in
       let c : ℕ = cutShort bytes (length room) in

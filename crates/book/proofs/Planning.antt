@@ -3,10 +3,11 @@ use mathlib.Core.Path.{_≡_, refl, sym, ap, _∙_}
 use mathlib.Core.Bool.{Bool, true, false, cond}
 use mathlib.Core.List.{List}
 use Prim.Native.Nat.{ℕ, zero, suc, _+_, _-_, _/_, _<_, _≤_, zero-le, min}
+use native.Mathlib.Nat.{zero-add}
 use native.Mathlib.Numerals.{add-one}
 use native.Mathlib.Omega.{arith}
 use lib.Dec.{ltb}
-use borrow.Author.Tests.{lt-ltb, le-ltb, ltb-true}
+use borrow.Author.Tests.{lt-ltb, le-ltb, ltb-true, ltb-false}
 use Rattle.mortgage.specs.Row.{width}
 use Rattle.book.specs.Book.{loanCount, loanAt, asked, askedBy, finishing, held, finished, cutShort, answered, progress}
 
@@ -100,3 +101,47 @@ all-told bytes room =
     go : (f c n : ℕ) (t : Bool) → (t ≡ true → f < n) → f ≤ n → f + min (cond t c 0) 1 + (n - (f + min (cond t c 0) 1)) ≡ n
     go f c n true h w = let g : f < n = h refl in omega arith
     go f c n false h w = omega arith
+
+-- ---- the loans before n, of k from the loan i on, ask for no more rows than are left, and with the loan n for more
+module _ (bytes : List ℕ) where
+  abbrev StopsAt : ℕ → ℕ → ℕ → ℕ → Type 0
+  StopsAt left i k n = (askedBy bytes n ≤ askedBy bytes i + left) × (n < k + i → askedBy bytes i + left < askedBy bytes (suc n))
+
+  at-once : (left i k : ℕ) → left < asked (loanAt bytes i) → StopsAt left i k i
+  unfolding askedBy
+  at-once left i k h = (omega arith, (λ w. omega arith))
+
+  further : (left i k n : ℕ) → asked (loanAt bytes i) ≤ left → StopsAt (left - asked (loanAt bytes i)) (suc i) k n → StopsAt left i (suc k) n
+  unfolding askedBy
+  further left i k n h s = (omega (arith, s .0), (λ w. let more = s .1 (omega arith) in omega arith))
+
+  stops-at : (left i k : ℕ) → StopsAt left i k (finishing bytes left i k + i)
+  unfolding finishing
+  stops-at left i zero = (rw (zero-add i) (omega arith), (λ w. absurd (omega arith)))
+  stops-at left i (suc k) =
+      let wanted : ℕ = asked (loanAt bytes i) in
+      go (ltb left wanted) (finishing bytes (left - wanted) (suc i) k) (ltb-true left wanted) (ltb-false left wanted) (stops-at (left - wanted) (suc i) k)
+    where
+      go : (t : Bool) (n : ℕ) → (t ≡ true → left < asked (loanAt bytes i)) → (t ≡ false → asked (loanAt bytes i) ≤ left)
+          → StopsAt (left - asked (loanAt bytes i)) (suc i) k (n + suc i) → StopsAt left i (suc k) (cond t 0 (suc n) + i)
+      go true n s r others = rw (zero-add i) (at-once left i (suc k) (s refl))
+      go false n s r others = let e : suc n + i ≡ n + suc i = omega arith in rw e (further left i k (n + suc i) (r refl) others)
+
+  -- so the room holds what all loans ask for exactly where all are finished
+  finished-asks : (room : ℕ) → StopsAt (held room) 0 (loanCount bytes) (finished bytes room)
+  unfolding finished
+  finished-asks room =
+      let e : finishing bytes (held room) 0 (loanCount bytes) + 0 ≡ finishing bytes (held room) 0 (loanCount bytes) = omega arith in
+      rw e at (stops-at (held room) 0 (loanCount bytes))
+
+  pub all-held : (room : ℕ) → loanCount bytes ≤ finished bytes room → askedBy bytes (loanCount bytes) ≤ held room
+  unfolding askedBy
+  all-held room h =
+      let e : finished bytes room ≡ loanCount bytes = omega (arith, finished-within bytes room) in
+      let s = finished-asks room .0 in
+      let w : askedBy bytes (finished bytes room) ≤ held room = omega (arith, s) in
+      rw e at w
+
+  pub not-all-held : (room : ℕ) → finished bytes room < loanCount bytes → held room < askedBy bytes (loanCount bytes)
+  unfolding askedBy
+  not-all-held room h = omega (arith, finished-asks room .1 (omega arith), next-within bytes (finished bytes room) (loanCount bytes) h)

@@ -1,19 +1,22 @@
 -- A book of loans in one call: kind 1 records end to end, each loan drawn whole, one behind the other, into one lent room.
 -- What the call answers, and what the two lent lists hold after it, on every input. Definitions only. Assumes nothing.
-use Prim.Native.Nat.{ℕ, zero, suc, _+_, _*_, _-_, _/_, _%_, min}
+use Prim.Native.Nat.{ℕ, zero, suc, _+_, _*_, _-_, _/_, min}
 use mathlib.Core.Bool.{Bool, cond, not, _&&_, _||_}
 use mathlib.Core.List.{List, [], _∷_, _++_}
-use lib.Dec.{eqb, ltb}
-use lib.ListN.{length, take, drop}
+use lib.Dec.{ltb}
+use lib.ListN.{length, drop}
 use lib.Ieee.{Float}
 use Rattle.refusals.specs.Outcome.{Outcome, refused, accepted, andThen, Line, line, judged}
+use Rattle.refusals.specs.Table.{noRoom, noRoomForAll, badTotal}
+use Rattle.steps.specs.Steps.{pieces, singles}
 use Rattle.records.specs.Kinds.{termsSize, readTerms}
+use Rattle.records.specs.EndToEnd.{recordCount, recordAt}
 use Rattle.mortgage.specs.declared.Loan.{Loan}
 use Rattle.book.specs.declared.BookDrawing.{BookDrawing}
 use Rattle.book.specs.declared.BookDrawing.the-variants as drawing-is
 use Rattle.mortgage.specs.Payment.{opened}
 use Rattle.mortgage.specs.Row.{width}
-use Rattle.mortgage.specs.RowRule.{due}
+use Rattle.mortgage.specs.Month.{due}
 use Rattle.mortgage.specs.Rows.{rows}
 
 -- ---- the loans
@@ -22,16 +25,12 @@ use Rattle.mortgage.specs.Rows.{rows}
 abbrev pub mostLoans : ℕ
 mostLoans = 256
 
--- how many records the bytes hold
+-- how many loans the bytes hold, and the loan i of them, from 0, as it is opened by itself
 abbrev pub loanCount : List ℕ → ℕ
-loanCount bytes = length bytes / termsSize
-
--- the record i of them, from 0, and its loan as it is opened by itself
-unfoldable pub recordAt : List ℕ → ℕ → List ℕ
-recordAt bytes i = take termsSize (drop (i * termsSize) bytes)
+loanCount bytes = recordCount termsSize bytes
 
 unfoldable pub loanAt : List ℕ → ℕ → Outcome Loan
-loanAt bytes i = andThen (readTerms (recordAt bytes i)) opened
+loanAt bytes i = andThen (readTerms (recordAt termsSize bytes i)) opened
 
 -- "Each loan's answer is 0 or its refusal number."
 abbrev pub answer : Outcome Loan → ℕ
@@ -43,10 +42,13 @@ abbrev pub asked : Outcome Loan → ℕ
 asked (refused k p) = 0
 asked (accepted l) = due l
 
--- the first k rows of a loan: a refused one has none
+-- the first k rows of a loan, and all that it asks for: a refused one has none
 abbrev pub firstRows : ℕ → Outcome Loan → List Float
 firstRows k (refused n p) = []
 firstRows k (accepted l) = rows k l
+
+abbrev pub allRows : Outcome Loan → List Float
+allRows o = firstRows (asked o) o
 
 -- ---- how far the work goes: "Work stops where an accepted loan's row finds no room."
 
@@ -93,14 +95,12 @@ progress bytes room = record {
 -- ---- what is written
 
 -- the rows of the first k loans, whole, one loan behind the other
-unfoldable pub rowsUpTo : List ℕ → ℕ → List Float
-rowsUpTo bytes zero = []
-rowsUpTo bytes (suc k) = rowsUpTo bytes k ++ firstRows (asked (loanAt bytes k)) (loanAt bytes k)
+abbrev pub rowsUpTo : List ℕ → ℕ → List Float
+rowsUpTo bytes k = pieces (λ (i : ℕ). allRows (loanAt bytes i)) k
 
 -- the answers of the first k loans
-unfoldable pub answersUpTo : List ℕ → ℕ → List ℕ
-answersUpTo bytes zero = []
-answersUpTo bytes (suc k) = answersUpTo bytes k ++ (answer (loanAt bytes k) ∷ [])
+abbrev pub answersUpTo : List ℕ → ℕ → List ℕ
+answersUpTo bytes k = singles (λ (i : ℕ). answer (loanAt bytes i)) k
 
 -- the room, with the loans that are finished and the one cut short: other places stay
 unfoldable pub roomAfter : List ℕ → List Float → List Float
@@ -114,15 +114,15 @@ answersAfter bytes room answers = answersUpTo bytes (answered bytes room) ++ dro
 -- ---- refusals
 
 -- 11, and nothing else: "a total length that is not a multiple of 21 or is above 256 records"
-unfoldable pub badTotal : List ℕ → Bool
-badTotal bytes = not (eqb (length bytes % termsSize) 0) || ltb mostLoans (loanCount bytes)
+abbrev pub badBook : List ℕ → Bool
+badBook bytes = badTotal termsSize mostLoans (length bytes)
 
--- 3: "too few answer places or if the first accepted loan cannot place one row": the loans before it, refused, ask for none
+-- 3: "too few answer places or if the first accepted loan cannot place one row": rows are asked for, and none fits
 unfoldable pub tooLittle : List ℕ → ℕ → ℕ → Bool
-tooLittle bytes answers room = ltb answers (loanCount bytes) || (ltb room width && ltb (finished bytes room) (loanCount bytes))
+tooLittle bytes answers room = noRoomForAll (loanCount bytes) answers 1 || noRoom (askedBy bytes (loanCount bytes)) room width
 
 abbrev pub bookLines : List ℕ → ℕ → ℕ → List Line
-bookLines bytes answers room = line 3 (not (badTotal bytes) && tooLittle bytes answers room) ∷ line 11 (badTotal bytes) ∷ []
+bookLines bytes answers room = line 3 (not (badBook bytes) && tooLittle bytes answers room) ∷ line 11 (badBook bytes) ∷ []
 
 -- what the call answers
 unfoldable pub bookDrawn : List ℕ → ℕ → ℕ → Outcome Progress

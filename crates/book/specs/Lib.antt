@@ -1,3 +1,3 @@
 pub mod Book
-pub mod Hands
+pub mod inner
 pub mod OneByOne

@@ -9,7 +9,7 @@ use Rattle.refusals.specs.Outcome.{Outcome, refused, accepted}
 use Rattle.mortgage.specs.declared.Loan.{Loan}
 use Rattle.mortgage.specs.declared.draws.Portion.{Portion}
 use Rattle.mortgage.specs.Row.{width}
-use Rattle.mortgage.specs.RowRule.{due}
+use Rattle.mortgage.specs.Month.{due}
 use Rattle.mortgage.specs.Draws.{drawn, filled}
 use Rattle.book.specs.Book.{loanAt}
 

@@ -4,10 +4,10 @@ ghost use Prim.Native.Nat.{_+_, _*_, _≤_, _<_, min};
 ghost use lib.ListN.{length};
 ghost use lib.Seq.{sets};
 ghost use Rattle.mortgage.specs.Row.{width};
-ghost use Rattle.mortgage.specs.RowRule.{endMonth, due};
-ghost use Rattle.mortgage.specs.Steps.{laid};
-ghost use Rattle.book.specs.Book.{loanCount, loanAt, asked, firstRows, askedBy, rowsUpTo};
-ghost use Rattle.book.specs.Hands.{drawnOut};
+ghost use Rattle.mortgage.specs.Month.{due};
+ghost use Rattle.steps.specs.Steps.{laid};
+ghost use Rattle.book.specs.Book.{loanCount, loanAt, asked, firstRows, allRows, askedBy, rowsUpTo};
+ghost use Rattle.book.specs.inner.Hands.{drawnOut};
 use crate::loans::open_at;
 use mortgage::Loan;
 use mortgage::draws::WIDTH;
@@ -25,7 +25,7 @@ struct Hand {
 
 // A loan with no rows, before the first one is taken in.
 fn no_loan() -> Loan
-    ensures { λ r. ⌜ (due r ≡ 0) × (r .done ≤ endMonth r) ⌝ }
+    ensures { λ r. ⌜ due r ≡ 0 ⌝ }
 {
     Loan {
         term: 0,
@@ -45,8 +45,7 @@ fn fewer(a: u32, b: u32) -> u32
 // Takes a loan in beside the one in hand: as many months of both as both have, and the one with rows left stays in hand.
 fn take_in(hand: Hand, loan: Loan, room: &mut [f64]) -> Hand
     requires { ⌜ (hand .at + due (hand .loan) * width ≤ hand .end) × (hand .end + due loan * width ≤ length (now room)) ⌝ }
-    requires { ⌜ (hand .loan .done ≤ endMonth (hand .loan)) × (loan .done ≤ endMonth loan) ⌝ }
-    ensures { λ r. ⌜ (r .end ≡ hand .end + due loan * width) × (r .at + due (r .loan) * width ≤ r .end) × (r .loan .done ≤ endMonth (r .loan)) ⌝ }
+    ensures { λ r. ⌜ (r .end ≡ hand .end + due loan * width) × (r .at + due (r .loan) * width ≤ r .end) ⌝ }
     ensures { λ r. ⌜ drawnOut (now (room .exit)) (r .at) (r .loan) ≡ drawnOut (drawnOut (now (room .entry)) (hand .at) (hand .loan)) (hand .end) loan ⌝ }
 {
     let first = hand.loan;
@@ -75,10 +74,10 @@ fn take_in(hand: Hand, loan: Loan, room: &mut [f64]) -> Hand
 
 // Takes the loan i in, unless it is refused.
 fn take_next(records: &[u8], i: usize, hand: Hand, room: &mut [f64]) -> Hand
-    requires { ⌜ (i < loanCount (now records)) × (hand .end + asked (loanAt (now records) i) * width ≤ length (now room)) ⌝ }
-    requires { ⌜ (hand .at + due (hand .loan) * width ≤ hand .end) × (hand .loan .done ≤ endMonth (hand .loan)) ⌝ }
-    ensures { λ r. ⌜ (r .end ≡ hand .end + asked (loanAt (now (records .entry)) i) * width) × (r .at + due (r .loan) * width ≤ r .end) × (r .loan .done ≤ endMonth (r .loan)) ⌝ }
-    ensures { λ r. ⌜ drawnOut (now (room .exit)) (r .at) (r .loan) ≡ sets (drawnOut (now (room .entry)) (hand .at) (hand .loan)) (hand .end) (firstRows (asked (loanAt (now (records .entry)) i)) (loanAt (now (records .entry)) i)) ⌝ }
+    requires { ⌜ i < loanCount (now records) ⌝ }
+    requires { ⌜ (hand .at + due (hand .loan) * width ≤ hand .end) × (hand .end + asked (loanAt (now records) i) * width ≤ length (now room)) ⌝ }
+    ensures { λ r. ⌜ (r .end ≡ hand .end + asked (loanAt (now (records .entry)) i) * width) × (r .at + due (r .loan) * width ≤ r .end) ⌝ }
+    ensures { λ r. ⌜ drawnOut (now (room .exit)) (r .at) (r .loan) ≡ sets (drawnOut (now (room .entry)) (hand .at) (hand .loan)) (hand .end) (allRows (loanAt (now (records .entry)) i)) ⌝ }
 {
     match open_at(records, i) {
         Opening::Refused(_) => hand,

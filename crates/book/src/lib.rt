@@ -3,7 +3,7 @@ ghost use mathlib.Core.Path.{_≡_};
 ghost use Prim.Native.Nat.{_+_, _*_, _-_, _≤_, _<_, min};
 ghost use lib.ListN.{length};
 ghost use Rattle.mortgage.specs.Row.{width};
-ghost use Rattle.book.specs.Book.{loanCount, loanAt, asked, askedBy, finished, cutShort, answered, roomAfter, answersAfter, badTotal, bookDrawn, bookRoom, bookAnswers, bookOutcome};
+ghost use Rattle.book.specs.Book.{loanCount, loanAt, asked, askedBy, finished, cutShort, answered, roomAfter, answersAfter, mostLoans, badBook, bookDrawn, bookRoom, bookAnswers, bookOutcome};
 use crate::loans::loan_count;
 use crate::plan::Plan;
 use mortgage::draws::WIDTH;
@@ -14,6 +14,9 @@ mod answers;
 mod hands;
 mod loans;
 mod plan;
+
+// The most records of a call.
+const MOST_LOANS: usize = 256;
 
 // Loans that are finished, refused ones among them; the months written of the one cut short; and the loans not started.
 pub struct BookProgress {
@@ -27,19 +30,19 @@ pub enum BookDrawing {
     Drawn(BookProgress),
 }
 
-// Line 11: a total length that is no multiple of a record's, or more than 256 records.
+// Line 11: a total length that is no multiple of a record's, or more records than a call takes.
 fn bad_total(records: &[u8]) -> bool
-    ensures { λ r. ⌜ r ≡ badTotal (now (records .entry)) ⌝ }
+    ensures { λ r. ⌜ r ≡ badBook (now (records .entry)) ⌝ }
 {
     if records.len() % TERMS_SIZE != 0 {
         return true;
     }
-    256 < loan_count(records)
+    MOST_LOANS < loan_count(records)
 }
 
 // The loans with an answer: those finished, and the one cut short.
 fn loans_answered(plan: Plan) -> usize
-    requires { ⌜ plan .finished ≤ 256 ⌝ }
+    requires { ⌜ plan .finished ≤ mostLoans ⌝ }
     ensures { λ r. ⌜ r ≡ plan .finished + min (plan .cut) 1 ⌝ }
 {
     if plan.cut == 0 {
@@ -51,7 +54,7 @@ fn loans_answered(plan: Plan) -> usize
 
 // The answers and the rows of a plan.
 fn draw_planned(records: &[u8], plan: Plan, answers: &mut [u32], room: &mut [f64]) -> BookProgress
-    requires { ⌜ (loanCount (now records) ≤ 256) × (loanCount (now records) ≤ length (now answers)) ⌝ }
+    requires { ⌜ (loanCount (now records) ≤ mostLoans) × (loanCount (now records) ≤ length (now answers)) ⌝ }
     requires { ⌜ (plan .finished ≡ finished (now records) (length (now room))) × (plan .rows ≡ askedBy (now records) (plan .finished)) × (plan .cut ≡ cutShort (now records) (length (now room))) ⌝ }
     requires { ⌜ (plan .finished ≤ loanCount (now records)) × ((plan .rows + plan .cut) * width ≤ length (now room)) × (plan .cut ≤ asked (loanAt (now records) (plan .finished))) ⌝ }
     requires { ⌜ (0 < plan .cut → plan .finished < loanCount (now records)) ⌝ }

@@ -1,9 +1,10 @@
 // The loans of a book, where they lie in its bytes.
 ghost use mathlib.Core.Path.{_≡_};
 ghost use Prim.Native.Nat.{_<_};
-ghost use Rattle.records.specs.Kinds.{readTerms, termsOutcome};
+ghost use Rattle.records.specs.Kinds.{termsSize, readTerms, termsOutcome};
+ghost use Rattle.records.specs.EndToEnd.{recordAt};
 ghost use Rattle.mortgage.specs.Payment.{opened, openingOutcome};
-ghost use Rattle.book.specs.Book.{loanCount, recordAt, loanAt, answer, asked};
+ghost use Rattle.book.specs.Book.{loanCount, loanAt, answer, asked};
 use mortgage::opening::Opening;
 use records::Terms;
 use records::TermsRead;
@@ -27,7 +28,7 @@ pub(crate) fn loan_count(records: &[u8]) -> usize
 // The record i, read.
 fn read_at(records: &[u8], i: usize) -> TermsRead
     requires { ⌜ i < loanCount (now records) ⌝ }
-    ensures { λ r. ⌜ termsOutcome r ≡ readTerms (recordAt (now (records .entry)) i) ⌝ }
+    ensures { λ r. ⌜ termsOutcome r ≡ readTerms (recordAt termsSize (now (records .entry)) i) ⌝ }
 {
     let at = i * TERMS_SIZE;
     let end = at + TERMS_SIZE;

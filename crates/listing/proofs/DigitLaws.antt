@@ -13,7 +13,7 @@ use lib.Ieee.{Float, binary64, toBits}
 use borrow.Author.Tests.{lt-ltb, le-ltb, ltb-true, ltb-false}
 use Rattle.listing.specs.Digits.{digit, hexDigits, decimalDigits, decimal}
 use Rattle.listing.specs.Listing.{spaced}
-use Rattle.listing.specs.Putting.{Put, digitsIn}
+use Rattle.listing.specs.inner.Putting.{Put, digitsIn}
 use Rattle.listing.proofs.Putting.{put-in-front}
 
 pub length-digits : (base k n : ℕ) → length (digitsIn base k n) ≡ k

@@ -1,22 +1,23 @@
--- How long the lines of a listing are, and that 96,000 bytes hold the listing of any loan. Assumes nothing.
+-- How long the lines of a listing are. Assumes nothing.
 use mathlib.Core.Path.{_≡_}
 use mathlib.Core.List.{List, [], _∷_, _++_}
-use Prim.Native.Nat.{ℕ, zero, suc, _+_, _*_, _≤_}
+use Prim.Native.Nat.{ℕ, _+_, _-_, _*_, _≤_}
 use native.Mathlib.Omega.{arith}
 use lib.ListN.{length, length-append}
 use Rattle.records.specs.declared.Row.{Row}
 use Rattle.mortgage.specs.declared.Loan.{Loan}
-use Rattle.mortgage.specs.RowRule.{rowOf}
-use Rattle.mortgage.specs.Steps.{written}
+use Rattle.mortgage.specs.Row.{width}
+use Rattle.mortgage.specs.Month.{rowOf}
 use Rattle.mortgage.specs.Rows.{after}
+use Rattle.steps.proofs.Portions.{length-at-most}
 use Rattle.listing.specs.Digits.{decimal}
 use Rattle.listing.specs.Listing.{lineEnd, spaced, rowLine, rowLines, footer, refusedLine}
-use Rattle.listing.specs.Portions.{lineRoom}
+use Rattle.listing.specs.inner.Portions.{lineRoom}
 use Rattle.listing.proofs.DigitLaws.{length-decimal, length-spaced}
 
 -- ---- a row's line and its parts
 pub record RowLengths (r : Row) : Type 0 where
-  pub line : length (rowLine r) ≡ length (decimal (r .month)) + 69
+  pub line : length (rowLine r) ≡ length (decimal (r .month)) + (width - 1) * 17 + 1
   pub payment : length (spaced (r .payment)) ≡ 17
   pub principal : length (spaced (r .principal)) ≡ 17
   pub interest : length (spaced (r .interest)) ≡ 17
@@ -50,6 +51,4 @@ length-row r = omega (arith, row-lengths r, length-decimal (r .month))
 
 -- the lines of k rows, whatever they are
 pub length-lines : (k : ℕ) (l : Loan) → length (rowLines k l) ≤ k * lineRoom
-unfolding written
-length-lines zero l = omega arith
-length-lines (suc k) l = omega (arith, length-append (rowLines k l) (rowLine (rowOf (after k l))), length-lines k l, length-row (rowOf (after k l)))
+length-lines k l = length-at-most (λ (i : ℕ). rowLine (rowOf (after i l))) lineRoom (λ i. length-row (rowOf (after i l))) k

@@ -1,33 +1,32 @@
 -- A portion of a loan that no draw with room refuses: the draw is accepted, the lines of its room are the loan's next lines, and portions follow one another. Assumes nothing.
 use mathlib.Core.Path.{_≡_, refl, sym, ap, _∙_}
 use mathlib.Core.Logic.{inl, inr}
-use mathlib.Core.Bool.{Bool, true, false, _||_}
+use mathlib.Core.Bool.{false}
 use mathlib.Core.List.{List, _++_}
-use Prim.Native.Nat.{ℕ, zero, suc, _+_, _-_, _*_, _/_, _^_, _<_, _≤_, min}
+use Prim.Native.Nat.{ℕ, _+_, _-_, _*_, _/_, _^_, _<_, _≤_, min}
 use native.Mathlib.Nat.{eq-or-lt-of-le}
 use native.Mathlib.Omega.{arith}
 use lib.ListN.{length}
 use lib.Ieee.{Float}
-use lib.Dec.{eqb, ltb}
-use borrow.Author.Tests.{ltb-false}
 use Rattle.refusals.specs.Outcome.{refused, accepted}
 use Rattle.refusals.specs.Table.{badTerm}
+use Rattle.refusals.proofs.Causes.{term-within}
 use Rattle.mortgage.specs.declared.Loan.{Loan}
 use Rattle.mortgage.specs.declared.draws.Portion.{Portion}
 use Rattle.mortgage.specs.Row.{width}
-use Rattle.mortgage.specs.RowRule.{endMonth, due, rowOf, nextOf}
-use Rattle.mortgage.specs.Steps.{stepped, written}
+use Rattle.mortgage.specs.Month.{endMonth, due, rowOf, nextOf}
+use Rattle.steps.specs.Steps.{pieces, stepped}
 use Rattle.mortgage.specs.Rows.{after}
 use Rattle.mortgage.specs.Draws.{drawn, filled}
 use Rattle.mortgage.specs.Demand3.{rowsIn}
-use Rattle.mortgage.proofs.Portions.{stepped-sum, written-sum}
-use Rattle.mortgage.proofs.RowLaws.{end-after, done-after, due-after}
+use Rattle.steps.proofs.Portions.{stepped-sum, written-sum}
+use Rattle.mortgage.proofs.RowLaws.{term-after, end-after, done-after, due-after}
 use Rattle.mortgage.proofs.DrawCases.{drawn-finished, drawn-rows}
 use Rattle.mortgage.proofs.DrawLaws.{rows-drawn, written-plus-owed, hands-on}
 use Rattle.listing.specs.declared.portions.Listed.{Listed}
 use Rattle.listing.specs.Listing.{rowLine, rowLines}
-use Rattle.listing.specs.Putting.{Put}
-use Rattle.listing.specs.Portions.{roomLines, lineRoom, Listable, Lists}
+use Rattle.listing.specs.inner.Putting.{Put}
+use Rattle.listing.specs.inner.Portions.{roomLines, lineRoom, portionRows, Listable, Lists}
 use Rattle.listing.proofs.Putting.{then, same-text, nothing, same-room}
 use Rattle.listing.proofs.Lengths.{length-lines}
 use Rattle.listing.proofs.RoomLaws.{laid-lines}
@@ -53,18 +52,14 @@ module _ (l : Loan) (room : List Float) (good : badTerm (l .term) ≡ false) (d 
   its-lines = rw e (laid-lines l (d .written) room)
 
 -- ---- a loan that is listed is as short as its term
-second-false : (a b : Bool) → a || b ≡ false → b ≡ false
-second-false true b h = cc
-second-false false b h = h
-
 pub short : (l : Loan) → badTerm (l .term) ≡ false → endMonth l ≤ 1200
-unfolding badTerm endMonth
-short l h = ltb-false 1200 (l .term) (second-false (eqb (l .term) 0) (ltb 1200 (l .term)) h)
+unfolding endMonth
+short l = term-within (l .term)
 
--- ---- the portion that is drawn into a room of twelve rows and put as lines
-module _ (s : Listed) (space : ℕ) (ok : Listable s space) (room : List Float) (twelve : length room ≡ 60) (d : Portion) (e : drawn (s .loan) room ≡ accepted d) where
-  many : d .written ≡ min (due (s .loan)) 12
-  many = as-many (s .loan) room (ok .drawable .term) d e ∙ rw twelve
+-- ---- the portion that is drawn into its room and put as lines
+module _ (s : Listed) (space : ℕ) (ok : Listable s space) (room : List Float) (size : length room ≡ portionRows * width) (d : Portion) (e : drawn (s .loan) room ≡ accepted d) where
+  many : d .written ≡ min (due (s .loan)) portionRows
+  many = as-many (s .loan) room (ok .drawable .term) d e ∙ rw size
 
   pub portion-fits : (room′ : List Float) → length room′ ≡ length room
       → (d .written * width ≤ length room′) × (s .loan .done + d .written < 2 ^ 32) × (s .at + d .written * lineRoom ≤ space)
@@ -78,7 +73,7 @@ module _ (s : Listed) (space : ℕ) (ok : Listable s space) (room : List Float) 
 
   pub portion-listed : (room′ : List Float) (at : ℕ) (o p : List ℕ) → room′ ≡ filled (s .loan) room
       → Put (roomLines (s .loan .done) room′ (d .written)) (s .at) o at p
-      → Lists (min (due (s .loan)) 12) s o (record { at = at; rows = s .rows + d .written; left = d .owed; loan = d .loan }) p × (d .owed ≡ due (d .loan))
+      → Lists (min (due (s .loan)) portionRows) s o (record { at = at; rows = s .rows + d .written; left = d .owed; loan = d .loan }) p × (d .owed ≡ due (d .loan))
   portion-listed room′ at o p f t = (
     rw (← many) record {
       rows = refl;
@@ -89,11 +84,6 @@ module _ (s : Listed) (space : ℕ) (ok : Listable s space) (room : List Float) 
   )
 
 -- ---- portions that follow one another
-term-after : (k : ℕ) (l : Loan) → after k l .term ≡ l .term
-unfolding stepped nextOf
-term-after zero l = refl
-term-after (suc k) l = term-after k l
-
 after-sum : (a b : ℕ) (l : Loan) → after (b + a) l ≡ after b (after a l)
 after-sum a b l = stepped-sum nextOf a b l
 
@@ -128,19 +118,19 @@ pub record Underway (s : Listed) (o : List ℕ) (t : Listed) (p : List ℕ) : Ty
   pub lists : Lists many s o t p
 
 pub begun : (s : Listed) (o : List ℕ) → Underway s o s o
-unfolding stepped written
+unfolding stepped pieces
 begun s o = record { many = 0; within = omega arith; lists = record { rows = omega arith; loan = refl; text = nothing (s .at) o } }
 
-pub one-more : {s t u : Listed} {o p q : List ℕ} → Underway s o t p → Lists (min (due (t .loan)) 12) t p u q → Underway s o u q
+pub one-more : {s t u : Listed} {o p q : List ℕ} → Underway s o t p → Lists (min (due (t .loan)) portionRows) t p u q → Underway s o u q
 one-more {s} {t} {u} {o} {p} {q} w b = record {
-  many = min (due (t .loan)) 12 + w .many;
+  many = min (due (t .loan)) portionRows + w .many;
   within = omega (arith, w .within, ap due (w .lists .loan) ∙ due-after (w .many) (s .loan));
   lists = follows (w .lists) b;
 }
 
 -- a portion leaves fewer
-pub fewer : {t u : Listed} {p q : List ℕ} → Lists (min (due (t .loan)) 12) t p u q → (due (u .loan) ≡ 0 → ⊥) → due (u .loan) < due (t .loan)
-fewer {t} {u} {p} {q} b h = omega (arith, ap due (b .loan) ∙ due-after (min (due (t .loan)) 12) (t .loan))
+pub fewer : {t u : Listed} {p q : List ℕ} → Lists (min (due (t .loan)) portionRows) t p u q → (due (u .loan) ≡ 0 → ⊥) → due (u .loan) < due (t .loan)
+fewer {t} {u} {p} {q} b h = omega (arith, ap due (b .loan) ∙ due-after (min (due (t .loan)) portionRows) (t .loan))
 
 -- where nothing is left, all that were due are listed
 pub all-listed : {s t : Listed} {o p : List ℕ} → Underway s o t p → due (t .loan) ≡ 0 → Lists (due (s .loan)) s o t p

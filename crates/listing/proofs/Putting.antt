@@ -2,32 +2,21 @@
 use mathlib.Core.Path.{_≡_, refl, sym, ap, _∙_}
 use mathlib.Core.List.{List, [], _∷_, _++_}
 use Prim.Native.Nat.{ℕ, suc, _+_, _<_, _≤_}
-use native.Mathlib.Nat.{add-zero, add-suc, suc-add}
+use native.Mathlib.Nat.{add-zero}
 use native.Mathlib.Numerals.{add-one}
 use native.Mathlib.Omega.{arith}
 use lib.ListN.{length, take, getD, set, length-append}
-use lib.Seq.{sets, length-sets, set-comm, take-suc, take-all, length-take-le}
-use Rattle.listing.specs.Putting.{Put}
-
--- ---- stores
-
-sets-append : (o : List ℕ) (at : ℕ) (t u : List ℕ) → sets (sets o at t) (at + length t) u ≡ sets o at (t ++ u)
-sets-append o at [] u = rw add-zero
-sets-append o at (a ∷ t) u = rw (add-suc, ← suc-add) (sets-append (set o at a) (suc at) t u)
-
-set-before : (o : List ℕ) (i j x : ℕ) (v : List ℕ) → j < i → set (sets o i v) j x ≡ sets (set o j x) i v
-set-before o i j x [] h = refl
-set-before o i j x (b ∷ v) h = set-before (set o i b) (suc i) j x v (omega arith) ∙ ap (λ (l : List ℕ). sets l (suc i) v) (set-comm o i j b x (λ e. omega arith))
+use lib.Seq.{sets, length-sets, take-suc, take-all, length-take-le}
+use Rattle.steps.proofs.Rooms.{sets-append, sets-apart}
+use Rattle.listing.specs.inner.Putting.{Put}
 
 -- a byte in front of a text that is put
 pub put-in-front : (o : List ℕ) (at x : ℕ) (v : List ℕ) → set (sets o (at + 1) v) at x ≡ sets o at (x ∷ v)
-put-in-front o at x v = rw (add-one at) (set-before o (suc at) at x v (omega arith))
+put-in-front o at x v = rw (add-one at) (sym (sets-apart v (x ∷ []) o at (suc at) (omega arith)))
 
 -- a byte behind a text that is put
 pub put-behind : (o : List ℕ) (at x : ℕ) (t : List ℕ) → set (sets o at t) (at + length t) x ≡ sets o at (t ++ x ∷ [])
-put-behind o at x t = sets-append o at t (x ∷ [])
-
--- ---- texts
+put-behind o at x t = sets-append t (x ∷ []) o at
 
 pub nothing : (at : ℕ) (o : List ℕ) → Put [] at o at o
 nothing at o = record { place = sym (add-zero at); bytes = refl }
@@ -39,7 +28,7 @@ same-text {t} {u} {at} {n} {o} {p} e h = rw e at h
 pub then : {t u : List ℕ} {at m n : ℕ} {o p q : List ℕ} → Put t at o m p → Put u m p n q → Put (t ++ u) at o n q
 then {t} {u} {at} {m} {n} {o} {p} {q} a b = record {
   place = simp length-append (omega (arith, a .place, b .place));
-  bytes = b .bytes ∙ rw (a .bytes, a .place) (sets-append o at t u);
+  bytes = b .bytes ∙ rw (a .bytes, a .place) (sets-append t u o at);
 }
 
 -- the memory stays as long as it was

@@ -1,4 +1,4 @@
--- The whole listing: the parts of a loan's lines, that 96,000 bytes hold them, and what a record gives in each case. Assumes nothing.
+-- The whole listing: the parts of a loan's lines, that the room for a listing holds them, and what a record gives in each case. Assumes nothing.
 use mathlib.Core.Path.{_≡_, refl, ap, _∙_}
 use mathlib.Core.Bool.{Bool, true, false}
 use mathlib.Core.List.{List, [], _∷_, _++_}
@@ -14,13 +14,13 @@ use Rattle.records.specs.Kinds.{readTerms}
 use Rattle.mortgage.specs.declared.Loan.{Loan}
 use Rattle.mortgage.specs.Terms.{termsLines as loanTermsLines}
 use Rattle.mortgage.specs.Payment.{payment, loanOf, openedWith, opened}
-use Rattle.mortgage.specs.RowRule.{due}
+use Rattle.mortgage.specs.Month.{due}
 use Rattle.mortgage.specs.Rows.{after}
 use Rattle.refusals.proofs.Verdicts.{accepted-value}
 use Rattle.listing.specs.declared.portions.Listed.{Listed}
 use Rattle.listing.specs.Listing.{header, rowLines, footer, refusedLine, loanLines, listed, listedSize, linesOver, saying, listing}
-use Rattle.listing.specs.Putting.{Put}
-use Rattle.listing.specs.Portions.{lineRoom, InHand, Listable, Lists}
+use Rattle.listing.specs.inner.Putting.{Put}
+use Rattle.listing.specs.inner.Portions.{lineRoom, listingRoom, InHand, Listable, Lists}
 use Rattle.listing.proofs.Putting.{then, same-text, same-room}
 use Rattle.listing.proofs.Lengths.{length-footer, length-refused, length-lines}
 use Rattle.listing.proofs.PortionLaws.{short}
@@ -46,7 +46,7 @@ unfolding due
 few-due l h = omega (arith, short l (h .term))
 
 -- ---- a loan's listing, part by part
-pub starts : (l : Loan) (at : ℕ) (o p : List ℕ) → InHand l → 96000 ≤ length o → Put header 0 o at p
+pub starts : (l : Loan) (at : ℕ) (o p : List ℕ) → InHand l → listingRoom ≤ length o → Put header 0 o at p
     → Listable (record { at = at; rows = 0; left = 0; loan = l }) (length p)
 starts l at o p h b t = record {
   drawable = h;
@@ -54,7 +54,7 @@ starts l at o p h b t = record {
   lines = omega (arith, few-due l h, t .place, same-room t);
 }
 
-pub footer-fits : (l : Loan) (at : ℕ) (o p q : List ℕ) (s : Listed) → InHand l → 96000 ≤ length o → Put header 0 o at p
+pub footer-fits : (l : Loan) (at : ℕ) (o p q : List ℕ) (s : Listed) → InHand l → listingRoom ≤ length o → Put header 0 o at p
     → Lists (due l) (record { at = at; rows = 0; left = 0; loan = l }) p s q → (m n : ℕ) → s .at + length (footer m n) ≤ length q
 footer-fits l at o p q s h b t a m n =
     omega (arith, few-due l h, t .place, same-room t, a .text .place, same-room (a .text), length-lines (due l) l, length-footer m n)
@@ -69,7 +69,7 @@ loan-listed l at n o p q r s t a e f =
     then (then t (a .text)) (same-text (rw (k, m)) f)
 
 -- ---- a loan's lines fit
-pub loan-fits : (l : Loan) → InHand l → length (loanLines l) ≤ 96000
+pub loan-fits : (l : Loan) → InHand l → length (loanLines l) ≤ listingRoom
 unfolding loanLines
 loan-fits l h =
     let f : length (footer (due l) (due (after (due l) l))) ≤ 32 = length-footer (due l) (due (after (due l) l)) in
@@ -99,7 +99,7 @@ module _ (bytes : List ℕ) where
   unfolding listedSize linesOver
   gives-refusal k p o e = (rw e, rw e)
 
-  pub gives-lines : (l : Loan) (o p : List ℕ) (r : ℕ) → listed bytes ≡ accepted (loanLines l) → InHand l → length o ≡ 96000 → Put (loanLines l) 0 o r p
+  pub gives-lines : (l : Loan) (o p : List ℕ) (r : ℕ) → listed bytes ≡ accepted (loanLines l) → InHand l → length o ≡ listingRoom → Put (loanLines l) 0 o r p
       → (accepted r ≡ listedSize bytes) × (p ≡ linesOver (listed bytes) o)
   unfolding listedSize linesOver
   gives-lines l o p r e h n t =
@@ -110,7 +110,7 @@ module _ (bytes : List ℕ) where
 abbrev sized : Outcome (List ℕ) → Outcome ℕ
 sized x = andThen x (λ (lines : List ℕ). accepted (length lines))
 
-refused-said : (x : Outcome (List ℕ)) (k p r : ℕ) (o m q : List ℕ) → refused k p ≡ sized x → m ≡ linesOver x o → length m ≡ 96000 → Put (refusedLine k p) 0 m r q
+refused-said : (x : Outcome (List ℕ)) (k p r : ℕ) (o m q : List ℕ) → refused k p ≡ sized x → m ≡ linesOver x o → length m ≡ listingRoom → Put (refusedLine k p) 0 m r q
     → (r ≡ length (saying x)) × (q ≡ saying x ++ drop r o)
 unfolding linesOver saying
 refused-said (refused j i) k p r o m q e s n t =
@@ -125,7 +125,7 @@ lines-said (refused k p) n o m e s = let z : _≡_ {A = ℕ} 0 1 = cc in absurd 
 lines-said (accepted lines) n o m e s = let f : n ≡ length lines = cc in (f, s ∙ rw f)
 
 module _ (bytes : List ℕ) where
-  pub says-refusal : (k p r : ℕ) (o m q : List ℕ) → refused k p ≡ listedSize bytes → m ≡ linesOver (listed bytes) o → length m ≡ 96000 → Put (refusedLine k p) 0 m r q
+  pub says-refusal : (k p r : ℕ) (o m q : List ℕ) → refused k p ≡ listedSize bytes → m ≡ linesOver (listed bytes) o → length m ≡ listingRoom → Put (refusedLine k p) 0 m r q
       → (r ≡ length (listing bytes)) × (q ≡ listing bytes ++ drop r o)
   unfolding listedSize listing
   says-refusal k p r o m q e s n t = refused-said (listed bytes) k p r o m q e s n t

@@ -1,4 +1,3 @@
 pub mod Digits
 pub mod Listing
-pub mod Putting
-pub mod Portions
+pub mod inner

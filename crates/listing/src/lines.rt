@@ -4,7 +4,7 @@ ghost use mathlib.Core.List.{_++_};
 ghost use lib.ListN.{length};
 ghost use Rattle.listing.specs.Digits.{decimal};
 ghost use Rattle.listing.specs.Listing.{lineEnd, rowLine, footer, refusedLine};
-ghost use Rattle.listing.specs.Putting.{Put};
+ghost use Rattle.listing.specs.inner.Putting.{Put};
 use crate::text::put_decimal;
 use crate::text::put_spaced;
 use crate::text::put_text;

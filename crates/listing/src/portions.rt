@@ -3,14 +3,17 @@ ghost use mathlib.Core.Path.{_≡_};
 ghost use Prim.Native.Nat.{_+_, _*_, _^_, _<_, _≤_, min};
 ghost use lib.ListN.{length};
 ghost use Rattle.mortgage.specs.Row.{width};
-ghost use Rattle.mortgage.specs.RowRule.{due};
+ghost use Rattle.mortgage.specs.Month.{due};
 ghost use Rattle.listing.specs.Listing.{loanLines};
-ghost use Rattle.listing.specs.Putting.{Put};
-ghost use Rattle.listing.specs.Portions.{rowAt, roomLines, lineRoom, InHand, Listable, Lists};
+ghost use Rattle.listing.specs.inner.Putting.{Put};
+ghost use Rattle.listing.specs.inner.Portions.{rowAt, roomLines, lineRoom, listingRoom, portionRows, InHand, Listable, Lists};
 use mortgage::Loan;
 use mortgage::draws::Drawing;
 use mortgage::draws::WIDTH;
 use records::Row;
+
+// The rows of a portion.
+const PORTION: usize = 12;
 
 // How far a listing has come: the place behind it, the rows listed, how many are left, and the loan in hand.
 pub(crate) struct Listed {
@@ -49,13 +52,13 @@ fn put_rows(out: &mut [u8], at: usize, done: u32, room: &[f64], count: u32) -> u
     next
 }
 
-// The next rows of a loan, at most twelve: drawn into a room, and put as lines.
+// The next rows of a loan, at most a portion's: drawn into a room, and put as lines.
 fn put_portion(out: &mut [u8], listed: Listed) -> Listed
     requires { ⌜ Listable listed (length (now out)) ⌝ }
-    ensures { λ r. ⌜ Lists (min (due (listed .loan)) 12) listed (now (out .entry)) r (now (out .exit)) ⌝ }
+    ensures { λ r. ⌜ Lists (min (due (listed .loan)) portionRows) listed (now (out .entry)) r (now (out .exit)) ⌝ }
     ensures { λ r. ⌜ r .left ≡ due (r .loan) ⌝ }
 {
-    let mut room = [0.0; 60];
+    let mut room = [0.0; PORTION * WIDTH];
     let loan = listed.loan;
     // The room holds rows and the loan is in hand, so that no draw is refused.
     let Drawing::Drawn(portion) = mortgage::draws::draw(loan, &mut room) else {
@@ -89,7 +92,7 @@ fn put_all(out: &mut [u8], start: Listed) -> Listed
 
 // A loan drawn to its end: the header, a line for each row, and how many were drawn and are left.
 pub(crate) fn put_loan(out: &mut [u8], loan: Loan) -> usize
-    requires { ⌜ InHand loan × (96000 ≤ length (now out)) ⌝ }
+    requires { ⌜ InHand loan × (listingRoom ≤ length (now out)) ⌝ }
     ensures { λ r. ⌜ Put (loanLines loan) 0 (now (out .entry)) r (now (out .exit)) ⌝ }
 {
     let header = crate::text::put_text(out, 0, b"month payment principal interest balance\n");

@@ -4,7 +4,7 @@ ghost use Prim.Native.Nat.{_+_, _<_, _≤_};
 ghost use lib.ListN.{length};
 ghost use Rattle.listing.specs.Digits.{digit as digitOf, decimal};
 ghost use Rattle.listing.specs.Listing.{spaced};
-ghost use Rattle.listing.specs.Putting.{Put, digitsIn};
+ghost use Rattle.listing.specs.inner.Putting.{Put, digitsIn};
 
 // A digit below 16: 0 to 9, then a to f.
 fn digit(d: u64) -> u8

@@ -4,16 +4,15 @@ use mathlib.Core.Bool.{Bool, false}
 use mathlib.Core.List.{List, [], _∷_, map}
 use Prim.Native.Nat.{ℕ, _*_, _≤_}
 use native.Mathlib.Omega.{arith}
-use lib.Dec.{eqb, ltb}
 use borrow.Author.Tests.{ltb-false}
 use Rattle.refusals.specs.Outcome.{accepted}
-use Rattle.refusals.specs.Table.{badTerm}
+use Rattle.refusals.specs.Table.{badTerm, noRoomForAll}
 use Rattle.refusals.proofs.Verdicts.{verdict}
 use Rattle.refusals.proofs.Judging.{None, none, skip, passed}
+use Rattle.refusals.proofs.Causes.{neither, term-within}
 use Rattle.records.specs.declared.Terms.{Terms}
 use Rattle.pool.specs.Loans.{badRecords, anyOf, unlessBad, longest, loansIn, poolLines}
-use Rattle.pool.specs.Flows.{width, tooLittle}
-use Rattle.pool.proofs.Each.{neither}
+use Rattle.pool.specs.Flows.{monthWidth, tooLittle}
 use Rattle.pool.proofs.Lines.{principals, terms}
 
 any-none : {bs : List Bool} → None bs → anyOf bs ≡ false
@@ -22,16 +21,12 @@ any-none none = refl
 any-none (skip n) = any-none n
 
 -- of every term, and so of the longest
-term-right : (n : ℕ) → badTerm n ≡ false → n ≤ 1200
-unfolding badTerm
-term-right n e = ltb-false 1200 n (neither (eqb n 0) (ltb 1200 n) e .1)
-
 longest-right : (ts : List Terms) → anyOf (map (λ (t : Terms). badTerm (t .term)) ts) ≡ false → longest ts ≤ 1200
 unfolding longest anyOf
 longest-right [] e = omega arith
 longest-right (t ∷ ts) e =
     let both = neither (badTerm (t .term)) _ e in
-    omega (arith, term-right (t .term) (both .0), longest-right ts (both .1))
+    omega (arith, term-within (t .term) (both .0), longest-right ts (both .1))
 
 module _ (bytes : List ℕ) (noRoom : Bool) (e : accepted tt ≡ verdict (poolLines bytes noRoom)) where
   all-passed : None (unlessBad bytes (principals bytes)) × None (unlessBad bytes (terms bytes)) × None (unlessBad bytes (noRoom ∷ [])) × None (badRecords bytes)
@@ -62,6 +57,6 @@ module _ (bytes : List ℕ) (noRoom : Bool) (e : accepted tt ≡ verdict (poolLi
   pub at-most-1200 : longest (loansIn bytes) ≤ 1200
   at-most-1200 = longest-right (loansIn bytes) terms-right
 
-pub enough-room : (bytes : List ℕ) (room : ℕ) → tooLittle bytes room ≡ false → longest (loansIn bytes) * width ≤ room
-unfolding tooLittle
-enough-room bytes room e = ltb-false room (longest (loansIn bytes) * width) e
+pub enough-room : (bytes : List ℕ) (room : ℕ) → tooLittle bytes room ≡ false → longest (loansIn bytes) * monthWidth ≤ room
+unfolding tooLittle noRoomForAll
+enough-room bytes room e = ltb-false room (longest (loansIn bytes) * monthWidth) e

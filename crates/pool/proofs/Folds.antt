@@ -7,9 +7,10 @@ use native.Mathlib.Omega.{arith}
 use lib.Ieee.{Float, binary64, add}
 use Rattle.numbers.specs.Clamps.{plusZero}
 use Rattle.records.specs.declared.Terms.{Terms}
-use Rattle.pool.specs.Loans.{ofEach, longest}
+use Rattle.pool.specs.Loans.{longest}
 use Rattle.pool.specs.Totals.{sumFrom, sumOf}
-use Rattle.pool.proofs.Each.{one-more}
+use Rattle.records.specs.EndToEnd.{ofEach}
+use Rattle.records.proofs.EndToEnd.{one-more}
 
 -- ---- the longest term
 longest-end : (ts : List Terms) (t : Terms) → longest (ts ++ t ∷ []) ≡ max (longest ts) (t .term)

@@ -10,7 +10,7 @@ pub mod Weights
 pub mod Walks
 pub mod Signs
 pub mod LoanMonths
-pub mod Tables
+pub mod RoomMonths
 pub mod LoanWalks
 pub mod Filling
 pub mod Written

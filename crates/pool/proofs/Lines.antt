@@ -3,10 +3,9 @@ use mathlib.Core.Path.{_≡_, sym, ap, _∙_}
 use mathlib.Core.Bool.{Bool, true, false}
 use mathlib.Core.List.{List, [], _∷_, map}
 use Prim.Native.Nat.{ℕ, _<_, _≤_}
-use lib.Dec.{ltb}
 use borrow.Author.Tests.{lt-ltb, le-ltb}
 use Rattle.refusals.specs.Outcome.{Outcome, refused, accepted, line, firstOr, judged}
-use Rattle.refusals.specs.Table.{badAmount, badTerm}
+use Rattle.refusals.specs.Table.{badAmount, badTerm, tooManyLoans}
 use Rattle.refusals.proofs.Verdicts.{verdict}
 use Rattle.records.specs.declared.Terms.{Terms}
 use Rattle.pool.specs.Loans.{loanCount, badRecords, anyOf, loansIn, poolLines}
@@ -24,7 +23,7 @@ free = accepted tt
 
 -- lines 3 and 7
 abbrev Sizes : List ℕ → Bool → Outcome Unit
-Sizes bytes noRoom = judged (line 3 noRoom ∷ line 7 (ltb 64 (loanCount bytes)) ∷ []) tt
+Sizes bytes noRoom = judged (line 3 noRoom ∷ line 7 (tooManyLoans (loanCount bytes)) ∷ []) tt
 
 module _ (bytes : List ℕ) (noRoom : Bool) where
   pub refused-3 : noRoom ≡ true → refused 3 0 ≡ placed (Sizes bytes noRoom)
@@ -32,11 +31,11 @@ module _ (bytes : List ℕ) (noRoom : Bool) where
   refused-3 e = rw e
 
   pub refused-7 : noRoom ≡ false → 64 < loanCount bytes → refused 7 0 ≡ placed (Sizes bytes noRoom)
-  unfolding judged firstOr placed
+  unfolding judged firstOr placed tooManyLoans
   refused-7 e h = rw (e, lt-ltb 64 (loanCount bytes) h)
 
   pub sizes-right : noRoom ≡ false → loanCount bytes ≤ 64 → accepted tt ≡ placed (Sizes bytes noRoom)
-  unfolding judged firstOr placed
+  unfolding judged firstOr placed tooManyLoans
   sizes-right e h = rw (e, le-ltb 64 (loanCount bytes) h)
 
   -- ---- a bad record alone decides

@@ -16,10 +16,12 @@ use Rattle.refusals.proofs.Verdicts.{accepted-value}
 use Rattle.records.specs.declared.Terms.{Terms}
 use Rattle.mortgage.specs.Payment.{payment, monthlyPayment}
 use Rattle.mortgage.specs.Terms.{termsLines}
-use Rattle.pool.specs.Loans.{ofEach, anyOf, longest}
-use Rattle.pool.specs.Flows.{width}
-use Rattle.pool.specs.Walk.{walked, loanAdded, loansAdded}
-use Rattle.pool.proofs.Each.{from, from-start, map-each, none-at}
+use Rattle.pool.specs.Loans.{anyOf, longest}
+use Rattle.pool.specs.Flows.{monthWidth}
+use Rattle.pool.specs.inner.Walk.{walked, loanAdded, loansAdded}
+use Rattle.records.specs.EndToEnd.{ofEach}
+use Rattle.records.proofs.EndToEnd.{from, from-start, map-each}
+use Rattle.pool.proofs.Each.{none-at}
 
 -- ---- the payment of a loan that is not refused
 module _ (t : Terms) (x : Number) (e : numberOutcome x ≡ monthlyPayment t) where
@@ -67,8 +69,8 @@ pub cause-at : (cause : Terms → Bool) (f : ℕ → Terms) (n i : ℕ) → anyO
 cause-at cause f n i e h = none-at (λ (j : ℕ). cause (f j)) n (rw (sym (map-each cause f n)) e) i h
 
 pub each-loan : (f : ℕ → Terms) (n i room speeds : ℕ) (t : Terms) → i < n → t ≡ f i → anyOf (map (λ (u : Terms). badAmount (u .principal)) (ofEach f n)) ≡ false
-    → anyOf (map (λ (u : Terms). badTerm (u .term)) (ofEach f n)) ≡ false → longest (ofEach f n) ≤ speeds → longest (ofEach f n) * width ≤ room
-    → (t .term ≤ speeds) × (t .term * width ≤ room) × (badAmount (t .principal) ≡ false) × (badTerm (t .term) ≡ false)
+    → anyOf (map (λ (u : Terms). badTerm (u .term)) (ofEach f n)) ≡ false → longest (ofEach f n) ≤ speeds → longest (ofEach f n) * monthWidth ≤ room
+    → (t .term ≤ speeds) × (t .term * monthWidth ≤ room) × (badAmount (t .principal) ≡ false) × (badTerm (t .term) ≡ false)
 each-loan f n i room speeds t h e a b s r =
     let l = term-at f n i h in
     rw e (omega arith, omega arith, cause-at (λ (u : Terms). badAmount (u .principal)) f n i a h, cause-at (λ (u : Terms). badTerm (u .term)) f n i b h)

@@ -1,24 +1,26 @@
 -- A pool's bytes: the kind and the terms of a record where it lies, and what is known of bytes that hold loans alone. Assumes nothing.
-use mathlib.Core.Path.{_≡_, refl, ap, _∙_}
+use mathlib.Core.Path.{_≡_, refl, sym, _∙_}
 use mathlib.Core.Bool.{Bool, true, false}
 use mathlib.Core.List.{List, [], _∷_}
-use Prim.Native.Nat.{ℕ, _+_, _-_, _*_, _%_, _<_}
+use Prim.Native.Nat.{ℕ, _*_, _%_, _<_}
 use native.Mathlib.Omega.{arith}
 use borrow.Author.Tests.{eq-eqb, ne-eqb, eqb-true, not-false}
-use lib.ListN.{length, take, drop, getD, length-take, length-drop}
-use lib.Seq.{getD-take, getD-drop}
+use lib.ListN.{length, getD}
 use Rattle.refusals.specs.Outcome.{Outcome, refused, accepted, alone, firstOr}
+use Rattle.refusals.specs.Table.{badLength}
+use Rattle.refusals.proofs.Causes.{neither}
 use Rattle.records.specs.declared.Terms.{Terms}
-use Rattle.records.specs.Kinds.{termsKind, termsSize, termsIn, readTerms}
-use Rattle.records.proofs.Judged.{given}
-use Rattle.pool.specs.Loans.{loanCount, recordAt, loanAt, ofEach, otherKind, badRecords, anyOf}
+use Rattle.records.specs.Kinds.{termsLayout, termsKind, termsSize, termsIn, readTerms}
+use Rattle.records.specs.EndToEnd.{recordAt, ofEach}
+use Rattle.records.proofs.Judged.{good as good-record, accepts}
+use Rattle.records.proofs.EndToEnd.{record-length, first-byte}
+use Rattle.pool.specs.Loans.{loanCount, loanAt, otherKind, badRecords, anyOf}
 use Rattle.pool.proofs.Placing.{byLine}
-use Rattle.pool.proofs.Each.{neither, none-at}
+use Rattle.pool.proofs.Each.{none-at}
 
 module _ (bytes : List ℕ) (i : ℕ) where
-  kind-at : getD (recordAt bytes i) 0 0 ≡ getD bytes (i * termsSize) 0
-  unfolding recordAt
-  kind-at = getD-take 21 (drop (i * 21) bytes) 0 0 (omega arith) ∙ getD-drop (i * 21) bytes 0 0 ∙ ap (λ (k : ℕ). getD bytes k 0) (omega arith)
+  kind-at : getD (recordAt termsSize bytes i) 0 0 ≡ getD bytes (i * termsSize) 0
+  kind-at = first-byte termsSize bytes i (omega arith)
 
   pub of-another-kind : (getD bytes (i * termsSize) 0 ≡ termsKind → ⊥) → otherKind bytes i ≡ true
   unfolding otherKind
@@ -28,13 +30,12 @@ module _ (bytes : List ℕ) (i : ℕ) where
   unfolding otherKind
   of-this-kind h = rw (kind-at, eq-eqb _ _ h)
 
-  kind-is : otherKind bytes i ≡ false → getD (recordAt bytes i) 0 0 ≡ termsKind
+  kind-is : otherKind bytes i ≡ false → getD (recordAt termsSize bytes i) 0 0 ≡ termsKind
   unfolding otherKind
   kind-is h = eqb-true _ _ (not-false _ h)
 
-  record-size : i < loanCount bytes → length (recordAt bytes i) ≡ termsSize
-  unfolding recordAt
-  record-size h = simp (length-take, length-drop) (omega arith)
+  record-size : i < loanCount bytes → length (recordAt termsSize bytes i) ≡ termsSize
+  record-size h = record-length termsSize bytes i (omega arith)
 
 -- ---- all records
 none-alone : (b : Bool) (cs : List Bool) → anyOf (alone b cs) ≡ false → (b ≡ false) × (anyOf cs ≡ false)
@@ -48,10 +49,12 @@ module _ (bytes : List ℕ) (good : anyOf (badRecords bytes) ≡ false) where
   unfolding badRecords
   kinds-right i h = none-at (otherKind bytes) (loanCount bytes) (none-alone _ _ good .1) i h
 
-  module _ (i : ℕ) (h : i < loanCount bytes) (part : List ℕ) (e : part ≡ recordAt bytes i) where
+  module _ (i : ℕ) (h : i < loanCount bytes) (part : List ℕ) (e : part ≡ recordAt termsSize bytes i) where
     read-is : readTerms part ≡ accepted (loanAt bytes i)
-    unfolding readTerms loanAt
-    read-is = rw e (given termsKind termsSize (recordAt bytes i) (termsIn (recordAt bytes i)) (record-size bytes i h) (kind-is bytes i (kinds-right i h)))
+    unfolding readTerms termsIn loanAt
+    read-is =
+        let right = good-record termsKind termsSize (recordAt termsSize bytes i) (record-size bytes i h) (kind-is bytes i (kinds-right i h)) in
+        rw e (sym (accepts termsLayout (recordAt termsSize bytes i) refl refl right))
 
     pub terms-read : (t : Terms) → accepted t ≡ readTerms part → t ≡ loanAt bytes i
     terms-read t g = let same : accepted t ≡ accepted (loanAt bytes i) = g ∙ read-is in cc
@@ -61,13 +64,6 @@ module _ (bytes : List ℕ) (good : anyOf (badRecords bytes) ≡ false) where
         let same : refused k p ≡ accepted (loanAt bytes i) = g ∙ read-is in
         let z : _≡_ {A = ℕ} 0 1 = cc in
         omega arith
-
--- the bytes of the record, as a part of all
-pub part-is : (bytes : List ℕ) (i : ℕ) → take (i * 21 + 21 - i * 21) (drop (i * 21) bytes) ≡ recordAt bytes i
-unfolding recordAt
-part-is bytes i =
-    let e : i * 21 + 21 - i * 21 ≡ 21 = omega arith in
-    ap (λ (k : ℕ). take k (drop (i * 21) bytes)) e
 
 -- ---- line 11: the total length first
 first-alone : {Value : Type 0} (k : ℕ) (cs : List Bool) (rest : Outcome Value) → firstOr k 0 cs rest ≡ firstOr k 0 (alone false cs) rest
@@ -82,9 +78,9 @@ first-at-0 k (c ∷ cs) rest = refl
 
 module _ (bytes : List ℕ) where
   pub of-another-length : (length bytes % termsSize ≡ 0 → ⊥) → refused 11 0 ≡ byLine 11 0 (badRecords bytes)
-  unfolding badRecords
+  unfolding badRecords badLength
   of-another-length h = rw (ne-eqb _ _ h) (first-at-0 11 (ofEach (otherKind bytes) (loanCount bytes)) (accepted tt))
 
   pub by-kinds : length bytes % termsSize ≡ 0 → byLine 11 0 (ofEach (otherKind bytes) (loanCount bytes)) ≡ byLine 11 0 (badRecords bytes)
-  unfolding badRecords
+  unfolding badRecords badLength
   by-kinds h = rw (eq-eqb _ _ h) (first-alone 11 (ofEach (otherKind bytes) (loanCount bytes)) (accepted tt))

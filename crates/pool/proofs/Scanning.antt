@@ -8,10 +8,10 @@ use native.Mathlib.Omega.{arith}
 use Rattle.numbers.specs.Whole.{largest}
 use Rattle.refusals.specs.declared.Refusal.{Refusal}
 use Rattle.refusals.specs.Outcome.{Outcome, refused, accepted, firstOr}
-use Rattle.pool.specs.Loans.{ofEach}
 use Rattle.refusals.specs.Places.{placed}
 use Rattle.pool.proofs.Placing.{byLine}
-use Rattle.pool.proofs.Each.{from, from-start, map-each}
+use Rattle.records.specs.EndToEnd.{ofEach}
+use Rattle.records.proofs.EndToEnd.{from, from-start, map-each}
 
 -- line k over the causes from i on, of n
 abbrev Rest : ℕ → (ℕ → Bool) → ℕ → ℕ → Outcome Unit

@@ -2,15 +2,17 @@
 use mathlib.Core.Path.{_≡_, refl, ap}
 use mathlib.Core.Bool.{Bool, true, false, cond}
 use mathlib.Core.List.{List, [], _∷_, map}
-use Prim.Native.Nat.{ℕ, zero, suc, _+_, _≤_, min}
+use Prim.Native.Nat.{ℕ, suc, _+_, _≤_, min}
 use native.Mathlib.Omega.{arith}
-use lib.Dec.{ltb}
+use Rattle.refusals.specs.Table.{tooManyLoans}
 use lib.ListN.{length, length-map}
 use Rattle.numbers.specs.Whole.{largest}
 use Rattle.refusals.specs.Outcome.{Outcome, refused, accepted, alone, firstOr, judged}
 use Rattle.records.specs.declared.Terms.{Terms}
-use Rattle.pool.specs.Loans.{loanCount, loanAt, ofEach, otherKind, badRecords, anyOf, unlessBad, loansIn, poolLines}
+use Rattle.pool.specs.Loans.{loanCount, loanAt, otherKind, badRecords, anyOf, unlessBad, loansIn, poolLines}
 use Rattle.refusals.specs.Places.{placed}
+use Rattle.records.specs.EndToEnd.{ofEach}
+use Rattle.records.proofs.EndToEnd.{length-each}
 use Rattle.pool.proofs.Lines.{principals, terms}
 
 as-it-is : {Value : Type 0} (k p : ℕ) (bs : List Bool) (rest : Outcome Value) → p + length bs ≤ 4294967295 → placed rest ≡ rest → placed (firstOr k p bs rest) ≡ firstOr k p bs rest
@@ -20,11 +22,6 @@ as-it-is k p (true ∷ bs) rest h e =
     let m : min p largest ≡ p = omega arith in
     ap (refused k) m
 as-it-is k p (false ∷ bs) rest h e = as-it-is k (suc p) bs rest (omega arith) e
-
-length-each : {A : Type 0} (f : ℕ → A) (n : ℕ) → length (ofEach f n) ≡ n
-unfolding ofEach
-length-each f zero = refl
-length-each f (suc n) = ap suc (length-each (λ (i : ℕ). f (suc i)) n)
 
 at-most-alone : (b : Bool) (cs : List Bool) (n : ℕ) → 1 ≤ n → length cs ≤ n → length (alone b cs) ≤ n
 at-most-alone b [] n h g = h
@@ -51,5 +48,5 @@ module _ (bytes : List ℕ) (few : loanCount bytes ≤ 4294967295) where
       as-it-is 1 0 (unlessBad bytes (principals bytes)) _ (within (principals bytes) (of-each _))
       (as-it-is 2 0 (unlessBad bytes (terms bytes)) _ (within (terms bytes) (of-each _))
       (as-it-is 3 0 (unlessBad bytes (noRoom ∷ [])) _ (within (noRoom ∷ []) (omega arith))
-      (as-it-is 7 0 (unlessBad bytes (ltb 64 (loanCount bytes) ∷ [])) _ (within (ltb 64 (loanCount bytes) ∷ []) (omega arith))
+      (as-it-is 7 0 (unlessBad bytes (tooManyLoans (loanCount bytes) ∷ [])) _ (within (tooManyLoans (loanCount bytes) ∷ []) (omega arith))
       (as-it-is 11 0 (badRecords bytes) (accepted v) (omega (arith, of-records)) refl))))

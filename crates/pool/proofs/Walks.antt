@@ -7,8 +7,8 @@ use native.Mathlib.Omega.{arith}
 use lib.Seq.{sets, set-getD}
 use lib.Ieee.{Float}
 use Rattle.pool.specs.declared.months.Month.{Month}
-use Rattle.pool.specs.Flows.{width, places}
-use Rattle.pool.specs.Walk.{monthFrom, changed, walked}
+use Rattle.pool.specs.Flows.{monthWidth, places}
+use Rattle.pool.specs.inner.Walk.{monthFrom, changed, walked}
 
 -- a month put where it lies already
 pub same-month : (room : List Float) (at : ℕ) → sets room at (places (monthFrom room at)) ≡ room
@@ -20,7 +20,7 @@ module _ (change : ℕ → Month → Month) (n : ℕ) where
       let e : n - 0 ≡ n = omega arith in
       rw e
 
-  pub turn : (k at : ℕ) (room room′ total : List Float) (m : Month) → k < n → at ≡ k * width → room′ ≡ sets room at (places m) → m ≡ change k (monthFrom room at)
+  pub turn : (k at : ℕ) (room room′ total : List Float) (m : Month) → k < n → at ≡ k * monthWidth → room′ ≡ sets room at (places m) → m ≡ change k (monthFrom room at)
       → walked change k (n - k) room ≡ total → walked change (k + 1) (n - (k + 1)) room′ ≡ total
   unfolding walked changed
   turn k at room room′ total m h ea er em e =

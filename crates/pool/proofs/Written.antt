@@ -1,9 +1,8 @@
 -- What a verdict leaves in the lent room: a refusal nothing, an acceptance the months. Assumes nothing.
 use mathlib.Core.Path.{_≡_, refl, sym, ap, _∙_}
-use mathlib.Core.List.{List, _++_}
-use Prim.Native.Nat.{ℕ, _*_}
+use mathlib.Core.List.{List}
+use Prim.Native.Nat.{ℕ}
 use native.Mathlib.Omega.{arith}
-use lib.ListN.{drop}
 use lib.Ieee.{Float}
 use Rattle.refusals.specs.declared.Refusal.{Refusal}
 use Rattle.refusals.specs.declared.Verdict.{Verdict}
@@ -11,10 +10,11 @@ use Rattle.refusals.specs.declared.Verdict.the-variants as verdict-is
 use Rattle.refusals.specs.Answers.{verdictOutcome}
 use Rattle.refusals.specs.Outcome.{Outcome, refused, accepted, Line, judged}
 use Rattle.refusals.proofs.Verdicts.{verdict, refused-alike, accepted-alike}
+use Rattle.steps.specs.Steps.{laid}
 use Rattle.records.specs.declared.Terms.{Terms}
 use Rattle.pool.specs.declared.speed.Speed.{Speed}
 use Rattle.refusals.specs.Places.{placed}
-use Rattle.pool.specs.Flows.{width, firstMonths, flowsIntoBy}
+use Rattle.pool.specs.Flows.{monthWidth, firstMonths, flowsIntoBy}
 
 module _ (ls : List Line) (v : ℕ) (loans : List Terms) (speed : Speed) (history room : List Float) where
   pub untouched : (x : Verdict) (r : Refusal) → verdictOutcome x ≡ placed (verdict ls) → x ≡ verdict-is.Refused r → room ≡ flowsIntoBy (judged ls v) loans speed history room
@@ -25,5 +25,5 @@ module _ (ls : List Line) (v : ℕ) (loans : List Terms) (speed : Speed) (histor
       go (refused k p) d g = ap (λ (o : Outcome ℕ). flowsIntoBy o loans speed history room) (refused-alike ls v k p d)
       go (accepted u) d g = let z : _≡_ {A = ℕ} 0 1 = cc in absurd (omega arith)
 
-  pub written : (n : ℕ) → n ≡ v → accepted tt ≡ verdict ls → firstMonths loans speed history n ++ drop (n * width) room ≡ flowsIntoBy (judged ls v) loans speed history room
+  pub written : (n : ℕ) → n ≡ v → accepted tt ≡ verdict ls → laid monthWidth n (firstMonths loans speed history n) room ≡ flowsIntoBy (judged ls v) loans speed history room
   written n en e = rw en (ap (λ (o : Outcome ℕ). flowsIntoBy o loans speed history room) (accepted-alike ls v e))

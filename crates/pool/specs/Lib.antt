@@ -4,4 +4,4 @@ pub mod Months
 pub mod Totals
 pub mod Flows
 pub mod Price
-pub mod Walk
+pub mod inner

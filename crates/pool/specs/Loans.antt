@@ -1,35 +1,28 @@
 -- A pool's loans, lent as kind 1 records end to end, and the lines of the table that every function over a pool meets. Definitions only. Assumes nothing.
-use Prim.Native.Nat.{ℕ, zero, suc, _*_, _/_, _%_, max}
+use Prim.Native.Nat.{ℕ, max}
 use mathlib.Core.Bool.{Bool, false, cond, not, _||_}
 use mathlib.Core.List.{List, [], _∷_, map}
-use lib.Dec.{eqb, ltb}
-use lib.ListN.{length, take, drop, getD}
+use lib.Dec.{eqb}
+use lib.ListN.{length, getD}
 use Rattle.refusals.specs.Outcome.{Line, alone}
-use Rattle.refusals.specs.Table.{badAmount, badTerm}
+use Rattle.refusals.specs.Table.{badAmount, badTerm, tooManyLoans, badLength}
 use Rattle.records.specs.declared.Terms.{Terms}
 use Rattle.records.specs.Kinds.{termsKind, termsSize, termsIn}
+use Rattle.records.specs.EndToEnd.{recordCount, recordAt, ofEach}
 
--- how many records the bytes hold, and the record i of them, from 0
+-- how many loans the bytes hold, and the loan i of them, from 0
 abbrev pub loanCount : List ℕ → ℕ
-loanCount bytes = length bytes / termsSize
-
-unfoldable pub recordAt : List ℕ → ℕ → List ℕ
-recordAt bytes i = take termsSize (drop (i * termsSize) bytes)
+loanCount bytes = recordCount termsSize bytes
 
 unfoldable pub loanAt : List ℕ → ℕ → Terms
-loanAt bytes i = termsIn (recordAt bytes i)
-
--- of each loan in order
-unfoldable pub ofEach : {A : Type 0} → (ℕ → A) → ℕ → List A
-ofEach f zero = []
-ofEach f (suc k) = f zero ∷ ofEach (λ (i : ℕ). f (suc i)) k
+loanAt bytes i = termsIn (recordAt termsSize bytes i)
 
 -- 11: a total length that is no multiple of a record's, at 0; a record of another kind, at its index
 unfoldable pub otherKind : List ℕ → ℕ → Bool
-otherKind bytes i = not (eqb (getD (recordAt bytes i) 0 0) termsKind)
+otherKind bytes i = not (eqb (getD (recordAt termsSize bytes i) 0 0) termsKind)
 
 unfoldable pub badRecords : List ℕ → List Bool
-badRecords bytes = alone (not (eqb (length bytes % termsSize) 0)) (ofEach (otherKind bytes) (loanCount bytes))
+badRecords bytes = alone (badLength termsSize (length bytes)) (ofEach (otherKind bytes) (loanCount bytes))
 
 unfoldable pub anyOf : List Bool → Bool
 anyOf [] = false
@@ -53,6 +46,6 @@ poolLines bytes noRoom =
     record { number = 1; causes = unlessBad bytes (map (λ (t : Terms). badAmount (t .principal)) (loansIn bytes)) }
     ∷ record { number = 2; causes = unlessBad bytes (map (λ (t : Terms). badTerm (t .term)) (loansIn bytes)) }
     ∷ record { number = 3; causes = unlessBad bytes (noRoom ∷ []) }
-    ∷ record { number = 7; causes = unlessBad bytes (ltb 64 (loanCount bytes) ∷ []) }
+    ∷ record { number = 7; causes = unlessBad bytes (tooManyLoans (loanCount bytes) ∷ []) }
     ∷ record { number = 11; causes = badRecords bytes }
     ∷ []

@@ -1,22 +1,23 @@
 -- A loan's month in a pool, rule 1: the state that goes in, the three numbers, and the state that comes out; and its sums over a pool. Definitions only. Assumes nothing.
 use Prim.Native.Nat.{ℕ, zero, suc}
-use mathlib.Core.Bool.{cond}
+use mathlib.Core.Bool.{false, cond}
 use mathlib.Core.List.{List, [], _∷_}
 use lib.Dec.{ltb}
-use lib.Ieee.{Float, binary64, add, sub, mul, le}
-use Rattle.numbers.specs.Clamps.{plusZero, raised, lowered}
+use lib.Ieee.{Float, binary64, add, mul, le}
+use Rattle.numbers.specs.Clamps.{plusZero}
 use Rattle.records.specs.declared.Terms.{Terms}
 use Rattle.mortgage.specs.Payment.{monthlyRate, payment, loanOf}
+use Rattle.mortgage.specs.RowRule.{interestOf, principalOf, leftOf}
 use Rattle.mortgage.specs.Totals.{balanceAfter}
 use Rattle.pool.specs.declared.months.Month.{Month}
 
--- a loan's month: its balance goes in, scheduled principal, interest and prepayment at a speed come out, and the balance of the next month: "each loan's scheduled balance, which earlier prepayments do not lower"
+-- a loan's month: its balance goes in, scheduled principal, interest and prepayment at a speed come out, and the balance of the next month: "each loan's scheduled balance, which earlier prepayments do not lower".
+-- By the row rule, with no month the last
 unfoldable pub loanMonth : Terms → Float → Float → Month × Float
 loanMonth t balance speed =
-    let interest : Float = mul binary64 balance (monthlyRate (t .rate)) in
-    let scheduled : Float = lowered (raised (sub binary64 (payment t) interest)) balance in
-    let left : Float = sub binary64 balance scheduled in
-    (record { principal = scheduled; interest = interest; prepayment = mul binary64 left speed }, left)
+    let r : Float = monthlyRate (t .rate) in
+    let left : Float = leftOf false (payment t) r balance in
+    (record { principal = principalOf false (payment t) r balance; interest = interestOf r balance; prepayment = mul binary64 left speed }, left)
 
 abbrev pub nothing : Month
 nothing = record { principal = plusZero; interest = plusZero; prepayment = plusZero }

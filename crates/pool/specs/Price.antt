@@ -2,24 +2,18 @@
 use Prim.Native.Nat.{ℕ, suc}
 use mathlib.Core.Bool.{false, cond}
 use mathlib.Core.List.{List}
-use lib.Ieee.{Float, binary64, add, sub, mul, div, eq, ofBits}
+use lib.Ieee.{Float, binary64, add, sub, mul, div, eq}
+use Rattle.numbers.specs.Literals.{one, two, basisPoint}
 use Rattle.numbers.specs.Clamps.{plusZero}
 use Rattle.numbers.specs.Sums.{addedUp}
 use Rattle.refusals.specs.Outcome.{Outcome, judged}
-use Rattle.elementary.specs.WholePower.{one, wholePower}
+use Rattle.elementary.specs.WholePower.{wholePower}
 use Rattle.records.specs.declared.Terms.{Terms}
 use Rattle.mortgage.specs.Payment.{monthlyRate}
 use Rattle.pool.specs.declared.speed.Speed.{Speed}
 use Rattle.pool.specs.declared.months.Month.{Month}
 use Rattle.pool.specs.Loans.{longest, loansIn, poolLines}
 use Rattle.pool.specs.Flows.{flowsIn}
-
--- 2, 0.0001
-abbrev pub two : Float
-two = ofBits binary64 0x4000_0000_0000_0000
-
-abbrev pub basisPoint : Float
-basisPoint = ofBits binary64 0x3f1a_36e2_eb1c_432d
 
 -- a month's money, principal + interest + prepayment, over (1 + r)^month
 abbrev pub moneyOf : Month → Float

@@ -5,22 +5,12 @@ use mathlib.Core.List.{List}
 use lib.Dec.{leb}
 use lib.IntN.{pos}
 use lib.ListN.{getD}
-use lib.Ieee.{Float, binary64, sub, mul, div, ofInt, ofBits}
+use lib.Ieee.{Float, binary64, sub, mul, div, ofInt}
+use Rattle.numbers.specs.Literals.{one, twelve, thirty, sixPercent}
 use Rattle.numbers.specs.Clamps.{plusZero}
-use Rattle.elementary.specs.WholePower.{one}
 use Rattle.elementary.specs.Power.{power}
 use Rattle.pool.specs.declared.speed.Speed.{Speed}
 use Rattle.pool.specs.declared.speed.Speed.the-variants.{Cpr, Psa, History}
-
--- 12, 0.06, 30
-abbrev pub twelve : Float
-twelve = ofBits binary64 0x4028_0000_0000_0000
-
-abbrev pub sixPercent : Float
-sixPercent = ofBits binary64 0x3fae_b851_eb85_1eb8
-
-abbrev pub thirty : Float
-thirty = ofBits binary64 0x403e_0000_0000_0000
 
 -- "SMM = 1 - (1-cpr)^(1/12)"
 unfoldable pub monthly : Float → Float

@@ -2,20 +2,21 @@
 ghost use mathlib.Core.Path.{_≡_};
 ghost use mathlib.Core.Bool.{false};
 ghost use mathlib.Core.List.{_++_, map};
-ghost use Prim.Native.Nat.{ℕ, suc, _*_, _<_, _≤_};
-ghost use lib.ListN.{length, getD, drop};
-ghost use lib.Ieee.{nan};
+ghost use Prim.Native.Nat.{ℕ, suc, _*_, _≤_};
+ghost use lib.ListN.{length, drop};
 ghost use Rattle.refusals.specs.Answers.{countOutcome};
 ghost use Rattle.refusals.specs.Table.{badAmount, badTerm};
+ghost use Rattle.steps.specs.Steps.{singles, laid};
 ghost use Rattle.pool.specs.Speed.{smm};
 ghost use Rattle.pool.specs.Loans.{badRecords, anyOf, longest, loansIn};
 ghost use Rattle.refusals.specs.Places.{placed};
-ghost use Rattle.pool.specs.Flows.{width, firstMonths, cashFlows, flowsInto};
-ghost use Rattle.pool.specs.Walk.{loansAdded};
+ghost use Rattle.pool.specs.Flows.{monthWidth, firstMonths, cashFlows, flowsInto};
+ghost use Rattle.pool.specs.inner.Walk.{loansAdded};
 use crate::loans::judge_pool;
 use crate::loans::loan_at;
 use crate::loans::loan_count;
 use crate::loans::longest_term;
+use crate::months::MOST_MONTHS;
 use crate::months::clear_months;
 use crate::speed::Speed;
 use crate::speed::monthly_smm;
@@ -26,7 +27,7 @@ use refusals::Verdict;
 // The speed of each month.
 fn set_speeds(speed: Speed, history: &[f64], speeds: &mut [f64], months: u32)
     requires { ⌜ (months ≤ length (now speeds)) × (months ≤ 1200) ⌝ }
-    ensures { λ _. ⌜ ((k : ℕ) → k < months → getD (now (speeds .exit)) k nan ≡ smm speed (now (history .entry)) (suc k)) ⌝ }
+    ensures { λ _. ⌜ now (speeds .exit) ≡ singles (λ (k : ℕ). smm speed (now (history .entry)) (suc k)) months ++ drop months (now (speeds .entry)) ⌝ }
 {
     let mut k: u32 = 0;
     while k < months {
@@ -38,7 +39,7 @@ fn set_speeds(speed: Speed, history: &[f64], speeds: &mut [f64], months: u32)
 
 // Loan after loan, so that each month's sums grow in the loans' order.
 fn add_loans(bytes: &[u8], speeds: &[f64], room: &mut [f64])
-    requires { ⌜ (anyOf (badRecords (now bytes)) ≡ false) × (anyOf (map (λ t. badAmount (t .principal)) (loansIn (now bytes))) ≡ false) × (anyOf (map (λ t. badTerm (t .term)) (loansIn (now bytes))) ≡ false) × (longest (loansIn (now bytes)) ≤ length (now speeds)) × (longest (loansIn (now bytes)) * width ≤ length (now room)) ⌝ }
+    requires { ⌜ (anyOf (badRecords (now bytes)) ≡ false) × (anyOf (map (λ t. badAmount (t .principal)) (loansIn (now bytes))) ≡ false) × (anyOf (map (λ t. badTerm (t .term)) (loansIn (now bytes))) ≡ false) × (longest (loansIn (now bytes)) ≤ length (now speeds)) × (longest (loansIn (now bytes)) * monthWidth ≤ length (now room)) ⌝ }
     ensures { λ _. ⌜ now (room .exit) ≡ loansAdded (now (speeds .entry)) (loansIn (now (bytes .entry))) (now (room .entry)) ⌝ }
 {
     let count = loan_count(bytes);
@@ -59,10 +60,10 @@ pub(crate) fn fill_months(
     room: &mut [f64],
 )
     requires { ⌜ (anyOf (badRecords (now bytes)) ≡ false) × (anyOf (map (λ t. badAmount (t .principal)) (loansIn (now bytes))) ≡ false) × (anyOf (map (λ t. badTerm (t .term)) (loansIn (now bytes))) ≡ false) ⌝ }
-    requires { ⌜ (months ≡ longest (loansIn (now bytes))) × (months ≤ 1200) × (months * width ≤ length (now room)) ⌝ }
-    ensures { λ _. ⌜ now (room .exit) ≡ firstMonths (loansIn (now (bytes .entry))) speed (now (history .entry)) months ++ drop (months * width) (now (room .entry)) ⌝ }
+    requires { ⌜ (months ≡ longest (loansIn (now bytes))) × (months ≤ 1200) × (months * monthWidth ≤ length (now room)) ⌝ }
+    ensures { λ _. ⌜ now (room .exit) ≡ laid monthWidth months (firstMonths (loansIn (now (bytes .entry))) speed (now (history .entry)) months) (now (room .entry)) ⌝ }
 {
-    let mut speeds = [0.0; 1200];
+    let mut speeds = [0.0; MOST_MONTHS];
     set_speeds(speed, history, &mut speeds, months);
     clear_months(room, months);
     add_loans(bytes, &speeds, room);

@@ -3,13 +3,14 @@ ghost use mathlib.Core.Path.{_≡_};
 ghost use mathlib.Core.Bool.{false, _&&_};
 ghost use mathlib.Core.List.{[], _∷_, map};
 ghost use Prim.Native.Nat.{_<_, max};
-ghost use lib.Dec.{ltb};
 ghost use Rattle.refusals.specs.Outcome.{accepted, line, firstOr, judged};
 ghost use Rattle.refusals.specs.Answers.{verdictOutcome};
-ghost use Rattle.refusals.specs.Table.{badAmount, badTerm};
-ghost use Rattle.pool.specs.Loans.{loanCount, loanAt, ofEach, otherKind, badRecords, anyOf, longest, loansIn, poolLines};
+ghost use Rattle.refusals.specs.Table.{badAmount, badTerm, tooManyLoans};
+ghost use Rattle.records.specs.EndToEnd.{ofEach};
+ghost use Rattle.pool.specs.Loans.{loanCount, loanAt, otherKind, badRecords, anyOf, longest, loansIn, poolLines};
 ghost use Rattle.refusals.specs.Places.{placed};
 ghost use Rattle.pool.specs.Flows.{tooLittle};
+use crate::months::WIDTH;
 use records::Terms;
 use records::TermsRead;
 use records::terms_record::TERMS_KIND;
@@ -126,7 +127,7 @@ fn lacks_room(bytes: &[u8], asked: bool, room: usize) -> bool
     ensures { λ r. ⌜ r ≡ (asked && tooLittle (now (bytes .entry)) room) ⌝ }
 {
     if asked {
-        return room < longest_term(bytes) as usize * 3;
+        return room < longest_term(bytes) as usize * WIDTH;
     }
     false
 }
@@ -134,7 +135,7 @@ fn lacks_room(bytes: &[u8], asked: bool, room: usize) -> bool
 // Lines 3 and 7.
 fn judge_sizes(bytes: &[u8], asked: bool, room: usize) -> Verdict
     requires { ⌜ anyOf (badRecords (now bytes)) ≡ false ⌝ }
-    ensures { λ r. ⌜ verdictOutcome r ≡ placed (judged (line 3 (asked && tooLittle (now (bytes .entry)) room) ∷ line 7 (ltb 64 (loanCount (now (bytes .entry)))) ∷ []) tt) ⌝ }
+    ensures { λ r. ⌜ verdictOutcome r ≡ placed (judged (line 3 (asked && tooLittle (now (bytes .entry)) room) ∷ line 7 (tooManyLoans (loanCount (now (bytes .entry)))) ∷ []) tt) ⌝ }
 {
     if lacks_room(bytes, asked, room) {
         return Verdict::Refused(refusals::refuse(3));

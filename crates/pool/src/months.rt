@@ -7,11 +7,14 @@ ghost use lib.Seq.{sets};
 ghost use lib.Ieee.{lt};
 ghost use Rattle.numbers.specs.Clamps.{plusZero};
 ghost use Rattle.pool.specs.Months.{nothing, plus};
-ghost use Rattle.pool.specs.Flows.{width, places};
-ghost use Rattle.pool.specs.Walk.{monthFrom, walked};
+ghost use Rattle.pool.specs.Flows.{monthWidth, places};
+ghost use Rattle.pool.specs.inner.Walk.{monthFrom, walked};
 
 // The number of places of a month.
 pub const WIDTH: usize = 3;
+
+// No loan has more months.
+pub(crate) const MOST_MONTHS: usize = 1200;
 
 pub struct Month {
     pub principal: f64,
@@ -21,7 +24,7 @@ pub struct Month {
 
 // A month's numbers, from a place of the room.
 fn put_month(room: &mut [f64], at: usize, month: Month)
-    requires { ⌜ at + width ≤ length (now room) ⌝ }
+    requires { ⌜ at + monthWidth ≤ length (now room) ⌝ }
     ensures { λ _. ⌜ now (room .exit) ≡ sets (now (room .entry)) at (places month) ⌝ }
 {
     room[at] = month.principal;
@@ -31,7 +34,7 @@ fn put_month(room: &mut [f64], at: usize, month: Month)
 
 // Adds to the month that lies there.
 pub(crate) fn add_month(room: &mut [f64], at: usize, principal: f64, interest: f64, prepayment: f64)
-    requires { ⌜ at + width ≤ length (now room) ⌝ }
+    requires { ⌜ at + monthWidth ≤ length (now room) ⌝ }
     ensures { λ _. ⌜ now (room .exit) ≡ sets (now (room .entry)) at (places (plus (monthFrom (now (room .entry)) at) (record { principal = principal; interest = interest; prepayment = prepayment }))) ⌝ }
 {
     let month = Month {
@@ -51,7 +54,7 @@ pub(crate) fn add_above(
     interest: f64,
     prepayment: f64,
 )
-    requires { ⌜ at + width ≤ length (now room) ⌝ }
+    requires { ⌜ at + monthWidth ≤ length (now room) ⌝ }
     ensures { λ _. ⌜ now (room .exit) ≡ sets (now (room .entry)) at (places (cond (lt plusZero balance) (plus (monthFrom (now (room .entry)) at) (record { principal = principal; interest = interest; prepayment = prepayment })) (monthFrom (now (room .entry)) at))) ⌝ }
 {
     if balance > 0.0 {
@@ -61,7 +64,7 @@ pub(crate) fn add_above(
 
 // So many months of +0.
 pub(crate) fn clear_months(room: &mut [f64], months: u32)
-    requires { ⌜ months * width ≤ length (now room) ⌝ }
+    requires { ⌜ months * monthWidth ≤ length (now room) ⌝ }
     ensures { λ _. ⌜ now (room .exit) ≡ walked (λ _ _. nothing) 0 months (now (room .entry)) ⌝ }
 {
     let mut at: usize = 0;

@@ -11,15 +11,17 @@ ghost use Rattle.refusals.specs.Table.{badAmount, badTerm};
 ghost use Rattle.mortgage.specs.Payment.{monthlyRate};
 ghost use Rattle.pool.specs.Loans.{badRecords, anyOf, longest, loansIn};
 ghost use Rattle.refusals.specs.Places.{placed};
-ghost use Rattle.pool.specs.Flows.{width};
+ghost use Rattle.pool.specs.Flows.{monthWidth};
 ghost use Rattle.pool.specs.Price.{priceAt, durationFor, convexityFor, poolPrice, poolDuration, poolConvexity};
-ghost use Rattle.pool.specs.Walk.{worthIn};
+ghost use Rattle.pool.specs.inner.Walk.{worthIn};
 use crate::flows::fill_months;
 use crate::loans::judge_pool;
 use crate::loans::longest_term;
+use crate::months::MOST_MONTHS;
 use crate::months::WIDTH;
 use crate::speed::Speed;
 use elementary::whole_power::whole_power;
+use mortgage::payment::monthly_rate;
 use refusals::Number;
 use refusals::Verdict;
 
@@ -32,10 +34,10 @@ struct Prices {
 
 // The months of a room, each over its power of 1 + r, added left to right from +0.
 fn price_over(room: &[f64], months: u32, rate: f64) -> f64
-    requires { ⌜ (months * width ≤ length (now room)) × (months ≤ 1200) ⌝ }
+    requires { ⌜ (months * monthWidth ≤ length (now room)) × (months ≤ 1200) ⌝ }
     ensures { λ r. ⌜ r ≡ addedUp (worthIn (now (room .entry)) (monthlyRate rate)) months ⌝ }
 {
-    let base = 1.0 + rate / 12.0;
+    let base = 1.0 + monthly_rate(rate);
     let mut total = 0.0;
     let mut at: usize = 0;
     let mut k: u32 = 0;
@@ -53,7 +55,7 @@ fn price_at(bytes: &[u8], speed: Speed, history: &[f64], rate: f64) -> f64
     requires { ⌜ (anyOf (badRecords (now bytes)) ≡ false) × (anyOf (map (λ t. badAmount (t .principal)) (loansIn (now bytes))) ≡ false) × (anyOf (map (λ t. badTerm (t .term)) (loansIn (now bytes))) ≡ false) × (longest (loansIn (now bytes)) ≤ 1200) ⌝ }
     ensures { λ r. ⌜ r ≡ priceAt (loansIn (now (bytes .entry))) speed (now (history .entry)) rate ⌝ }
 {
-    let mut room = [0.0; 3600];
+    let mut room = [0.0; MOST_MONTHS * WIDTH];
     let months = longest_term(bytes);
     fill_months(bytes, speed, history, months, &mut room);
     price_over(&room, months, rate)
@@ -64,7 +66,7 @@ fn prices_at(bytes: &[u8], speed: Speed, history: &[f64], bump: f64, rate: f64) 
     requires { ⌜ (anyOf (badRecords (now bytes)) ≡ false) × (anyOf (map (λ t. badAmount (t .principal)) (loansIn (now bytes))) ≡ false) × (anyOf (map (λ t. badTerm (t .term)) (loansIn (now bytes))) ≡ false) × (longest (loansIn (now bytes)) ≤ 1200) ⌝ }
     ensures { λ r. ⌜ (r .at ≡ priceAt (loansIn (now (bytes .entry))) speed (now (history .entry)) rate) × (r .up ≡ priceAt (loansIn (now (bytes .entry))) speed (now (history .entry)) (add binary64 rate bump)) × (r .down ≡ priceAt (loansIn (now (bytes .entry))) speed (now (history .entry)) (sub binary64 rate bump)) ⌝ }
 {
-    let mut room = [0.0; 3600];
+    let mut room = [0.0; MOST_MONTHS * WIDTH];
     let months = longest_term(bytes);
     fill_months(bytes, speed, history, months, &mut room);
     let at = price_over(&room, months, rate);

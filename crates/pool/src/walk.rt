@@ -6,11 +6,12 @@ ghost use lib.ListN.{length};
 ghost use Rattle.refusals.specs.Table.{badAmount, badTerm};
 ghost use Rattle.mortgage.specs.Payment.{payment, loanOf};
 ghost use Rattle.mortgage.specs.Rows.{after};
-ghost use Rattle.pool.specs.Flows.{width};
-ghost use Rattle.pool.specs.Walk.{loanAdded, walked};
+ghost use Rattle.pool.specs.Flows.{monthWidth};
+ghost use Rattle.pool.specs.inner.Walk.{loanAdded, walked};
 use crate::months::WIDTH;
 use crate::months::add_above;
 use crate::months::add_month;
+use mortgage::payment::monthly_rate;
 use numbers::clamps::lower_to;
 use numbers::clamps::raise_to_zero;
 use records::Terms;
@@ -24,10 +25,10 @@ struct Run {
 
 // The first months, up to one whose principal a bound changes: the bounds are ways out of the loop, so that each month waits only for a product and two differences.
 fn ordinary_months(terms: Terms, pay: f64, speeds: &[f64], room: &mut [f64]) -> Run
-    requires { ⌜ (pay ≡ payment terms) × (terms .term ≤ length (now speeds)) × (terms .term * width ≤ length (now room)) ⌝ }
+    requires { ⌜ (pay ≡ payment terms) × (terms .term ≤ length (now speeds)) × (terms .term * monthWidth ≤ length (now room)) ⌝ }
     ensures { λ r. ⌜ (r .count ≤ terms .term) × (r .count < terms .term → r .balance ≡ after (r .count) (loanOf terms (payment terms)) .balance) × (walked (loanAdded terms (now (speeds .entry))) (r .count) (terms .term - r .count) (now (room .exit)) ≡ walked (loanAdded terms (now (speeds .entry))) 0 (terms .term) (now (room .entry))) ⌝ }
 {
-    let rate = terms.rate / 12.0;
+    let rate = monthly_rate(terms.rate);
     let mut balance = terms.principal;
     let mut at: usize = 0;
     let mut k: u32 = 0;
@@ -54,11 +55,11 @@ fn ordinary_months(terms: Terms, pay: f64, speeds: &[f64], room: &mut [f64]) -> 
 
 // The months that are left, whatever they are.
 fn any_months(terms: Terms, pay: f64, run: Run, speeds: &[f64], room: &mut [f64])
-    requires { ⌜ (pay ≡ payment terms) × (terms .term ≤ length (now speeds)) × (terms .term * width ≤ length (now room)) × (badAmount (terms .principal) ≡ false) ⌝ }
+    requires { ⌜ (pay ≡ payment terms) × (terms .term ≤ length (now speeds)) × (terms .term * monthWidth ≤ length (now room)) × (badAmount (terms .principal) ≡ false) ⌝ }
     requires { ⌜ (run .count ≤ terms .term) × (run .count < terms .term → run .balance ≡ after (run .count) (loanOf terms (payment terms)) .balance) ⌝ }
     ensures { λ _. ⌜ now (room .exit) ≡ walked (loanAdded terms (now (speeds .entry))) (run .count) (terms .term - run .count) (now (room .entry)) ⌝ }
 {
-    let rate = terms.rate / 12.0;
+    let rate = monthly_rate(terms.rate);
     let mut balance = run.balance;
     let mut at = run.count as usize * WIDTH;
     let mut k = run.count;
@@ -82,7 +83,7 @@ fn any_months(terms: Terms, pay: f64, run: Run, speeds: &[f64], room: &mut [f64]
 
 // All months of a loan.
 pub(crate) fn add_loan(terms: Terms, speeds: &[f64], room: &mut [f64])
-    requires { ⌜ (terms .term ≤ length (now speeds)) × (terms .term * width ≤ length (now room)) × (badAmount (terms .principal) ≡ false) × (badTerm (terms .term) ≡ false) ⌝ }
+    requires { ⌜ (terms .term ≤ length (now speeds)) × (terms .term * monthWidth ≤ length (now room)) × (badAmount (terms .principal) ≡ false) × (badTerm (terms .term) ≡ false) ⌝ }
     ensures { λ _. ⌜ now (room .exit) ≡ walked (loanAdded terms (now (speeds .entry))) 0 (terms .term) (now (room .entry)) ⌝ }
 {
     // No loan that is left is refused.

@@ -5,7 +5,7 @@ use denote.Ref.{now}
 use borrow.Author.Needs.{needs}
 use Rattle.mortgage.specs.Payment.{openingOutcome}
 use Rattle.book.specs.Book.{loanAt}
-use Rattle.book.proofs.Taking.{no-first, refused-first, first-laid, may-lay}
+use Rattle.book.proofs.Taking.{no-first, refused-first, first-laid}
 use Rattle.book.proofs.hands.lay_first.Statement.{statement}
 use Rattle.book.proofs.hands.lay_first.Tie as tie
 
@@ -22,10 +22,7 @@ enum-known-loan : tie.Need-enum-known-loan
 enum-known-loan c = search needs
 
 lay-at-requires : tie.Need-lay-at-requires
-lay-at-requires c κs =
-    let s = c .before .before .before .before .before .before .before .before in
-    let a = s .args in
-    (omega arith, may-lay (now (a .records)) (a .i) (a .count) _ (sym (ap openingOutcome (c .before .before .loan .given .1)) ∙ c .before .before .before .before .open-at .ensures) (s .pre .0 .1))
+lay-at-requires c κs = search needs
 
 returns-2 : tie.Need-returns-2
 returns-2 c =
@@ -37,9 +34,9 @@ same-length c = search needs
 
 returns-3 : tie.Need-returns-3
 returns-3 c =
-    let a = c .before .before .before .before .before .before .before .before .before .before .before .args in
-    let y = c .before .before .lay-at in
-    y .ensures .1 ∙ first-laid (now (a .room)) (a .at) (a .count) _ _ (sym (ap openingOutcome (c .before .before .before .before .before .loan .given .1)) ∙ c .before .before .before .before .before .before .before .open-at .ensures)
+    let s = c .before .before .before .before .before .before .before .before .before .before .before in
+    let a = s .args in
+    first-laid (now (a .room)) (a .at) (a .count) _ _ _ (sym (ap openingOutcome (c .before .before .before .before .before .loan .given .1)) ∙ c .before .before .before .before .before .before .before .open-at .ensures) (s .pre .0 .0) (s .pre .0 .1) (c .before .before .lay-at .ensures .1)
 
 pub lay-first-spec : {M : Type 1} → statement M
 lay-first-spec =

@@ -4,7 +4,7 @@ use Prim.Native.Nat.{_-_}
 use native.Mathlib.Omega.{arith}
 use denote.Ref.{now}
 use borrow.Author.Needs.{needs}
-use Rattle.book.proofs.Taking.{Underway, begun, may-take-next, a-turn, may-finish, finishes}
+use Rattle.book.proofs.Taking.{Underway, begun, may-take-next, a-turn, finishes}
 use Rattle.book.proofs.hands.lay_loans.Statement.{statement}
 use Rattle.book.proofs.hands.lay_loans.Tie as tie
 
@@ -18,7 +18,7 @@ no-loan-requires : tie.Need-no-loan-requires Inv-loop μ-loop
 no-loan-requires c κs = search needs
 
 loop-holds : tie.Need-loop-holds Inv-loop μ-loop
-loop-holds c = let a = c .before .before .before .args in begun (now (a .records)) (now (a .room)) (a .count) _ (c .no-loan .ensures .0) (c .no-loan .ensures .1)
+loop-holds c = let a = c .before .before .before .args in begun (now (a .records)) (now (a .room)) (a .count) _ (c .no-loan .ensures)
 
 take-next-requires : tie.Need-take-next-requires Inv-loop μ-loop
 take-next-requires c κs =
@@ -43,19 +43,16 @@ rows-due-requires : tie.Need-rows-due-requires Inv-loop μ-loop
 rows-due-requires c κs = search needs
 
 lay-at-requires : tie.Need-lay-at-requires Inv-loop μ-loop
-lay-at-requires c κs =
-    let h = c .before .before .before .before .loop in
-    let s = c .before .before .before .before .before .before .before .before in
-    may-finish (now (s .args .records)) (now (s .args .room)) (s .args .count) (h .room) (h .hand .loan) (h .hand .at) (h .hand .end) (h .i) (h .inv) (omega arith) (s .pre .1) _ (c .rows-due .ensures)
+lay-at-requires c κs = search needs
 
 same-length : tie.Need-same-length Inv-loop μ-loop
-same-length c = c .before .before .lay-at .kept .1 .0 ∙ c .before .before .before .before .before .before .before .loop .inv .5
+same-length c = c .before .before .lay-at .kept .1 .0 ∙ c .before .before .before .before .before .before .before .loop .inv .4
 
 returns : tie.Need-returns Inv-loop μ-loop
 returns c =
     let h = c .before .before .before .before .before .before .before .loop in
     let s = c .before .before .before .before .before .before .before .before .before .before .before in
-    finishes (now (s .args .records)) (now (s .args .room)) (s .args .count) (h .room) (h .hand .loan) (h .hand .at) (h .hand .end) (h .i) (h .inv) (omega arith) _ _ (c .before .before .before .rows-due .ensures) (c .before .before .lay-at .ensures .1)
+    finishes (now (s .args .records)) (now (s .args .room)) (s .args .count) (h .room) (h .hand .loan) (h .hand .at) (h .hand .end) (h .i) (h .inv) (omega arith) (s .pre .1) _ _ (c .before .before .before .rows-due .ensures) (c .before .before .lay-at .ensures .1)
 
 pub lay-loans-spec : {M : Type 1} → statement M
 lay-loans-spec =

@@ -1,7 +1,7 @@
 -- `book::hands::take_in` meets its contract: whichever loan stays in hand, its end is the end of both. Assumes nothing.
 use denote.Ref.{now}
 use borrow.Author.Needs.{needs}
-use Rattle.book.proofs.Taking.{stays, follows, both-fit, fewer-fit}
+use Rattle.book.proofs.Taking.{stays, follows, all-of-both, fewer-fit}
 use Rattle.book.proofs.hands.take_in.Statement.{statement}
 use Rattle.book.proofs.hands.take_in.Tie as tie
 
@@ -15,13 +15,7 @@ fewer-requires : tie.Need-fewer-requires
 fewer-requires c κs = search needs
 
 lay-both-requires : tie.Need-lay-both-requires
-lay-both-requires c κs =
-    let f = c .before .fewer in
-    let second = c .before .before .rows-due2 in
-    let first = c .before .before .before .rows-due in
-    let s = c .before .before .before .before .before .before in
-    let a = s .args in
-    both-fit (a .hand .at) (a .hand .end) (f .result) (first .result) (second .result) _ (a .hand .loan) (a .loan) (first .ensures) (second .ensures) (f .ensures) (s .pre .0 .0) (s .pre .0 .1) (s .pre .1 .0) (s .pre .1 .1)
+lay-both-requires c κs = search needs
 
 cast-laid : tie.Need-cast-laid
 cast-laid c = search needs
@@ -57,7 +51,9 @@ returns c =
     let first = c .before .before .before .before .before .before .before .before .before .before .rows-due in
     let s = c .before .before .before .before .before .before .before .before .before .before .before .before .before in
     let a = s .args in
-    stays (now (a .room)) (y .last .1 .1 .0) (a .hand .at) (a .hand .end) (f .result) (a .hand .loan) (a .loan) (s .pre .0 .0) (y .ensures .1) (first .result) (second .result) (first .ensures) (second .ensures) (f .ensures) _ (y .ensures .0 .0) (s .pre .1 .0) (c .before .before .if1 .taken)
+    let n = all-of-both (a .hand .at) (a .hand .end) (f .result) (first .result) (second .result) _ (a .hand .loan) (a .loan) (first .ensures) (second .ensures) (f .ensures) (s .pre .0) (s .pre .1) in
+    let e = rw n at (y .ensures) in
+    stays (now (a .room)) (y .last .1 .1 .0) (a .hand .at) (a .hand .end) (f .result) (a .hand .loan) (a .loan) (s .pre .0) (e .1) (first .result) (second .result) (first .ensures) (second .ensures) (f .ensures) _ (e .0 .0) (c .before .before .if1 .taken)
 
 same-length-2 : tie.Need-same-length-2
 same-length-2 c = search needs
@@ -70,7 +66,9 @@ returns-2 c =
     let first = c .before .before .before .before .before .before .before .before .before .before .rows-due in
     let s = c .before .before .before .before .before .before .before .before .before .before .before .before .before in
     let a = s .args in
-    follows (now (a .room)) (y .last .1 .1 .0) (a .hand .at) (a .hand .end) (f .result) (a .hand .loan) (a .loan) (s .pre .0 .0) (y .ensures .1) (first .result) (second .result) (first .ensures) (second .ensures) (f .ensures) _ (y .ensures .0 .1) (s .pre .1 .1) (c .before .before .if1 .left)
+    let n = all-of-both (a .hand .at) (a .hand .end) (f .result) (first .result) (second .result) _ (a .hand .loan) (a .loan) (first .ensures) (second .ensures) (f .ensures) (s .pre .0) (s .pre .1) in
+    let e = rw n at (y .ensures) in
+    follows (now (a .room)) (y .last .1 .1 .0) (a .hand .at) (a .hand .end) (f .result) (a .hand .loan) (a .loan) (s .pre .0) (e .1) (first .result) (second .result) (first .ensures) (second .ensures) (f .ensures) _ (e .0 .1) (c .before .before .if1 .left)
 
 pub take-in-spec : {M : Type 1} → statement M
 take-in-spec =

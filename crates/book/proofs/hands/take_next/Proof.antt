@@ -22,14 +22,14 @@ take-in-requires c κs =
     let o = c .before .before .before .before .open-at in
     let s = c .before .before .before .before .before .before .before in
     let a = s .args in
-    may-take (now (a .records)) (a .i) _ (a .hand .loan) (a .hand .at) (a .hand .end) _ (sym (ap openingOutcome (c .before .before .loan .given .1)) ∙ o .ensures) (s .pre .0 .1) (s .pre .1 .0) (s .pre .1 .1)
+    may-take _ (a .hand .loan) (a .hand .at) (a .hand .end) _ (loanAt (now (a .records)) (a .i)) (sym (ap openingOutcome (c .before .before .loan .given .1)) ∙ o .ensures) (s .pre .1)
 
 returns : tie.Need-returns
 returns c =
     let o = c .before .before .open-at in
     let s = c .before .before .before .before .before in
     let a = s .args in
-    passed-over (now (a .room)) _ (a .hand .loan) (a .hand .at) (a .hand .end) (loanAt (now (a .records)) (a .i)) _ _ (sym (ap openingOutcome (c .enum-told .given .1)) ∙ o .ensures) refl (s .pre .1 .0) (s .pre .1 .1)
+    passed-over (now (a .room)) _ (a .hand .loan) (a .hand .at) (a .hand .end) (loanAt (now (a .records)) (a .i)) _ _ (sym (ap openingOutcome (c .enum-told .given .1)) ∙ o .ensures) refl (s .pre .1 .0)
 
 same-length : tie.Need-same-length
 same-length c = search needs

@@ -1,8 +1,8 @@
 -- `book::loans::read_at` meets its contract: the part read is the record. Assumes nothing.
 use mathlib.Core.Path.{_∙_, ap}
 use borrow.Author.Needs.{needs}
-use Rattle.records.specs.Kinds.{readTerms}
-use Rattle.book.proofs.Asking.{part-is}
+use Rattle.records.specs.Kinds.{termsSize, readTerms}
+use Rattle.records.proofs.EndToEnd.{part-is}
 use Rattle.book.proofs.loans.read_at.Statement.{statement}
 use Rattle.book.proofs.loans.read_at.Tie as tie
 
@@ -25,7 +25,7 @@ read-terms-requires : tie.Need-read-terms-requires
 read-terms-requires c κs = search needs
 
 returns : tie.Need-returns
-returns c = c .read-terms .ensures ∙ ap readTerms (part-is _ _)
+returns c = c .read-terms .ensures ∙ ap readTerms (part-is termsSize _ _)
 
 pub read-at-spec : {M : Type 1} → statement M
 read-at-spec =

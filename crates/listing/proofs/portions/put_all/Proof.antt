@@ -2,8 +2,8 @@
 use mathlib.Core.Path.{sym, _∙_}
 use native.Mathlib.Omega.{arith}
 use lib.ListN.{length}
-use Rattle.mortgage.specs.RowRule.{due}
-use Rattle.listing.specs.Portions.{Listable}
+use Rattle.mortgage.specs.Month.{due}
+use Rattle.listing.specs.inner.Portions.{Listable}
 use Rattle.listing.proofs.Putting.{same-room}
 use Rattle.listing.proofs.PortionLaws.{still-listable, Underway, begun, one-more, fewer, all-listed}
 use Rattle.listing.proofs.portions.put_all.Statement.{statement}

@@ -2,8 +2,8 @@
 use mathlib.Core.Path.{_≡_}
 use Prim.Native.Nat.{_+_, _-_, _*_, _≤_}
 use native.Mathlib.Omega.{arith}
-use Rattle.listing.specs.Putting.{Put}
-use Rattle.listing.specs.Portions.{roomLines, lineRoom}
+use Rattle.listing.specs.inner.Putting.{Put}
+use Rattle.listing.specs.inner.Portions.{roomLines, lineRoom}
 use Rattle.listing.proofs.Putting.{same-room}
 use Rattle.listing.proofs.Lengths.{length-row}
 use Rattle.listing.proofs.RoomLaws.{no-row, next-row}

@@ -1,7 +1,7 @@
 -- `listing::portions::row_at` meets its contract. Assumes nothing.
 use mathlib.Core.Path.{refl}
 use borrow.Author.Needs.{needs}
-use Rattle.listing.specs.Portions.{rowAt}
+use Rattle.listing.specs.inner.Portions.{rowAt}
 use Rattle.listing.proofs.portions.row_at.Statement.{statement}
 use Rattle.listing.proofs.portions.row_at.Tie as tie
 

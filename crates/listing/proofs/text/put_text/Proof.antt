@@ -4,7 +4,7 @@ use native.Mathlib.Nat.{add-zero}
 use native.Mathlib.Omega.{arith}
 use lib.ListN.{length, take}
 use denote.Ref.{now}
-use Rattle.listing.specs.Putting.{Put}
+use Rattle.listing.specs.inner.Putting.{Put}
 use Rattle.listing.proofs.Putting.{nothing, same-room, next-byte, every-byte}
 use Rattle.listing.proofs.text.put_text.Statement.{statement}
 use Rattle.listing.proofs.text.put_text.Tie as tie

@@ -5,8 +5,8 @@ use native.Mathlib.Omega.{arith}
 use borrow.Author.Needs.{needs}
 use lib.ListN.{length}
 use Rattle.pool.specs.Loans.{loanCount, loanAt, loansIn}
-use Rattle.pool.specs.Walk.{loansAdded}
-use Rattle.pool.proofs.Each.{from}
+use Rattle.pool.specs.inner.Walk.{loansAdded}
+use Rattle.records.proofs.EndToEnd.{from}
 use Rattle.pool.proofs.LoanWalks.{loans-begin, loans-turn, loans-end, each-loan}
 use Rattle.pool.proofs.flows.add_loans.Statement.{statement}
 use Rattle.pool.proofs.flows.add_loans.Tie as tie

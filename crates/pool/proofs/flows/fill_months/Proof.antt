@@ -3,7 +3,7 @@ use mathlib.Core.Path.{_∙_, ap}
 use native.Mathlib.Omega.{arith}
 use Prim.Native.Nat.{_≤_}
 use Rattle.pool.specs.Loans.{longest, loansIn}
-use Rattle.pool.specs.Walk.{loansAdded}
+use Rattle.pool.specs.inner.Walk.{loansAdded}
 use Rattle.pool.proofs.Filling.{filled-months}
 use borrow.Author.Needs.{needs}
 use Rattle.pool.proofs.flows.fill_months.Statement.{statement}
@@ -34,7 +34,7 @@ returns c =
     let set = clear .before .before .before in
     let start = set .before .before .before .before .before in
     let b : longest (loansIn (start .args .bytes .now)) ≤ start .args .months = omega (arith, start .pre .1 .0) in
-    added .add-loans .ensures ∙ ap (loansAdded _ _) (clear .clear-months .ensures) ∙ filled-months _ _ _ _ _ _ (start .pre .1 .2) b (set .set-speeds .ensures)
+    added .add-loans .ensures ∙ ap (loansAdded _ _) (clear .clear-months .ensures) ∙ filled-months _ _ _ _ _ _ _ (start .pre .1 .2) b (set .set-speeds .ensures)
 
 pub fill-months-spec : {M : Type 1} → statement M
 fill-months-spec =

@@ -1,24 +1,22 @@
--- `pool::flows::set_speeds` meets its contract: the speeds of the months before the one in hand lie in their places. Assumes nothing.
-use mathlib.Core.Path.{_≡_, refl, _∙_, ap}
-use Prim.Native.Nat.{ℕ, suc, _-_, _<_, _≤_}
+-- `pool::flows::set_speeds` meets its contract: the speeds of the months before the one in hand are put. Assumes nothing.
+use mathlib.Core.Path.{_∙_, ap}
+use Prim.Native.Nat.{ℕ, suc, _-_, _≤_}
 use native.Mathlib.Numerals.{add-one}
 use native.Mathlib.Omega.{arith}
 use borrow.Author.Needs.{needs}
-use lib.ListN.{length, getD, length-set}
-use lib.Ieee.{nan}
+use Rattle.steps.proofs.Places.{Put, none-put, one-more, all-put}
 use Rattle.pool.specs.Speed.{smm}
-use Rattle.pool.proofs.Reading.{filled-more}
 use Rattle.pool.proofs.flows.set_speeds.Statement.{statement}
 use Rattle.pool.proofs.flows.set_speeds.Tie as tie
 
 abbrev Inv-loop : tie.InvT-loop
-Inv-loop speed history speeds₀ months k₀ speeds k = (k ≤ months) × (length speeds ≡ length speeds₀) × ((j : ℕ) → j < k → getD speeds j nan ≡ smm speed history (suc j))
+Inv-loop speed history speeds₀ months k₀ speeds k = (k ≤ months) × Put (λ (j : ℕ). smm speed history (suc j)) speeds₀ k speeds
 
 abbrev μ-loop : tie.MeasureT-loop
 μ-loop speed history speeds₀ months k₀ speeds k = months - k
 
 loop-holds : tie.Need-loop-holds Inv-loop μ-loop
-loop-holds c = (omega arith, refl, λ j h. absurd (omega arith))
+loop-holds c = (omega arith, none-put _ _)
 
 add-monthly-smm : tie.Need-add-monthly-smm Inv-loop μ-loop
 add-monthly-smm c = omega arith
@@ -46,15 +44,13 @@ loop-again c =
     let head = c .before .before .loop in
     let start = c .before .before .before .before .before in
     let share = c .monthly-smm .ensures ∙ ap (smm (start .args .speed) (start .args .history .now)) (add-one (head .k)) in
-    (omega arith, simp length-set (head .inv .1), filled-more (head .speeds) (head .k) _ nan (λ (j : ℕ). smm (start .args .speed) (start .args .history .now) (suc j)) (omega arith) share (head .inv .2))
+    (omega arith, one-more _ _ _ _ _ (head .inv .1) (omega arith) share)
 
 same-length : tie.Need-same-length Inv-loop μ-loop
-same-length c = c .before .loop .inv .1
+same-length c = c .before .loop .inv .1 .kept
 
 returns : tie.Need-returns Inv-loop μ-loop
-returns c =
-    let head = c .before .loop in
-    λ j h. head .inv .2 j (omega arith)
+returns c = all-put _ _ _ _ _ (c .before .loop .inv .1) (omega arith)
 
 pub set-speeds-spec : {M : Type 1} → statement M
 set-speeds-spec =

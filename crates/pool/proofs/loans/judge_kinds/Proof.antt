@@ -2,7 +2,8 @@
 use Prim.Native.Nat.{_-_, _≤_}
 use native.Mathlib.Omega.{arith}
 use borrow.Author.Needs.{needs}
-use Rattle.pool.specs.Loans.{loanCount, ofEach, otherKind}
+use Rattle.records.specs.EndToEnd.{ofEach}
+use Rattle.pool.specs.Loans.{loanCount, otherKind}
 use Rattle.pool.proofs.Placing.{byLine}
 use Rattle.pool.proofs.Scanning.{Decides, begun, found, goes-on, ended}
 use Rattle.pool.proofs.Records.{of-another-kind, of-this-kind}

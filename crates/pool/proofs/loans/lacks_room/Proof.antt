@@ -1,4 +1,5 @@
 -- `pool::loans::lacks_room` meets its contract. Assumes nothing.
+use Rattle.refusals.specs.Table.{noRoomForAll}
 use Rattle.pool.specs.Flows.{tooLittle}
 use borrow.Author.Needs.{needs}
 use Rattle.pool.proofs.loans.lacks_room.Statement.{statement}
@@ -14,7 +15,7 @@ mul-result : tie.Need-mul-result
 mul-result c = search needs
 
 returns : tie.Need-returns
-unfolding tooLittle
+unfolding tooLittle noRoomForAll
 returns c = rw (c .before .if1 .taken, c .longest-term .ensures)
 
 returns-2 : tie.Need-returns-2

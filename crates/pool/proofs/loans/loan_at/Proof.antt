@@ -1,7 +1,8 @@
 -- `pool::loans::loan_at` meets its contract: the record at the index is read, and not refused. Assumes nothing.
 use mathlib.Core.Path.{_∙_, ap, sym}
-use Rattle.records.specs.Kinds.{termsOutcome}
-use Rattle.pool.proofs.Records.{terms-read, none-refused, part-is}
+use Rattle.records.specs.Kinds.{termsSize, termsOutcome}
+use Rattle.records.proofs.EndToEnd.{part-is}
+use Rattle.pool.proofs.Records.{terms-read, none-refused}
 use borrow.Author.Needs.{needs}
 use Rattle.pool.proofs.loans.loan_at.Statement.{statement}
 use Rattle.pool.proofs.loans.loan_at.Tie as tie
@@ -34,13 +35,13 @@ returns : tie.Need-returns
 returns c =
     let read = c .before .before .before in
     let start = read .before .before .before in
-    terms-read (start .args .bytes .now) (start .pre .0) (start .args .i) (start .pre .1) _ (part-is _ _) _ (sym (ap termsOutcome (c .before .terms .given .1)) ∙ read .read-terms .ensures)
+    terms-read (start .args .bytes .now) (start .pre .0) (start .args .i) (start .pre .1) _ (part-is termsSize _ _) _ (sym (ap termsOutcome (c .before .terms .given .1)) ∙ read .read-terms .ensures)
 
 returns-2 : tie.Need-returns-2
 returns-2 c =
     let read = c .before .before in
     let start = read .before .before .before in
-    absurd (none-refused (start .args .bytes .now) (start .pre .0) (start .args .i) (start .pre .1) _ (part-is _ _) _ _ (sym (ap termsOutcome (c .enum-told .given .1)) ∙ read .read-terms .ensures))
+    absurd (none-refused (start .args .bytes .now) (start .pre .0) (start .args .i) (start .pre .1) _ (part-is termsSize _ _) _ _ (sym (ap termsOutcome (c .enum-told .given .1)) ∙ read .read-terms .ensures))
 
 pub loan-at-spec : {M : Type 1} → statement M
 loan-at-spec =

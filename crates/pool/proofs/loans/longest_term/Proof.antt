@@ -3,7 +3,8 @@ use mathlib.Core.Path.{_≡_, sym}
 use Prim.Native.Nat.{_-_, _≤_}
 use native.Mathlib.Omega.{arith}
 use borrow.Author.Needs.{needs}
-use Rattle.pool.specs.Loans.{loanAt, ofEach, longest}
+use Rattle.records.specs.EndToEnd.{ofEach}
+use Rattle.pool.specs.Loans.{loanAt, longest}
 use Rattle.pool.proofs.Folds.{longest-none, longest-more}
 use Rattle.pool.proofs.loans.longest_term.Statement.{statement}
 use Rattle.pool.proofs.loans.longest_term.Tie as tie

@@ -5,8 +5,8 @@ use native.Mathlib.Omega.{arith}
 use lib.ListN.{length}
 use Rattle.pool.specs.declared.months.Month.{Month}
 use Rattle.pool.specs.Months.{nothing}
-use Rattle.pool.specs.Flows.{width}
-use Rattle.pool.specs.Walk.{walked}
+use Rattle.pool.specs.Flows.{monthWidth}
+use Rattle.pool.specs.inner.Walk.{walked}
 use Rattle.pool.proofs.Walks.{begins, turn, ends}
 use Rattle.pool.proofs.months.clear_months.Statement.{statement}
 use Rattle.pool.proofs.months.clear_months.Tie as tie
@@ -15,7 +15,7 @@ abbrev cleared : ℕ → Month → Month
 cleared k m = nothing
 
 abbrev Inv-loop : tie.InvT-loop
-Inv-loop room₀ months at₀ k₀ room at k = (walked cleared k (months - k) room ≡ walked cleared 0 months room₀) × (at ≡ k * width) × (k ≤ months) × (length room ≡ length room₀)
+Inv-loop room₀ months at₀ k₀ room at k = (walked cleared k (months - k) room ≡ walked cleared 0 months room₀) × (at ≡ k * monthWidth) × (k ≤ months) × (length room ≡ length room₀)
 
 abbrev μ-loop : tie.MeasureT-loop
 μ-loop room₀ months at₀ k₀ room at k = months - k

@@ -6,7 +6,8 @@ use borrow.Author.Needs.{needs}
 use lib.IntN.{pos}
 use lib.Ieee.{Float, binary64, mul, ofInt}
 use Rattle.records.specs.declared.Terms.{Terms}
-use Rattle.pool.specs.Loans.{loanCount, loanAt, ofEach}
+use Rattle.records.specs.EndToEnd.{ofEach}
+use Rattle.pool.specs.Loans.{loanCount, loanAt}
 use Rattle.pool.specs.Totals.{sumOf, balanceOf}
 use Rattle.pool.proofs.Folds.{sum-none, sum-more}
 use Rattle.pool.proofs.totals.sums.Statement.{statement}

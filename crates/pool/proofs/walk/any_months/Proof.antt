@@ -4,10 +4,10 @@ use Prim.Native.Nat.{_-_, _*_, _<_, _≤_}
 use native.Mathlib.Omega.{arith}
 use borrow.Author.Needs.{needs}
 use lib.ListN.{length}
-use Rattle.mortgage.specs.Payment.{monthlyRate, payment, loanOf}
+use Rattle.mortgage.specs.Payment.{payment, loanOf}
 use Rattle.mortgage.specs.Rows.{after}
-use Rattle.pool.specs.Flows.{width}
-use Rattle.pool.specs.Walk.{loanAdded, walked}
+use Rattle.pool.specs.Flows.{monthWidth}
+use Rattle.pool.specs.inner.Walk.{loanAdded, walked}
 use Rattle.pool.proofs.Walks.{turn, ends}
 use Rattle.pool.proofs.LoanMonths.{any-month}
 use Rattle.pool.proofs.walk.any_months.Statement.{statement}
@@ -15,11 +15,14 @@ use Rattle.pool.proofs.walk.any_months.Tie as tie
 
 abbrev Inv-loop : tie.InvT-loop
 Inv-loop terms pay speeds room₀ rate balance₀ at₀ k₀ room balance at k =
-    (walked (loanAdded terms speeds) k (terms .term - k) room ≡ walked (loanAdded terms speeds) k₀ (terms .term - k₀) room₀) × (at ≡ k * width) × (k ≤ terms .term)
+    (walked (loanAdded terms speeds) k (terms .term - k) room ≡ walked (loanAdded terms speeds) k₀ (terms .term - k₀) room₀) × (at ≡ k * monthWidth) × (k ≤ terms .term)
     × (length room ≡ length room₀) × (k < terms .term → balance ≡ after k (loanOf terms (payment terms)) .balance)
 
 abbrev μ-loop : tie.MeasureT-loop
 μ-loop terms pay speeds room₀ rate balance₀ at₀ k₀ room balance at k = terms .term - k
+
+monthly-rate-requires : tie.Need-monthly-rate-requires Inv-loop μ-loop
+monthly-rate-requires c κs = search needs
 
 cast-at : tie.Need-cast-at Inv-loop μ-loop
 cast-at c = search needs
@@ -58,16 +61,16 @@ loop-less : tie.Need-loop-less Inv-loop μ-loop
 loop-less c = omega arith
 
 loop-again : tie.Need-loop-again Inv-loop μ-loop
-unfolding monthlyRate
 loop-again c =
     let put = c .before .before .add-above in
     let lowered = c .before .before .before .before .before in
     let due = lowered .before .before in
     let loop = due .before .before in
     let head = loop .loop in
-    let start = loop .before .before .before .before .before in
-    let month = any-month (start .args .terms) (head .k) (head .balance) (due .if1 .taken) (head .inv .4 (due .if1 .taken)) (start .args .pay) (start .pre .0 .0) _ _
-    (lowered .before .raise-to-zero .ensures) (lowered .lower-to .ensures) (start .pre .0 .3) in (
+    let rate = loop .before .before in
+    let start = rate .before .before .before in
+    let month = any-month (start .args .terms) (head .k) (head .balance) (due .if1 .taken) (head .inv .4 (due .if1 .taken)) (start .args .pay) _ _ _ (start .pre .0 .0) (rate .monthly-rate .ensures) refl
+    _ (lowered .before .raise-to-zero .ensures) (lowered .lower-to .ensures) (start .pre .0 .3) in (
       turn _ _ _ _ _ _ _ _ (due .if1 .taken) (head .inv .1) (put .ensures) (month .0 _ _) (head .inv .0),
       omega arith,
       omega arith,
@@ -87,6 +90,7 @@ any-months-spec =
     (tie.spec
     Inv-loop
     μ-loop
+    monthly-rate-requires
     cast-at
     mul-at
     loop-holds

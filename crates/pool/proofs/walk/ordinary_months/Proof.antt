@@ -4,11 +4,11 @@ use Prim.Native.Nat.{_-_, _*_, _<_, _≤_}
 use native.Mathlib.Omega.{arith}
 use borrow.Author.Needs.{needs}
 use lib.ListN.{length}
-use Rattle.mortgage.specs.Payment.{monthlyRate, payment, loanOf}
-use Rattle.mortgage.specs.Steps.{stepped}
+use Rattle.mortgage.specs.Payment.{payment, loanOf}
+use Rattle.steps.specs.Steps.{stepped}
 use Rattle.mortgage.specs.Rows.{after}
-use Rattle.pool.specs.Flows.{width}
-use Rattle.pool.specs.Walk.{loanAdded, walked}
+use Rattle.pool.specs.Flows.{monthWidth}
+use Rattle.pool.specs.inner.Walk.{loanAdded, walked}
 use Rattle.pool.proofs.Walks.{begins, turn}
 use Rattle.pool.proofs.LoanMonths.{ordinary}
 use Rattle.pool.proofs.walk.ordinary_months.Statement.{statement}
@@ -16,11 +16,14 @@ use Rattle.pool.proofs.walk.ordinary_months.Tie as tie
 
 abbrev Inv-loop : tie.InvT-loop
 Inv-loop terms pay speeds room₀ rate balance₀ at₀ k₀ room balance at k =
-    (walked (loanAdded terms speeds) k (terms .term - k) room ≡ walked (loanAdded terms speeds) 0 (terms .term) room₀) × (at ≡ k * width) × (k ≤ terms .term)
+    (walked (loanAdded terms speeds) k (terms .term - k) room ≡ walked (loanAdded terms speeds) 0 (terms .term) room₀) × (at ≡ k * monthWidth) × (k ≤ terms .term)
     × (length room ≡ length room₀) × (k < terms .term → balance ≡ after k (loanOf terms (payment terms)) .balance)
 
 abbrev μ-loop : tie.MeasureT-loop
 μ-loop terms pay speeds room₀ rate balance₀ at₀ k₀ room balance at k = terms .term - k
+
+monthly-rate-requires : tie.Need-monthly-rate-requires Inv-loop μ-loop
+monthly-rate-requires c κs = search needs
 
 loop-holds : tie.Need-loop-holds Inv-loop μ-loop
 unfolding stepped loanOf
@@ -48,16 +51,16 @@ loop-less : tie.Need-loop-less Inv-loop μ-loop
 loop-less c = omega arith
 
 loop-again : tie.Need-loop-again Inv-loop μ-loop
-unfolding monthlyRate
 loop-again c =
     let put = c .before .before .add-month in
     let below = c .before .before .before .before .before in
     let due = below .before .before .before in
     let loop = due .before .before in
     let head = loop .loop in
-    let start = loop .before .before .before .before in
-    let month = ordinary (start .args .terms) (head .k) (head .balance) (due .if1 .taken) (head .inv .4 (due .if1 .taken)) (start .args .pay) (start .pre .0) _ refl
-    (below .before .before .if2 .taken) (below .before .if3 .taken) (below .if4 .taken) in (
+    let rate = loop .before in
+    let start = rate .before .before .before in
+    let month = ordinary (start .args .terms) (head .k) (head .balance) (due .if1 .taken) (head .inv .4 (due .if1 .taken)) (start .args .pay) _ _ _ (start .pre .0) (rate .monthly-rate .ensures) refl
+    refl (below .before .before .if2 .taken) (below .before .if3 .taken) (below .if4 .taken) in (
       turn _ _ _ _ _ _ _ _ (due .if1 .taken) (head .inv .1) (put .ensures) (month .0 _ _) (head .inv .0),
       omega arith,
       omega arith,
@@ -95,6 +98,7 @@ ordinary-months-spec =
     (tie.spec
     Inv-loop
     μ-loop
+    monthly-rate-requires
     loop-holds
     cast-add-month
     mul-add-month

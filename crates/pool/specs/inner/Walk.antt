@@ -4,11 +4,12 @@ use mathlib.Core.List.{List, [], _∷_}
 use lib.ListN.{getD}
 use lib.Seq.{sets}
 use lib.Ieee.{Float, nan, binary64, add, div}
-use Rattle.elementary.specs.WholePower.{one, wholePower}
+use Rattle.numbers.specs.Literals.{one}
+use Rattle.elementary.specs.WholePower.{wholePower}
 use Rattle.records.specs.declared.Terms.{Terms}
 use Rattle.pool.specs.declared.months.Month.{Month}
 use Rattle.pool.specs.Months.{withLoan}
-use Rattle.pool.specs.Flows.{width, places}
+use Rattle.pool.specs.Flows.{monthWidth, places}
 use Rattle.pool.specs.Price.{moneyOf}
 
 -- the month that lies from a place on
@@ -17,7 +18,7 @@ monthFrom room at = record { principal = getD room at nan; interest = getD room 
 
 -- the month k of a room, from 0, changed
 unfoldable pub changed : (ℕ → Month → Month) → ℕ → List Float → List Float
-changed change k room = sets room (k * width) (places (change k (monthFrom room (k * width))))
+changed change k room = sets room (k * monthWidth) (places (change k (monthFrom room (k * monthWidth))))
 
 -- n months from the month k on, changed one after the other
 unfoldable pub walked : (ℕ → Month → Month) → ℕ → ℕ → List Float → List Float
@@ -35,4 +36,4 @@ loansAdded speeds (t ∷ ts) room = loansAdded speeds ts (walked (loanAdded t sp
 
 -- what the month i of a room is worth, from 0, at a monthly rate
 abbrev pub worthIn : List Float → Float → ℕ → Float
-worthIn room r i = div binary64 (moneyOf (monthFrom room (i * width))) (wholePower (add binary64 one r) (suc i))
+worthIn room r i = div binary64 (moneyOf (monthFrom room (i * monthWidth))) (wholePower (add binary64 one r) (suc i))
