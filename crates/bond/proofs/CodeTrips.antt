@@ -7,9 +7,10 @@ use native.Mathlib.Omega.{arith}
 use lib.Dec.{ltb}
 use borrow.Author.Tests.{lt-ltb}
 use Rattle.refusals.specs.Outcome.{refused, accepted, firstOr, judged}
+use Rattle.refusals.specs.Table.{badCode}
 use Rattle.bond.specs.declared.Frequency.{Frequency}
 use Rattle.bond.specs.declared.Frequency.the-variants.{Annual, SemiAnnual, Quarterly, Monthly}
-use Rattle.bond.specs.Codes.{codeOf, frequencyAt, badCode, frequencyOf}
+use Rattle.bond.specs.Codes.{codeOf, frequencyAt, frequencyOf}
 
 pub read-of-written : (f : Frequency) → frequencyOf (codeOf f) ≡ accepted f
 unfolding frequencyOf frequencyAt badCode judged firstOr

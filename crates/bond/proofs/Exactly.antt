@@ -8,14 +8,14 @@ use native.Mathlib.Omega.{arith}
 use lib.Ieee.{Float}
 use lib.Ieee.Scale.{finite}
 use Rattle.refusals.specs.Outcome.{Outcome, refused, accepted, andThen, Line, line, Lowest, ExactlyWhen, above}
-use Rattle.refusals.specs.Table.{badNumber}
+use Rattle.refusals.specs.Table.{badNumber, badCode}
 use Rattle.refusals.proofs.Judging.{exactly}
 use Rattle.bond.specs.declared.Bond.{Bond}
 use Rattle.bond.specs.Bonds.{bondLines}
 use Rattle.bond.specs.Price.{price, dv01, currentYield, zeroCouponPrice}
 use Rattle.bond.specs.Yield.{noBracket, yieldToMaturity}
 use Rattle.bond.specs.Durations.{macaulayDuration, modifiedDuration, convexity, priceChange, macaulayAtPrice, modifiedAtPrice, convexityAtPrice}
-use Rattle.bond.specs.Codes.{badCode, frequencyOf}
+use Rattle.bond.specs.Codes.{lastCode, frequencyOf}
 
 pub price-refused-exactly : (ytm : Float) (b : Bond) → ExactlyWhen (bondLines b ytm) (price ytm b)
 unfolding price above
@@ -97,6 +97,6 @@ convexity-at-price-refused-exactly market b =
     at-price-exactly _ (bondLines b) (λ ytm. convexity-refused-exactly ytm b) (yieldLines b market) _ (yield-refused-exactly market b)
 
 -- ---- a record's code
-pub code-refused-exactly : (code : ℕ) → ExactlyWhen (line 11 (badCode code) ∷ []) (frequencyOf code)
+pub code-refused-exactly : (code : ℕ) → ExactlyWhen (line 11 (badCode lastCode code) ∷ []) (frequencyOf code)
 unfolding frequencyOf above
-code-refused-exactly code = exactly _ (line 11 (badCode code) ∷ []) tt
+code-refused-exactly code = exactly _ (line 11 (badCode lastCode code) ∷ []) tt

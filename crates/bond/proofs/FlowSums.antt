@@ -8,14 +8,15 @@ use lib.IntN.{pos}
 use lib.ListN.{getD}
 use lib.Ieee.{Float, nan, binary64, add, mul, div, ofInt}
 use borrow.Author.Tests.{ne-eqb}
+use Rattle.numbers.specs.Literals.{one}
 use Rattle.numbers.specs.Sums.{addedUp}
-use Rattle.elementary.specs.WholePower.{one, wholePower}
+use Rattle.elementary.specs.WholePower.{wholePower}
 use Rattle.elementary.specs.Powers.{powersFrom}
 use Rattle.elementary.proofs.InARow.{power-at}
 use Rattle.bond.specs.declared.Bond.{Bond}
 use Rattle.bond.specs.Bonds.{couponsAYear, periodCoupon, periods}
 use Rattle.bond.specs.Durations.{flowOf, worth, weightedTime, weightedSquare}
-use Rattle.bond.specs.Weighted.{weighted}
+use Rattle.bond.specs.inner.Weighted.{weightedBy}
 
 -- the term of the period t more
 pub added-at : (f : ℕ → Float) (s v : Float) (t : ℕ) → 1 ≤ t → s ≡ addedUp (λ (i : ℕ). f (suc i)) (t - 1) → v ≡ f t → add binary64 s v ≡ addedUp (λ (i : ℕ). f (suc i)) (t + 1 - 1)
@@ -41,7 +42,7 @@ module _ (b : Bond) (r : Float) (t : ℕ) where
   -- its weight times its worth
   pub term : (squares : Bool) (m w v : Float) → m ≡ couponsAYear b
       → w ≡ cond squares (mul binary64 (ofInt binary64 (pos t)) (add binary64 (ofInt binary64 (pos t)) one)) (div binary64 (ofInt binary64 (pos t)) m) → v ≡ worth b r t
-      → mul binary64 w v ≡ weighted b r squares t
+      → mul binary64 w v ≡ weightedBy b r squares t
   unfolding weightedTime weightedSquare
   term true m w v h e g = rw (e, g)
   term false m w v h e g = rw (e, g, h)

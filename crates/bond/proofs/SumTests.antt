@@ -9,7 +9,7 @@ use lib.Ieee.Scale.{finite}
 use Rattle.numbers.specs.Clamps.{plusZero}
 use Rattle.numbers.proofs.Amounts.{passes}
 use Rattle.refusals.specs.Outcome.{Outcome, accepted, firstOr, judged}
-use Rattle.refusals.specs.Table.{badAmount, badNumber}
+use Rattle.refusals.specs.Table.{badAmount, badTime, tooManyPeriods, badNumber}
 use Rattle.bond.specs.declared.Bond.{Bond}
 use Rattle.bond.specs.Bonds.{periods, badMaturity, bondLines}
 
@@ -29,7 +29,7 @@ both-finite f (fin s m e) (fin t n d) h = (refl, refl)
 pub none-wrong : (b : Bond) (x : Float) (n : ℕ) → n ≡ periods b → n ≤ 1200 → lt (b .face) plusZero ≡ false
     → finite (add binary64 (add binary64 (add binary64 (b .face) (b .coupon)) (b .maturity)) x) ≡ true
     → _≡_ {A = Outcome Unit} (judged (bondLines b x) tt) (accepted tt)
-unfolding judged firstOr badAmount badNumber badMaturity
+unfolding judged firstOr badAmount badTime tooManyPeriods badNumber badMaturity
 none-wrong b x n counted few up sum =
     let last = both-finite binary64 (add binary64 (add binary64 (b .face) (b .coupon)) (b .maturity)) x sum in
     let third = both-finite binary64 (add binary64 (b .face) (b .coupon)) (b .maturity) (last .0) in

@@ -1,14 +1,12 @@
 -- A bond's coupon frequency, coupon and periods, and what every function over a bond asks of it first. Definitions only. Assumes nothing.
 use Prim.Native.Nat.{ℕ}
-use mathlib.Core.Bool.{Bool, not, _||_}
+use mathlib.Core.Bool.{Bool, _||_}
 use mathlib.Core.List.{List, [], _∷_}
-use lib.Dec.{ltb}
 use lib.IntN.{pos}
 use lib.Ieee.{Float, binary64, mul, div, ofInt}
-use lib.Ieee.Scale.{finite}
 use Rattle.numbers.specs.Whole.{nearestWhole}
 use Rattle.refusals.specs.Outcome.{Line, line}
-use Rattle.refusals.specs.Table.{badAmount, badNumber}
+use Rattle.refusals.specs.Table.{badAmount, badTime, tooManyPeriods, badNumber}
 use Rattle.bond.specs.declared.Bond.{Bond}
 use Rattle.bond.specs.declared.Frequency.{Frequency}
 use Rattle.bond.specs.declared.Frequency.the-variants.{Annual, SemiAnnual, Quarterly, Monthly}
@@ -34,7 +32,7 @@ periods b = nearestWhole (mul binary64 (b .maturity) (couponsAYear b))
 
 -- 7: "a maturity .. is not finite, or gives more than 1,200 periods"
 unfoldable pub badMaturity : Bond → Bool
-badMaturity b = not (finite (b .maturity)) || ltb 1200 (periods b)
+badMaturity b = badTime (b .maturity) || tooManyPeriods (periods b)
 
 -- the lines that a face, a maturity and a coupon meet, with one number beside them: a yield or a market price
 abbrev pub numberLines : Float → Bool → Float → Float → List Line

@@ -1,24 +1,14 @@
 -- Brent's method with the Rust's branches in the Rust's order, one pass at a time. Definitions only. Assumes nothing.
 use mathlib.Core.Bool.{Bool, cond, _&&_, _||_}
-use lib.Ieee.{Float, binary64, neg, add, sub, mul, div, lt, le, ofBits}
+use lib.Ieee.{Float, binary64, neg, add, sub, mul, div, lt, le}
+use Rattle.numbers.specs.Literals.{one, two, three, half, tenToMinus8, epsilon}
 use Rattle.numbers.specs.Clamps.{plusZero}
 use Rattle.numbers.specs.Sizes.{absolute}
-use Rattle.elementary.specs.WholePower.{one}
 use Rattle.bond.specs.declared.brent.Search.{Search}
-use Rattle.bond.specs.Price.{epsilon}
 
--- 0.5, 2, 3, and half the tolerance of 1e-8 as 0.5·1e-8
-abbrev pub half : Float
-half = ofBits binary64 0x3fe0_0000_0000_0000
-
-abbrev pub two : Float
-two = ofBits binary64 0x4000_0000_0000_0000
-
-abbrev pub three : Float
-three = ofBits binary64 0x4008_0000_0000_0000
-
+-- "tol 1e-8"
 abbrev pub tolerance : Float
-tolerance = ofBits binary64 0x3e45_798e_e230_8c3a
+tolerance = tenToMinus8
 
 -- a pass begins: where the errors at b and c have one sign, c is the last a
 unfoldable pub rebracketed : Search → Search
@@ -32,15 +22,15 @@ exchanged s =
     cond (lt (absolute (s .fc)) (absolute (s .fb)))
     (record { a = s .b; b = s .c; c = s .b; d = s .d; e = s .e; fa = s .fb; fb = s .fc; fc = s .fb }) s
 
--- the width below which b is the answer, and half the way to c
-unfoldable pub width : Search → Float
-width s = add binary64 (mul binary64 (mul binary64 two epsilon) (absolute (s .b))) (mul binary64 half tolerance)
+-- the least step that b moves by, below which b is the answer, and half the way to c
+unfoldable pub leastStep : Search → Float
+leastStep s = add binary64 (mul binary64 (mul binary64 two epsilon) (absolute (s .b))) (mul binary64 half tolerance)
 
 unfoldable pub midway : Search → Float
 midway s = mul binary64 half (sub binary64 (s .c) (s .b))
 
 unfoldable pub settled : Search → Bool
-settled s = le (absolute (midway s)) (width s) || lt (absolute (s .fb)) epsilon
+settled s = le (absolute (midway s)) (leastStep s) || lt (absolute (s .fb)) epsilon
 
 -- ---- the step: by the secant or by the inverse parabola, p/q, where that is safe; else halving
 unfoldable pub secantOnly : Search → Bool
@@ -76,15 +66,15 @@ riseUp s = cond (lt plusZero (rise s)) (rise s) (neg (rise s))
 unfoldable pub runUp : Search → Float
 runUp s = cond (lt plusZero (rise s)) (neg (run s)) (run s)
 
--- 2p < 3·xm·q - |width·q|, and 2p < |e·q|
+-- 2p < 3·xm·q - |least·q|, and 2p < |e·q|
 unfoldable pub safe : Search → Bool
 safe s =
-    lt (mul binary64 two (riseUp s)) (sub binary64 (mul binary64 (mul binary64 three (midway s)) (runUp s)) (absolute (mul binary64 (width s) (runUp s))))
+    lt (mul binary64 two (riseUp s)) (sub binary64 (mul binary64 (mul binary64 three (midway s)) (runUp s)) (absolute (mul binary64 (leastStep s) (runUp s))))
     && lt (mul binary64 two (riseUp s)) (absolute (mul binary64 (s .e) (runUp s)))
 
 -- whether p/q is tried at all
 unfoldable pub tried : Search → Bool
-tried s = le (width s) (absolute (s .e)) && lt (absolute (s .fb)) (absolute (s .fa))
+tried s = le (leastStep s) (absolute (s .e)) && lt (absolute (s .fb)) (absolute (s .fa))
 
 -- the steps d and e of this pass
 unfoldable pub chosen : Search → Search
@@ -93,9 +83,9 @@ chosen s =
     (record { a = s .a; b = s .b; c = s .c; d = div binary64 (riseUp s) (runUp s); e = s .d; fa = s .fa; fb = s .fb; fc = s .fc })
     (record { a = s .a; b = s .b; c = s .c; d = midway s; e = midway s; fa = s .fa; fb = s .fb; fc = s .fc })
 
--- b moves by d, or by the width toward c where d is shorter
+-- b moves by d, or by the least step toward c where d is shorter
 unfoldable pub shift : Search → Float
-shift s = cond (lt (width s) (absolute (s .d))) (s .d) (cond (lt (midway s) plusZero) (neg (width s)) (width s))
+shift s = cond (lt (leastStep s) (absolute (s .d))) (s .d) (cond (lt (midway s) plusZero) (neg (leastStep s)) (leastStep s))
 
 -- the next search, whose error at the new b is still to be worked out
 unfoldable pub moved : Search → Search

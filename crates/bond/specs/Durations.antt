@@ -4,15 +4,15 @@ use mathlib.Core.Bool.{Bool, cond}
 use lib.Dec.{eqb}
 use lib.IntN.{pos}
 use lib.Ieee.{Float, binary64, neg, add, mul, div, lt, ofInt}
+use Rattle.numbers.specs.Literals.{one, half, epsilon}
 use Rattle.numbers.specs.Clamps.{plusZero}
 use Rattle.numbers.specs.Sizes.{absolute}
 use Rattle.numbers.specs.Sums.{addedUp}
 use Rattle.refusals.specs.Outcome.{Outcome, andThen, judged}
-use Rattle.elementary.specs.WholePower.{one, wholePower}
+use Rattle.elementary.specs.WholePower.{wholePower}
 use Rattle.bond.specs.declared.Bond.{Bond}
 use Rattle.bond.specs.Bonds.{couponsAYear, periodCoupon, periods, bondLines}
-use Rattle.bond.specs.Price.{epsilon, periodRate, priceOf}
-use Rattle.bond.specs.Brent.{half}
+use Rattle.bond.specs.Price.{periodRate, priceOf}
 use Rattle.bond.specs.Yield.{yieldToMaturity}
 
 -- what is paid in the period t, from 1, and what that is worth: cf/(1+r)^t

@@ -1,8 +1,7 @@
 pub mod Bonds
-pub mod Worked
 pub mod Price
 pub mod Brent
 pub mod Yield
 pub mod Durations
-pub mod Weighted
 pub mod Codes
+pub mod inner

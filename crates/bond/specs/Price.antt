@@ -2,26 +2,17 @@
 use mathlib.Core.Bool.{cond, not}
 use mathlib.Core.List.{[], _∷_}
 use lib.IntN.{pos}
-use lib.Ieee.{Float, binary64, neg, add, sub, mul, div, lt, ofInt, ofBits}
+use lib.Ieee.{Float, binary64, neg, add, sub, mul, div, lt, ofInt}
 use lib.Ieee.Scale.{finite}
+use Rattle.numbers.specs.Literals.{one, basisPoint, tiny, epsilon}
 use Rattle.numbers.specs.Clamps.{plusZero}
 use Rattle.numbers.specs.Sizes.{absolute}
 use Rattle.refusals.specs.Outcome.{Outcome, line, judged}
 use Rattle.refusals.specs.Table.{badNumber}
-use Rattle.elementary.specs.WholePower.{one, negativePower}
+use Rattle.elementary.specs.WholePower.{negativePower}
 use Rattle.elementary.specs.Power.{power}
 use Rattle.bond.specs.declared.Bond.{Bond}
 use Rattle.bond.specs.Bonds.{couponsAYear, periodCoupon, periods, bondLines}
-
--- 1e-12, 2^-52, 0.0001
-abbrev pub tiny : Float
-tiny = ofBits binary64 0x3d71_9799_812d_ea11
-
-abbrev pub epsilon : Float
-epsilon = ofBits binary64 0x3cb0_0000_0000_0000
-
-abbrev pub basisPoint : Float
-basisPoint = ofBits binary64 0x3f1a_36e2_eb1c_432d
 
 -- the rate of a period, ytm/m
 unfoldable pub periodRate : Bond → Float → Float

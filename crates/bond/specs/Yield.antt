@@ -2,9 +2,10 @@
 use Prim.Native.Nat.{ℕ, zero, suc}
 use mathlib.Core.Bool.{Bool, cond, _&&_}
 use mathlib.Core.List.{[], _∷_, _++_}
-use lib.Ieee.{Float, binary64, sub, mul, lt, ofBits}
-use Rattle.numbers.specs.Clamps.{plusZero}
+use lib.Ieee.{Float, binary64, sub}
+use Rattle.numbers.specs.Literals.{fifty, thousandth, allButThousandth, millionth}
 use Rattle.refusals.specs.Outcome.{Outcome, line, judged}
+use Rattle.refusals.specs.Table.{oneSided}
 use Rattle.bond.specs.declared.Bond.{Bond}
 use Rattle.bond.specs.declared.brent.Search.{Search}
 use Rattle.bond.specs.Bonds.{bondLines}
@@ -13,28 +14,28 @@ use Rattle.bond.specs.Brent.{rebracketed, exchanged, settled, chosen, mo
 
 -- the brackets: [0.001, 0.999], then [1e-6, 50]
 abbrev pub low : Float
-low = ofBits binary64 0x3f50_624d_d2f1_a9fc
+low = thousandth
 
 abbrev pub high : Float
-high = ofBits binary64 0x3fef_f7ce_d916_872b
+high = allButThousandth
 
 abbrev pub wideLow : Float
-wideLow = ofBits binary64 0x3eb0_c6f7_a0b5_ed8d
+wideLow = millionth
 
 abbrev pub wideHigh : Float
-wideHigh = ofBits binary64 0x4049_0000_0000_0000
+wideHigh = fifty
 
 -- the error of a yield: its price less the market's
 unfoldable pub error : Bond → Float → Float → Float
 error b market ytm = sub binary64 (priceOf b ytm) market
 
--- both ends err to one side: the product of their errors is above 0, which a NaN is not
-unfoldable pub oneSided : Bond → Float → Float → Float → Bool
-oneSided b market x y = lt plusZero (mul binary64 (error b market x) (error b market y))
+-- a bracket's two ends err to one side
+unfoldable pub notIn : Bond → Float → Float → Float → Bool
+notIn b market x y = oneSided (error b market x) (error b market y)
 
 -- 12: "no yield bracket: for both, the product of the end errors is above 0"
 unfoldable pub noBracket : Bond → Float → Bool
-noBracket b market = oneSided b market low high && oneSided b market wideLow wideHigh
+noBracket b market = notIn b market low high && notIn b market wideLow wideHigh
 
 -- the search starts in a bracket: c is a, and both steps are the bracket's width
 unfoldable pub startIn : Bond → Float → Float → Float → Search
@@ -50,7 +51,7 @@ startIn b market x y = record {
 }
 
 unfoldable pub start : Bond → Float → Search
-start b market = cond (oneSided b market low high) (startIn b market wideLow wideHigh) (startIn b market low high)
+start b market = cond (notIn b market low high) (startIn b market wideLow wideHigh) (startIn b market low high)
 
 -- a pass, up to its test, and from there on
 unfoldable pub readied : Search → Search

@@ -5,7 +5,7 @@ ghost use Rattle.refusals.specs.Outcome.{Outcome, accepted, judged};
 ghost use Rattle.refusals.specs.Answers.{verdictOutcome};
 ghost use Rattle.refusals.specs.Table.{badNumber};
 ghost use Rattle.bond.specs.Bonds.{periodsPerYear, couponsAYear, periodCoupon, periods, badMaturity, numberLines, bondLines};
-ghost use Rattle.bond.specs.Worked.{WorkedOut};
+ghost use Rattle.bond.specs.inner.Worked.{WorkedOut};
 use crate::Bond;
 use crate::Frequency;
 use refusals::Verdict;

@@ -1,6 +1,6 @@
 // Brent's method, one pass at a time, over a search by value: each function is the definition of the same name.
 ghost use mathlib.Core.Path.{_≡_};
-ghost use Rattle.bond.specs.Brent.{rebracketed, exchanged, width, midway, settled, rise, run, riseUp, runUp, safe, tried, chosen, shift, moved};
+ghost use Rattle.bond.specs.Brent.{rebracketed, exchanged, leastStep, midway, settled, rise, run, riseUp, runUp, safe, tried, chosen, shift, moved};
 ghost use Rattle.bond.specs.Yield.{readied};
 use numbers::sizes::absolute_value;
 
@@ -67,9 +67,9 @@ pub(crate) fn readied(search: Search) -> Search
     exchanged(rebracketed(search))
 }
 
-// The width below which b is the answer.
-fn width(search: Search) -> f64
-    ensures { λ r. ⌜ r ≡ width search ⌝ }
+// The least step that b moves by, below which b is the answer.
+fn least_step(search: Search) -> f64
+    ensures { λ r. ⌜ r ≡ leastStep search ⌝ }
 {
     2.0 * EPSILON * absolute_value(search.b) + 0.5 * TOLERANCE
 }
@@ -85,7 +85,7 @@ fn midway(search: Search) -> f64
 pub(crate) fn settled(search: Search) -> bool
     ensures { λ r. ⌜ r ≡ settled search ⌝ }
 {
-    if absolute_value(midway(search)) <= width(search) {
+    if absolute_value(midway(search)) <= least_step(search) {
         return true;
     }
     absolute_value(search.fb) < EPSILON
@@ -138,7 +138,7 @@ fn fraction_up(search: Search) -> Fraction
 fn tried(search: Search) -> bool
     ensures { λ r. ⌜ r ≡ tried search ⌝ }
 {
-    if absolute_value(search.e) >= width(search) {
+    if absolute_value(search.e) >= least_step(search) {
         return absolute_value(search.fa) > absolute_value(search.fb);
     }
     false
@@ -149,7 +149,7 @@ fn safe(search: Search, up: Fraction) -> bool
     requires { ⌜ up ≡ record { rise = riseUp search; run = runUp search } ⌝ }
     ensures { λ r. ⌜ r ≡ safe search ⌝ }
 {
-    if 2.0 * up.rise < 3.0 * midway(search) * up.run - absolute_value(width(search) * up.run) {
+    if 2.0 * up.rise < 3.0 * midway(search) * up.run - absolute_value(least_step(search) * up.run) {
         return 2.0 * up.rise < absolute_value(search.e * up.run);
     }
     false
@@ -184,11 +184,11 @@ pub(crate) fn chosen(search: Search) -> Search
     with_steps(search, half, half)
 }
 
-// How far b moves: by d, or by the width toward c where d is shorter.
+// How far b moves: by d, or by the least step toward c where d is shorter.
 fn shift(search: Search) -> f64
     ensures { λ r. ⌜ r ≡ shift search ⌝ }
 {
-    let least = width(search);
+    let least = least_step(search);
     if absolute_value(search.d) > least {
         return search.d;
     }

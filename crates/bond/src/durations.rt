@@ -4,12 +4,12 @@ ghost use Prim.Native.Nat.{ℕ, suc, _+_, _-_, _*_, _/_, _≤_, _<_};
 ghost use mathlib.Core.Bool.{cond};
 ghost use lib.IntN.{pos};
 ghost use lib.Ieee.{binary64, add, mul, div, ofInt};
+ghost use Rattle.numbers.specs.Literals.{one};
 ghost use Rattle.numbers.specs.Sums.{addedUp};
 ghost use Rattle.refusals.specs.Answers.{numberOutcome};
 ghost use Rattle.bond.specs.Bonds.{periods};
-ghost use Rattle.bond.specs.Worked.{WorkedOut};
-ghost use Rattle.elementary.specs.WholePower.{one};
-ghost use Rattle.bond.specs.Weighted.{weighted};
+ghost use Rattle.bond.specs.inner.Worked.{WorkedOut};
+ghost use Rattle.bond.specs.inner.Weighted.{weightedBy};
 ghost use Rattle.bond.specs.Durations.{worth, weightedTime, macaulayOf, modifiedOf, weightedSquare, convexityOf, changeOf};
 ghost use Rattle.bond.specs.Durations.{macaulayDuration, modifiedDuration, convexity, priceChange};
 ghost use Rattle.bond.specs.Durations.{macaulayAtPrice, modifiedAtPrice, convexityAtPrice};
@@ -53,8 +53,8 @@ fn weight(worked: Worked, squares: bool, t: u32) -> f64
 
 // The flows from a period on up to another, added to those before. None is the last, and their powers stand in one block of sixteen.
 fn add_flows(worked: Worked, r: f64, squares: bool, from: u32, to: u32, before: f64) -> f64
-    requires { ⌜ WorkedOut worked × (1 ≤ from) × (from ≤ to) × (to ≤ 16 * (from / 16) + 16) × (to ≤ worked .count) × (before ≡ addedUp (λ (i : ℕ). weighted (worked .bond) r squares (suc i)) (from - 1)) ⌝ }
-    ensures { λ s. ⌜ s ≡ addedUp (λ (i : ℕ). weighted (worked .bond) r squares (suc i)) (to - 1) ⌝ }
+    requires { ⌜ WorkedOut worked × (1 ≤ from) × (from ≤ to) × (to ≤ 16 * (from / 16) + 16) × (to ≤ worked .count) × (before ≡ addedUp (λ (i : ℕ). weightedBy (worked .bond) r squares (suc i)) (from - 1)) ⌝ }
+    ensures { λ s. ⌜ s ≡ addedUp (λ (i : ℕ). weightedBy (worked .bond) r squares (suc i)) (to - 1) ⌝ }
 {
     let block = from / 16;
     let powers = sixteen_powers(1.0 + r, block);
@@ -80,7 +80,7 @@ fn block_end(t: u32, last: u32) -> u32
 // The sum of each period's weight times the worth of its flow, left to right.
 fn weighted_sum(worked: Worked, r: f64, squares: bool) -> f64
     requires { ⌜ WorkedOut worked ⌝ }
-    ensures { λ s. ⌜ s ≡ addedUp (λ (i : ℕ). weighted (worked .bond) r squares (suc i)) (periods (worked .bond)) ⌝ }
+    ensures { λ s. ⌜ s ≡ addedUp (λ (i : ℕ). weightedBy (worked .bond) r squares (suc i)) (periods (worked .bond)) ⌝ }
 {
     if worked.count == 0 {
         return 0.0;

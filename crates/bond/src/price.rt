@@ -1,11 +1,12 @@
 // The price of a bond at a yield, and what is worked out from prices alone.
 ghost use mathlib.Core.Path.{_≡_};
 ghost use lib.Ieee.{lt};
+ghost use Rattle.numbers.specs.Literals.{epsilon};
 ghost use Rattle.numbers.specs.Sizes.{absolute};
 ghost use Rattle.refusals.specs.Answers.{numberOutcome};
-ghost use Rattle.bond.specs.Price.{epsilon, periodRate, undiscounted, discounted, priceOf};
+ghost use Rattle.bond.specs.Price.{periodRate, undiscounted, discounted, priceOf};
 ghost use Rattle.bond.specs.Price.{price, dv01, currentYield, zeroCouponPrice};
-ghost use Rattle.bond.specs.Worked.{WorkedOut};
+ghost use Rattle.bond.specs.inner.Worked.{WorkedOut};
 use crate::Bond;
 use crate::bonds::Worked;
 use crate::bonds::judge_bond;

@@ -1,12 +1,11 @@
 // The yield of a bond at a market price.
 ghost use mathlib.Core.Path.{_≡_};
 ghost use mathlib.Core.List.{[], _∷_};
-ghost use lib.Ieee.{binary64, mul, lt};
-ghost use Rattle.numbers.specs.Clamps.{plusZero};
 ghost use Rattle.refusals.specs.Outcome.{line, judged};
+ghost use Rattle.refusals.specs.Table.{oneSided};
 ghost use Rattle.refusals.specs.Answers.{numberOutcome};
 ghost use Rattle.bond.specs.Yield.{error, noBracket, startIn, withError, passed, searched, yieldOf, yieldToMaturity};
-ghost use Rattle.bond.specs.Worked.{WorkedOut};
+ghost use Rattle.bond.specs.inner.Worked.{WorkedOut};
 use crate::Bond;
 use crate::bonds::Worked;
 use crate::bonds::judge_bond;
@@ -92,7 +91,7 @@ fn searched(worked: Worked, market: f64, start: Search) -> f64
 
 // Both ends err to one side.
 fn one_sided(search: Search) -> bool
-    ensures { λ r. ⌜ r ≡ lt plusZero (mul binary64 (search .fa) (search .fb)) ⌝ }
+    ensures { λ r. ⌜ r ≡ oneSided (search .fa) (search .fb) ⌝ }
 {
     search.fa * search.fb > 0.0
 }

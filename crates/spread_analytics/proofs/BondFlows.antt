@@ -9,15 +9,16 @@ use lib.IntN.{pos}
 use lib.ListN.{length, drop}
 use lib.Ieee.{Float, binary64, add, mul, div, ofInt}
 use borrow.Author.Tests.{ltb-false}
+use Rattle.numbers.specs.Literals.{one}
 use Rattle.numbers.specs.Whole.{nearestWhole}
 use Rattle.refusals.specs.declared.Refusal.{Refusal}
 use Rattle.refusals.specs.declared.Verdict.{Verdict}
 use Rattle.refusals.specs.declared.Verdict.the-variants as verdict-is
 use Rattle.refusals.specs.Answers.{verdictOutcome}
 use Rattle.refusals.specs.Outcome.{Outcome, refused, accepted, Line, line, firstOr, judged}
-use Rattle.refusals.specs.Table.{badAmount, badTime, tooManyPeriods, badNumber}
+use Rattle.refusals.specs.Table.{badAmount, noRoomInEither, badTime, tooManyPeriods, badNumber}
+use Rattle.refusals.proofs.Causes.{neither}
 use Rattle.refusals.proofs.Verdicts.{verdict, refused-by, accepted-by}
-use Rattle.elementary.specs.WholePower.{one}
 use Rattle.spread_analytics.specs.Flows.{perYear, flowCount, flowPeriod, flowCoupon, flowTime, flowAmount, badFlows, noFlowRoom, bondCashFlows, firstOf, columnIn}
 
 -- ---- lines 1, 3, 7 and 9, by their causes
@@ -53,14 +54,11 @@ not-short false true short coupon e = let z : _≡_ {A = ℕ} 0 1 = cc in absurd
 not-short false false true coupon e = let z : _≡_ {A = ℕ} 0 1 = cc in absurd (omega arith)
 not-short false false false coupon e = refl
 
-both : (a b : Bool) → (a || b) ≡ false → (a ≡ false) × (b ≡ false)
-both true b e = (e, absurd (let z : _≡_ {A = ℕ} 0 1 = cc in omega arith))
-both false b e = (refl, e)
-
 pub room-for-all : (face many coupon : Bool) (times amounts count : ℕ) (x : Verdict) → x ≡ verdict-is.Accepted
-    → verdictOutcome x ≡ verdict (flowLinesBy face many (ltb times count || ltb amounts count) coupon) → (count ≤ times) × (count ≤ amounts)
+    → verdictOutcome x ≡ verdict (flowLinesBy face many (noRoomInEither count times amounts) coupon) → (count ≤ times) × (count ≤ amounts)
+unfolding noRoomInEither
 room-for-all face many coupon times amounts count x h e =
-    let s = both (ltb times count) (ltb amounts count) (not-short face many _ coupon (sym (ap verdictOutcome h) ∙ e)) in
+    let s = neither (ltb times count) (ltb amounts count) (not-short face many _ coupon (sym (ap verdictOutcome h) ∙ e)) in
     (ltb-false times count (s .0), ltb-false amounts count (s .1))
 
 -- ---- the columns as the code works them out are the definition's
@@ -85,13 +83,13 @@ module _ (face coupon tenor : Float) (frequency count : ℕ) where
 
 -- ---- the two lists after it
 module _ (face coupon tenor : Float) (frequency count : ℕ) (times amounts : List Float) (x : Verdict) (n : count ≡ nearestWhole (mul binary64 tenor (perYear frequency)))
-    (e : verdictOutcome x ≡ verdict (flowLinesBy (badAmount face) (badTime tenor || tooManyPeriods count) (ltb (length times) count || ltb (length amounts) count) (badNumber coupon))) where
+    (e : verdictOutcome x ≡ verdict (flowLinesBy (badAmount face) (badTime tenor || tooManyPeriods count) (noRoomInEither count (length times) (length amounts)) (badNumber coupon))) where
   abbrev outcome : Outcome ℕ
   outcome = bondCashFlows face coupon tenor frequency times amounts
 
   as-lines : {Value : Type 0} (o : Outcome Value) (v : Value)
-      → o ≡ judged (flowLinesBy (badAmount face) (badTime tenor || tooManyPeriods count) (ltb (length times) count || ltb (length amounts) count) (badNumber coupon)) v
-      → o ≡ judged (flowLinesBy (badAmount face) (badFlows face coupon tenor frequency) (ltb (length times) (flowCount face coupon tenor frequency) || ltb (length amounts) (flowCount face coupon tenor frequency)) (badNumber coupon)) v
+      → o ≡ judged (flowLinesBy (badAmount face) (badTime tenor || tooManyPeriods count) (noRoomInEither count (length times) (length amounts)) (badNumber coupon)) v
+      → o ≡ judged (flowLinesBy (badAmount face) (badFlows face coupon tenor frequency) (noRoomInEither (flowCount face coupon tenor frequency) (length times) (length amounts)) (badNumber coupon)) v
   unfolding badFlows flowCount
   as-lines o v h = h ∙ rw n
 

@@ -12,13 +12,9 @@ use lib.Seq.{take-suc, take-suc-set, take-length}
 use lib.Ieee.{Float}
 use borrow.Author.Tests.{ltb-false, lt-ltb, le-ltb}
 use Rattle.numbers.specs.Clamps.{plusZero}
-use Rattle.refusals.specs.Outcome.{refused, Line, firstOr, judged}
-use Rattle.refusals.specs.Table.{tooManyPeriods}
-use Rattle.refusals.proofs.Verdicts.{verdict}
 use Rattle.spread_analytics.specs.declared.dated.CashFlow.{CashFlow}
 use Rattle.spread_analytics.specs.declared.dated.Lists.{Lists}
 use Rattle.spread_analytics.specs.Dated.{timesOf, amountsOf}
-use Rattle.spread_analytics.proofs.SpreadVerdict.{timesLine}
 
 -- ---- one column
 -- what stands past the end, which nothing reads
@@ -117,11 +113,5 @@ same-lists core flows lists count n few h = let g : length flows ≤ 1200 = omeg
 pub same-length : (flows : List CashFlow) → length (timesOf flows) ≡ length (amountsOf flows)
 same-length flows = length-map flows timeOf ∙ sym (length-map flows amountOf)
 
-pub too-many : (flows : List CashFlow) (count : ℕ) → length flows ≡ count → 1200 < count → 1200 < length (timesOf flows)
-too-many flows count n h = rw (length-map flows timeOf, n) h
-
--- line 7 has its single cause
-pub refused-7 : (times : List Float) (ls : List Line) → 1200 < length times → refused 7 0 ≡ verdict (timesLine times ∷ ls)
-unfolding judged firstOr tooManyPeriods
-refused-7 [] ls h = absurd (omega arith)
-refused-7 (t ∷ ts) ls h = rw (lt-ltb 1200 (length (t ∷ ts)) h)
+pub many-times : (flows : List CashFlow) (count : ℕ) → length flows ≡ count → 1200 < count → 1200 < length (timesOf flows)
+many-times flows count n h = rw (length-map flows timeOf, n) h

@@ -11,7 +11,7 @@ use Rattle.refusals.specs.declared.Verdict.{Verdict}
 use Rattle.refusals.specs.declared.Verdict.the-variants as verdict-is
 use Rattle.refusals.specs.Answers.{verdictOutcome}
 use Rattle.refusals.specs.Outcome.{Outcome, refused, accepted, Line, alone}
-use Rattle.refusals.specs.Table.{unequal, tooManyPeriods, badTime, badNumber}
+use Rattle.refusals.specs.Table.{unequal, tooManyFlows, badTime, badNumber}
 use Rattle.refusals.proofs.Judging.{none-is, passed}
 use Rattle.refusals.proofs.Verdicts.{verdict}
 use Rattle.yield_curve.specs.Curve.{curveLines}
@@ -21,14 +21,14 @@ use Rattle.spread_analytics.proofs.ItemLine.{itemLine}
 
 -- lines 7 and 9, of the flows
 abbrev pub timesLine : List Float → Line
-timesLine times = record { number = 7; causes = alone (tooManyPeriods (length times)) (map badTime times) }
+timesLine times = record { number = 7; causes = alone (tooManyFlows (length times)) (map badTime times) }
 
 abbrev pub amountsLine : Bool → List Float → Line
 amountsLine bad amounts = record { number = 9; causes = alone bad (map badNumber amounts) }
 
 -- line 7 as the items are asked
 pub times-line : (times : List Float) → verdict (itemLine 7 (ltb 1200 (length times)) times ∷ []) ≡ verdict (timesLine times ∷ [])
-unfolding tooManyPeriods badTime badNumber
+unfolding tooManyFlows badTime badNumber
 times-line times = refl
 
 either : (a b : Bool) → (a || b) ≡ false → a ≡ false
@@ -40,8 +40,8 @@ no-single : (b : Bool) (cs : List Bool) → getD (alone b cs) 0 false ≡ false 
 no-single b [] e = e
 no-single b (c ∷ cs) e = either b c e
 
-few : (n : ℕ) → tooManyPeriods n ≡ false → n ≤ 1200
-unfolding tooManyPeriods
+few : (n : ℕ) → tooManyFlows n ≡ false → n ≤ 1200
+unfolding tooManyFlows
 few n e = ltb-false 1200 n e
 
 pub at-most-1200 : (times : List Float) (ls : List Line) → accepted tt ≡ verdict (timesLine times ∷ ls) → length times ≤ 1200
@@ -55,7 +55,7 @@ different : (m n : ℕ) → (m ≡ n → ⊥) → unequal m n ≡ true
 unfolding unequal
 different m n h = ap not (ne-eqb m n h)
 
-equal : (m n : ℕ) → m ≡ n → unequal m n ≡ false
+pub equal : (m n : ℕ) → m ≡ n → unequal m n ≡ false
 unfolding unequal
 equal m n h = ap not (eq-eqb m n h)
 

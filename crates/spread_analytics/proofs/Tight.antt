@@ -1,12 +1,8 @@
 -- How tight the promises are: whatever a public function is given, any two results that its contract allows are equal, and for a bond's cash flows so are any two last states of the
--- two lent lists. Those over dated flows promise the same equations at the flows' two lists; those over gathered flows leave one result where their rooms are as they require. Assumes nothing.
+-- two lent lists. Those over dated flows promise the same equations at the flows' two lists. Assumes nothing.
 use mathlib.Core.Path.{_≡_, sym, ap, _∙_}
 use mathlib.Core.List.{List}
-use Prim.Native.Nat.{ℕ}
 use lib.Ieee.{Float}
-use borrow.Fn.Kinds.{In, Out, PK, RK, Dens, resT, endedOf}
-use contract.Lifetimes.{Lfts}
-use denote.Triple.Clauses.{AtExit}
 use Rattle.numbers.proofs.Determined.{Determined, Settled}
 use Rattle.refusals.specs.declared.Number.{Number}
 use Rattle.refusals.specs.Answers.{numberOutcome}
@@ -20,7 +16,6 @@ use Rattle.spread_analytics.specs.declared.spread.SensitivityAnswer.the-
 use Rattle.spread_analytics.specs.declared.dated.CashFlow.{CashFlow}
 use Rattle.spread_analytics.specs.Spread.{pvCashFlows, zSpread, durationConvexity, spreadOutcome, sensitivityOutcome}
 use Rattle.spread_analytics.specs.Dated.{timesOf, amountsOf}
-use Rattle.spread_analytics.proofs.HeldFlows.{some-flows}
 use Rattle.spread_analytics.proofs.units.to_decimal.Kinds as to-decimal-kinds
 use Rattle.spread_analytics.proofs.units.to_decimal.Reads as to-decimal
 use Rattle.spread_analytics.proofs.curves.rate_at.Kinds as rate-at-kinds
@@ -39,12 +34,6 @@ use Rattle.spread_analytics.proofs.spread.duration_convexity.Kinds as d
 use Rattle.spread_analytics.proofs.spread.duration_convexity.Reads as duration-convexity
 use Rattle.spread_analytics.proofs.flows.bond_cash_flows.Kinds as bond-cash-flows-kinds
 use Rattle.spread_analytics.proofs.flows.bond_cash_flows.Reads as bond-cash-flows
-use Rattle.spread_analytics.proofs.dated.pv_of_lists.Kinds as pv-of-lists-kinds
-use Rattle.spread_analytics.proofs.dated.pv_of_lists.Reads as pv-of-lists
-use Rattle.spread_analytics.proofs.dated.z_spread_of_lists.Kinds as z-spread-of-lists-kinds
-use Rattle.spread_analytics.proofs.dated.z_spread_of_lists.Reads as z-spread-of-lists
-use Rattle.spread_analytics.proofs.dated.sensitivity_of_lists.Kinds as sensitivity-of-lists-kinds
-use Rattle.spread_analytics.proofs.dated.sensitivity_of_lists.Reads as sensitivity-of-lists
 use Rattle.spread_analytics.proofs.curves_each.rate_at_each.Kinds as rate-at-each-kinds
 use Rattle.spread_analytics.proofs.curves_each.rate_at_each.Reads as rate-at-each
 use Rattle.spread_analytics.proofs.curves_each.discount_factor_at_each.Kinds as discount-factor-at-each-kinds
@@ -121,27 +110,6 @@ module _ (flows : List CashFlow) (tenors rates : List Float) (s : Float) where
   pub duration-convexity-of-determined : (x y : SensitivityAnswer) → sensitivityOutcome x ≡ durationConvexity (timesOf flows) (amountsOf flows) tenors rates s
       → sensitivityOutcome y ≡ durationConvexity (timesOf flows) (amountsOf flows) tenors rates s → x ≡ y
   duration-convexity-of-determined x y p q = sensitivity-one-to-one x y (p ∙ sym q)
-
--- ---- and so do those over gathered flows, whose promise is made for any flows that the rooms hold, given what they require: rooms of 1,200. Flows of the count that the rooms hold always are,
--- and two answers that are each the answer for one and the same flows are equal
-abbrev DeterminedGiven : (n : ℕ) (ps : List (PK n)) (r : RK n) → In n ps → Out n ps r → Type 0
-DeterminedGiven n ps r needs promise =
-    (κs : Lfts n) (a : Dens κs ps) (x y : resT r κs .Denot) (e e′ : AtExit (endedOf n ps r) κs) → needs κs a → promise κs a x e → promise κs a y e′ → x ≡ y
-
-pub pv-of-lists-determined : DeterminedGiven 2 pv-of-lists-kinds.ps pv-of-lists-kinds.r pv-of-lists.Pre pv-of-lists.Post
-pv-of-lists-determined κs a x y e e′ rooms p q =
-    let w = some-flows (a .0 .times) (a .0 .amounts) rooms (a .1 .0) in
-    number-one-to-one x y (p (w .0) (w .1) (w .2) ∙ sym (q (w .0) (w .1) (w .2)))
-
-pub z-spread-of-lists-determined : DeterminedGiven 2 z-spread-of-lists-kinds.ps z-spread-of-lists-kinds.r z-spread-of-lists.Pre z-spread-of-lists.Post
-z-spread-of-lists-determined κs a x y e e′ rooms p q =
-    let w = some-flows (a .0 .times) (a .0 .amounts) rooms (a .1 .0) in
-    spread-one-to-one x y (p (w .0) (w .1) (w .2) ∙ sym (q (w .0) (w .1) (w .2)))
-
-pub sensitivity-of-lists-determined : DeterminedGiven 2 sensitivity-of-lists-kinds.ps sensitivity-of-lists-kinds.r sensitivity-of-lists.Pre sensitivity-of-lists.Post
-sensitivity-of-lists-determined κs a x y e e′ rooms p q =
-    let w = some-flows (a .0 .times) (a .0 .amounts) rooms (a .1 .0) in
-    sensitivity-one-to-one x y (p (w .0) (w .1) (w .2) ∙ sym (q (w .0) (w .1) (w .2)))
 
 -- ---- lists of lookups: one verdict, and one list after the call
 pub rate-at-each-determined : Determined 3 rate-at-each-kinds.ps rate-at-each-kinds.r rate-at-each.Post

@@ -1,7 +1,8 @@
 -- The two rate curves of spreads. Definitions only. Assumes nothing.
 use mathlib.Core.Bool.{cond, _||_}
 use mathlib.Core.List.{List, [], _∷_, _++_}
-use lib.Ieee.{Float, binary64, neg, add, sub, mul, div, lt, le, ofBits}
+use lib.Ieee.{Float, binary64, neg, add, sub, mul, div, lt, le}
+use Rattle.numbers.specs.Literals.{tiny}
 use Rattle.numbers.specs.Clamps.{plusZero}
 use Rattle.numbers.specs.Sizes.{absolute}
 use Rattle.refusals.specs.Outcome.{Outcome, line, judged}
@@ -10,10 +11,6 @@ use Rattle.elementary.specs.Exp.{exp}
 use Rattle.elementary.specs.Ln.{ln}
 use Rattle.yield_curve.specs.Segments.{segmentStarting, flatOutside, Ends, endsOf}
 use Rattle.yield_curve.specs.Curve.{curveLines, askedLines}
-
--- 1e-12
-abbrev pub tiny : Float
-tiny = ofBits binary64 0x3d71_9799_812d_ea11
 
 -- "r0 + (r1-r0)·(t-t0)/(t1-t0), left to right"
 unfoldable pub alongRates : Ends → Float → Float

@@ -1,15 +1,16 @@
 -- A bond's cash flows, into two lent lists. Definitions only. Assumes nothing.
-use Prim.Native.Nat.{ℕ, zero, suc, max}
+use Prim.Native.Nat.{ℕ, suc, max}
 use mathlib.Core.Bool.{Bool, cond, not, _&&_, _||_}
 use mathlib.Core.List.{List, [], _∷_, _++_}
-use lib.Dec.{eqb, ltb}
+use lib.Dec.{eqb}
 use lib.IntN.{pos}
 use lib.ListN.{length, drop}
 use lib.Ieee.{Float, binary64, add, mul, div, ofInt}
+use Rattle.numbers.specs.Literals.{one}
 use Rattle.numbers.specs.Whole.{nearestWhole}
 use Rattle.refusals.specs.Outcome.{Outcome, refused, accepted, Line, line, judged}
-use Rattle.refusals.specs.Table.{badAmount, badTime, tooManyPeriods, badNumber}
-use Rattle.elementary.specs.WholePower.{one}
+use Rattle.refusals.specs.Table.{badAmount, noRoomInEither, badTime, tooManyPeriods, badNumber}
+use Rattle.steps.specs.Steps.{singles}
 
 -- the frequency; 0 is read as 1
 abbrev pub perYear : ℕ → Float
@@ -37,7 +38,7 @@ module _ (face coupon tenor : Float) (frequency : ℕ) where
   badFlows = badTime tenor || tooManyPeriods flowCount
 
   unfoldable pub noFlowRoom : ℕ → ℕ → Bool
-  noFlowRoom times amounts = not badFlows && (ltb times flowCount || ltb amounts flowCount)
+  noFlowRoom times amounts = not badFlows && noRoomInEither flowCount times amounts
 
   abbrev pub flowLines : ℕ → ℕ → List Line
   flowLines times amounts = line 1 (badAmount face) ∷ line 3 (noFlowRoom times amounts) ∷ line 7 badFlows ∷ line 9 (badNumber coupon) ∷ []
@@ -46,9 +47,8 @@ module _ (face coupon tenor : Float) (frequency : ℕ) where
   bondCashFlows times amounts = judged (flowLines (length times) (length amounts)) flowCount
 
 -- the first k of a column, from 1
-unfoldable pub firstOf : (ℕ → Float) → ℕ → List Float
-firstOf f zero = []
-firstOf f (suc k) = firstOf f k ++ f (suc k) ∷ []
+abbrev pub firstOf : (ℕ → Float) → ℕ → List Float
+firstOf f k = singles (λ (i : ℕ). f (suc i)) k
 
 -- a lent list after it: the column, and then what stood there; a refusal leaves it
 abbrev pub columnIn : Outcome ℕ → (ℕ → Float) → List Float → List Float

@@ -4,7 +4,7 @@ ghost use mathlib.Core.List.{map};
 ghost use Prim.Native.Nat.{_<_};
 ghost use lib.ListN.{length};
 ghost use Rattle.refusals.specs.Answers.{verdictOutcome};
-ghost use Rattle.yield_curve.specs.Halving.{Rising};
+ghost use Rattle.yield_curve.specs.inner.Rising.{Rising};
 ghost use Rattle.yield_curve.specs.Lists.{eachOutcome, eachAfter, rateOrExponent};
 ghost use Rattle.spread_analytics.specs.Curves.{rateOf, discountOf};
 use crate::curves::along_rates;

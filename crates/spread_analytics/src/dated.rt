@@ -25,9 +25,9 @@ pub struct CashFlow {
 }
 
 // Room of our own for the two lists.
-pub struct Lists {
-    pub times: [f64; 1200],
-    pub amounts: [f64; 1200],
+pub(crate) struct Lists {
+    times: [f64; 1200],
+    amounts: [f64; 1200],
 }
 
 fn zeros() -> [f64; 1200]
@@ -61,7 +61,7 @@ fn refused_for_count(tenors: &[f64], rates: &[f64]) -> Refusal
 }
 
 // The core over so many of two lists, for whatever flows they were gathered from.
-pub fn pv_of_lists(
+fn pv_of_lists(
     lists: Lists,
     count: usize,
     tenors: &[f64],
@@ -80,7 +80,7 @@ pub fn pv_of_lists(
     crate::spread::pv_cash_flows(&times[..count], &amounts[..count], tenors, rates, spread)
 }
 
-pub fn z_spread_of_lists(
+fn z_spread_of_lists(
     lists: Lists,
     count: usize,
     tenors: &[f64],
@@ -99,7 +99,7 @@ pub fn z_spread_of_lists(
     crate::spread::z_spread(&times[..count], &amounts[..count], tenors, rates, market)
 }
 
-pub fn sensitivity_of_lists(
+fn sensitivity_of_lists(
     lists: Lists,
     count: usize,
     tenors: &[f64],

@@ -3,15 +3,15 @@ ghost use mathlib.Core.Path.{_≡_};
 ghost use mathlib.Core.Bool.{cond, not, _&&_, _||_};
 ghost use mathlib.Core.List.{[], _∷_, _++_};
 ghost use Prim.Native.Nat.{ℕ, _≤_, max};
-ghost use lib.Dec.{eqb, ltb};
+ghost use lib.Dec.{eqb};
 ghost use lib.IntN.{pos};
 ghost use lib.ListN.{length, drop};
 ghost use lib.Ieee.{binary64, add, mul, div, ofInt};
+ghost use Rattle.numbers.specs.Literals.{one};
 ghost use Rattle.numbers.specs.Whole.{nearestWhole};
 ghost use Rattle.refusals.specs.Outcome.{line, judged};
-ghost use Rattle.refusals.specs.Table.{badAmount, badTime, tooManyPeriods, badNumber};
+ghost use Rattle.refusals.specs.Table.{badAmount, noRoomInEither, badTime, tooManyPeriods, badNumber};
 ghost use Rattle.refusals.specs.Answers.{verdictOutcome, countOutcome};
-ghost use Rattle.elementary.specs.WholePower.{one};
 ghost use Rattle.spread_analytics.specs.Flows.{perYear, flowTime, flowAmount, bondCashFlows, firstOf, columnIn};
 use refusals::Count;
 use refusals::Verdict;
@@ -62,7 +62,7 @@ fn bad_flows(tenor: f64, count: u32) -> bool
 
 // Line 3: fewer places in either list than flows.
 fn too_little_room(count: u32, times: usize, amounts: usize) -> bool
-    ensures { λ r. ⌜ r ≡ (ltb times count || ltb amounts count) ⌝ }
+    ensures { λ r. ⌜ r ≡ noRoomInEither count times amounts ⌝ }
 {
     if times < count as usize {
         return true;
@@ -79,7 +79,7 @@ fn judge_bond_flows(
     times: usize,
     amounts: usize,
 ) -> Verdict
-    ensures { λ r. ⌜ verdictOutcome r ≡ judged (line 1 (badAmount face) ∷ line 3 (not (badTime tenor || tooManyPeriods count) && (ltb times count || ltb amounts count)) ∷ line 7 (badTime tenor || tooManyPeriods count) ∷ line 9 (badNumber coupon) ∷ []) tt ⌝ }
+    ensures { λ r. ⌜ verdictOutcome r ≡ judged (line 1 (badAmount face) ∷ line 3 (not (badTime tenor || tooManyPeriods count) && noRoomInEither count times amounts) ∷ line 7 (badTime tenor || tooManyPeriods count) ∷ line 9 (badNumber coupon) ∷ []) tt ⌝ }
 {
     if refusals::bad_amount(face) {
         return Verdict::Refused(refuse(1));

@@ -6,7 +6,7 @@ ghost use Prim.Native.Nat.{_≤_};
 ghost use lib.ListN.{length};
 ghost use Rattle.refusals.specs.Outcome.{alone, judged};
 ghost use Rattle.refusals.specs.Answers.{verdictOutcome};
-ghost use Rattle.refusals.specs.Table.{tooManyPeriods, badTime, badNumber};
+ghost use Rattle.refusals.specs.Table.{tooManyFlows, badTime, badNumber};
 ghost use Rattle.spread_analytics.specs.Spread.{spreadLines};
 use refusals::Refusal;
 use refusals::Verdict;
@@ -36,7 +36,7 @@ fn judge_items(number: u32, single: bool, items: &[f64]) -> Verdict
 // Lines 7 and 9, of the flows.
 fn judge_flows(times: &[f64], amounts: &[f64], bad: bool) -> Verdict
     requires { ⌜ length (now times) ≡ length (now amounts) ⌝ }
-    ensures { λ r. ⌜ verdictOutcome r ≡ judged ((record { number = 7; causes = alone (tooManyPeriods (length (now (times .entry)))) (map badTime (now (times .entry))) }) ∷ (record { number = 9; causes = alone bad (map badNumber (now (amounts .entry))) }) ∷ []) tt ⌝ }
+    ensures { λ r. ⌜ verdictOutcome r ≡ judged ((record { number = 7; causes = alone (tooManyFlows (length (now (times .entry)))) (map badTime (now (times .entry))) }) ∷ (record { number = 9; causes = alone bad (map badNumber (now (amounts .entry))) }) ∷ []) tt ⌝ }
 {
     match judge_items(7, times.len() > 1200, times) {
         Verdict::Refused(refusal) => Verdict::Refused(refusal),

@@ -5,14 +5,15 @@ ghost use mathlib.Core.List.{List};
 ghost use Prim.Native.Nat.{ℕ, _+_, _<_, _≤_};
 ghost use lib.ListN.{length};
 ghost use lib.Ieee.{Float, binary64, mul, lt};
+ghost use Rattle.numbers.specs.Literals.{twoThousand, minusFiveHundred};
 ghost use Rattle.numbers.specs.Sizes.{absolute};
 ghost use Rattle.numbers.specs.Sums.{addedUp};
 ghost use Rattle.refusals.specs.Outcome.{accepted};
 ghost use Rattle.refusals.specs.Answers.{numberOutcome};
 ghost use Rattle.yield_curve.specs.Segments.{knot};
-ghost use Rattle.spread_analytics.specs.Units.{decimal};
+ghost use Rattle.spread_analytics.specs.Units.{asDecimal};
 ghost use Rattle.spread_analytics.specs.Curves.{rateOf};
-ghost use Rattle.spread_analytics.specs.Spread.{lowest, highest, worthOf, pvCashFlows, miss, halved, spreadOf, zSpread, spreadOutcome};
+ghost use Rattle.spread_analytics.specs.Spread.{worthOf, pvCashFlows, errorAt, spreadWithin, spreadOf, zSpread, spreadOutcome};
 ghost use Rattle.spread_analytics.specs.Spread.{factorOf, sensitivityOf, durationConvexity, sensitivityOutcome};
 use crate::judging::judge_spread;
 use crate::units::BasisPoints;
@@ -94,7 +95,7 @@ pub fn pv_cash_flows(
 }
 
 // The error of a spread: its worth less the market's.
-fn miss(
+fn error_at(
     times: &[f64],
     amounts: &[f64],
     kept: &[f64],
@@ -104,13 +105,13 @@ fn miss(
 ) -> f64
     requires { ⌜ (length (now times) ≡ length (now amounts)) × (length (now times) ≤ length (now kept)) × (length (now times) ≤ length (now room)) ⌝ }
     ensures { λ r. ⌜ ((tenors rates : List Float) → ((i : ℕ) → i < length (now (times .entry)) → knot (now (kept .entry)) i ≡ rateOf tenors rates (knot (now (times .entry)) i))
-        → r ≡ miss (now (times .entry)) (now (amounts .entry)) tenors rates market (spread .0)) ⌝ }
+        → r ≡ errorAt (now (times .entry)) (now (amounts .entry)) tenors rates market (spread .0)) ⌝ }
 {
     worth_at(times, amounts, kept, room, spread) - market
 }
 
 // The spread between the ends, by at most 100 halvings; the error at the lower end is kept.
-fn halved(
+fn spread_within(
     times: &[f64],
     amounts: &[f64],
     kept: &[f64],
@@ -120,8 +121,8 @@ fn halved(
 ) -> BasisPoints
     requires { ⌜ (length (now times) ≡ length (now amounts)) × (length (now times) ≤ length (now kept)) × (length (now times) ≤ length (now room)) ⌝ }
     ensures { λ r. ⌜ ((tenors rates : List Float) → ((i : ℕ) → i < length (now (times .entry)) → knot (now (kept .entry)) i ≡ rateOf tenors rates (knot (now (times .entry)) i))
-        → low ≡ miss (now (times .entry)) (now (amounts .entry)) tenors rates market lowest
-        → r .0 ≡ halved (now (times .entry)) (now (amounts .entry)) tenors rates market 100 lowest highest) ⌝ }
+        → low ≡ errorAt (now (times .entry)) (now (amounts .entry)) tenors rates market minusFiveHundred
+        → r .0 ≡ spreadWithin (now (times .entry)) (now (amounts .entry)) tenors rates market 100 minusFiveHundred twoThousand) ⌝ }
 {
     let mut lo = LOWEST;
     let mut hi = HIGHEST;
@@ -132,7 +133,7 @@ fn halved(
         if absolute_value(hi - lo) < 1e-8 {
             return BasisPoints(middle);
         }
-        let error = miss(times, amounts, kept, room, market, BasisPoints(middle));
+        let error = error_at(times, amounts, kept, room, market, BasisPoints(middle));
         if below * error <= 0.0 {
             hi = middle;
         } else {
@@ -146,7 +147,7 @@ fn halved(
 
 // The end with the smaller error.
 fn nearer_end(low: f64, high: f64) -> BasisPoints
-    ensures { λ r. ⌜ r .0 ≡ cond (lt (absolute low) (absolute high)) lowest highest ⌝ }
+    ensures { λ r. ⌜ r .0 ≡ cond (lt (absolute low) (absolute high)) minusFiveHundred twoThousand ⌝ }
 {
     if absolute_value(low) < absolute_value(high) {
         BasisPoints(LOWEST)
@@ -169,7 +170,7 @@ fn spread_of(
     let mut kept = [0.0; 1200];
     let mut room = [0.0; 1200];
     keep_rates(times, tenors, rates, &mut kept);
-    let low = miss(
+    let low = error_at(
         times,
         amounts,
         &kept,
@@ -177,7 +178,7 @@ fn spread_of(
         market,
         BasisPoints(LOWEST),
     );
-    let high = miss(
+    let high = error_at(
         times,
         amounts,
         &kept,
@@ -188,7 +189,7 @@ fn spread_of(
     if low * high > 0.0 {
         return SpreadAnswer::NoSignChange(nearer_end(low, high));
     }
-    SpreadAnswer::Found(halved(times, amounts, &kept, &mut room, market, low))
+    SpreadAnswer::Found(spread_within(times, amounts, &kept, &mut room, market, low))
 }
 
 // The spread at which the flows are worth the market price.
@@ -217,8 +218,8 @@ fn sums_over(
 ) -> Sums
     requires { ⌜ length (now times) ≡ length (now amounts) ⌝ }
     ensures { λ s. ⌜ s .worth ≡ worthOf (now (times .entry)) (now (amounts .entry)) (now (tenors .entry)) (now (rates .entry)) (spread .0) ⌝ }
-    ensures { λ s. ⌜ s .timed ≡ addedUp (λ (i : ℕ). mul binary64 (mul binary64 (knot (now (times .entry)) i) (knot (now (amounts .entry)) i)) (factorOf (now (times .entry)) (now (amounts .entry)) (now (tenors .entry)) (now (rates .entry)) (decimal (spread .0)) i)) (length (now (times .entry))) ⌝ }
-    ensures { λ s. ⌜ s .squared ≡ addedUp (λ (i : ℕ). mul binary64 (mul binary64 (mul binary64 (knot (now (times .entry)) i) (knot (now (times .entry)) i)) (knot (now (amounts .entry)) i)) (factorOf (now (times .entry)) (now (amounts .entry)) (now (tenors .entry)) (now (rates .entry)) (decimal (spread .0)) i)) (length (now (times .entry))) ⌝ }
+    ensures { λ s. ⌜ s .timed ≡ addedUp (λ (i : ℕ). mul binary64 (mul binary64 (knot (now (times .entry)) i) (knot (now (amounts .entry)) i)) (factorOf (now (times .entry)) (now (amounts .entry)) (now (tenors .entry)) (now (rates .entry)) (asDecimal (spread .0)) i)) (length (now (times .entry))) ⌝ }
+    ensures { λ s. ⌜ s .squared ≡ addedUp (λ (i : ℕ). mul binary64 (mul binary64 (mul binary64 (knot (now (times .entry)) i) (knot (now (times .entry)) i)) (knot (now (amounts .entry)) i)) (factorOf (now (times .entry)) (now (amounts .entry)) (now (tenors .entry)) (now (rates .entry)) (asDecimal (spread .0)) i)) (length (now (times .entry))) ⌝ }
 {
     let s = to_decimal(spread);
     let mut sums = Sums {

@@ -13,7 +13,7 @@ use Rattle.numbers.proofs.Amounts.{passes, amount}
 use Rattle.numbers.proofs.Zeros.{sub-itself}
 use Rattle.refusals.specs.Outcome.{accepted}
 use Rattle.refusals.proofs.Verdicts.{verdict}
-use Rattle.elementary.specs.WholePower.{one}
+use Rattle.numbers.specs.Literals.{one}
 use Rattle.elementary.proofs.Unrounded.{nonzero, nonzero-between, nonzero-finite, nought, nought-add, mul-one, div-itself}
 use Rattle.yield_curve.specs.Segments.{knot, lastOf, Ends, endsOf}
 use Rattle.yield_curve.specs.Curve.{curveLines}

@@ -7,9 +7,10 @@ use native.Mathlib.Omega.{arith}
 use lib.Dec.{ltb}
 use borrow.Author.Tests.{lt-ltb}
 use Rattle.refusals.specs.Outcome.{refused, accepted, firstOr, judged}
+use Rattle.refusals.specs.Table.{badCode}
 use Rattle.swaps.specs.declared.day_counts.DayCount.{DayCount}
 use Rattle.swaps.specs.declared.day_counts.DayCount.the-variants.{Actual360, Actual365, Thirty360}
-use Rattle.swaps.specs.Codes.{codeOf, dayCountAt, badCode, dayCountOf}
+use Rattle.swaps.specs.Codes.{codeOf, dayCountAt, dayCountOf}
 
 pub read-of-written : (d : DayCount) → dayCountOf (codeOf d) ≡ accepted d
 unfolding dayCountOf dayCountAt badCode judged firstOr

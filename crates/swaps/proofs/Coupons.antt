@@ -1,9 +1,8 @@
 -- The coupons of a par swap: a date, one coupon, and that the sum of the settled ones is the same whatever rate is tried. Assumes nothing.
-use mathlib.Core.Path.{_≡_, refl, sym, ap, _∙_, subst}
+use mathlib.Core.Path.{_≡_, refl, sym, ap, _∙_}
 use mathlib.Core.Bool.{Bool, true, false, cond}
 use mathlib.Core.List.{List}
 use Prim.Native.Nat.{ℕ, zero, suc, _+_, _-_, _<_}
-use native.Mathlib.Nat.{le-refl}
 use native.Mathlib.Numerals.{add-one}
 use native.Mathlib.Omega.{arith}
 use lib.IntN.{pos}
@@ -11,17 +10,17 @@ use lib.ListN.{length}
 use lib.Dec as dec
 use lib.Ieee.{Float, nan, inf, fin, binary64, sub, mul, lt, le, fits, ofInt, ofBits}
 use lib.Ieee.Fits.{ofInt-fits}
-use Rattle.numbers.proofs.Amounts.{passes}
+use Rattle.numbers.specs.Literals.{one}
 use Rattle.numbers.specs.Clamps.{lowered}
 use Rattle.numbers.specs.Sums.{addedUp}
-use Rattle.elementary.specs.WholePower.{one}
+use Rattle.numbers.proofs.Sums.{same-added}
+use Rattle.numbers.proofs.Comparing.{clash, compared-itself}
 use Rattle.elementary.proofs.Unrounded.{mul-one}
 use Rattle.yield_curve.specs.Segments.{knot, lastOf}
 use Rattle.swaps.specs.Discount.{discountOf}
 use Rattle.swaps.specs.Bootstrap.{date, couponAt}
-use Rattle.swaps.specs.Knots.{withRate, WholeTo, SettledTo}
-use Rattle.swaps.specs.Runs.{dateAfter}
-use Rattle.swaps.proofs.Comparing.{le-itself}
+use Rattle.swaps.specs.inner.Knots.{withRate, WholeTo, SettledTo}
+use Rattle.swaps.specs.inner.Runs.{dateAfter}
 use Rattle.swaps.proofs.TriedRates.{same-discount}
 
 pub later-date : (T : Float) (k : ℕ) → (k ≡ 0 → ⊥) → lowered (ofInt binary64 (pos k)) T ≡ date T k
@@ -53,11 +52,6 @@ module _ (tenors zeros : List Float) (T c : Float) (k : ℕ) where
 ends-there : (T : Float) (k : ℕ) → lt (ofInt binary64 (pos (suc k))) T ≡ false → date T (suc k) ≡ T
 unfolding date
 ends-there T k e = rw e
-
-same-added : (f g : ℕ → Float) (n : ℕ) → ((k : ℕ) → k < n → f k ≡ g k) → addedUp f n ≡ addedUp g n
-unfolding addedUp
-same-added f g zero same = refl
-same-added f g (suc n) same = rw (same-added f g n (λ k h. same k (omega arith)), same n (le-refl (suc n)))
 
 -- a date that is passed is settled
 pub settled-here : (T previous next : Float) (k : ℕ) → next ≡ date T (k + 1) → le next previous ≡ true → le T next ≡ false
@@ -95,7 +89,7 @@ settled-whole T previous n settled k h = go (lt (ofInt binary64 (pos (suc k))) T
         let f = settled k h in
         let before : le T previous ≡ true = ap (λ (d : Float). le d previous) (sym (at-tenor e)) ∙ f .0 in
         let beyond : le T T ≡ false = ap (λ (d : Float). le T d) (sym (at-tenor e)) ∙ f .1 in
-        absurd (subst dec.T beyond (le-itself T previous (passes before)))
+        clash (sym beyond ∙ compared-itself T previous before)
 
 -- ---- the coupons of whole dates, whose discount factors are at hand
 times-one : (x : Float) → dec.T (fits binary64 x) → mul binary64 x one ≡ x

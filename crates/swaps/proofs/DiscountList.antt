@@ -3,15 +3,15 @@ use mathlib.Core.Path.{_≡_, refl, ap, _∙_}
 use mathlib.Core.Bool.{Bool, true, false, cond}
 use mathlib.Core.List.{List, map}
 use lib.Ieee.{Float, binary64, neg, mul, le}
+use Rattle.numbers.specs.Literals.{one}
 use Rattle.numbers.specs.Clamps.{plusZero}
 use Rattle.numbers.proofs.Zeros.{plus-zero}
-use Rattle.elementary.specs.WholePower.{one}
 use Rattle.elementary.specs.Exp.{exp}
 use Rattle.elementary.proofs.Laws.{exp-of-zero}
 use Rattle.elementary.proofs.PartWay.{map-alike}
 use Rattle.yield_curve.proofs.Listing.{map-twice}
 use Rattle.swaps.specs.Discount.{zeroRateOf, discountOf}
-use Rattle.swaps.specs.DiscountEach.{zeroOrExponent}
+use Rattle.swaps.specs.inner.DiscountEach.{zeroOrExponent}
 
 pub one-answer : (f : Float → Float) (exponent : Bool) (t x y r : Float) → x ≡ t → y ≡ f x → r ≡ zeroOrExponent exponent (λ (_ : Float). y) x → r ≡ zeroOrExponent exponent f t
 unfolding zeroOrExponent

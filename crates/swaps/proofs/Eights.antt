@@ -5,8 +5,9 @@ use Prim.Native.Nat.{ℕ, _+_, _≤_, _<_}
 use native.Mathlib.Omega.{arith}
 use lib.ListN.{length, getD, set}
 use lib.Ieee.{Float, nan}
-use Rattle.elementary.proofs.PartWay.{partWay, at-start, one-further, next-of, at-end, map-at, map-same}
-use Rattle.swaps.specs.Knots.{EachOf}
+use Rattle.numbers.proofs.Mapped.{map-at}
+use Rattle.elementary.proofs.PartWay.{partWay, at-start, one-further, next-of, at-end, map-same}
+use Rattle.swaps.specs.inner.Knots.{EachOf}
 
 module _ (made : Float → Float → Float) (firsts seconds : List Float) where
   -- the first j are made, the others are as they were

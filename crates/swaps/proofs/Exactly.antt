@@ -8,20 +8,21 @@ use lib.ListN.{length}
 use lib.Ieee.{Float}
 use Rattle.numbers.specs.Whole.{largest}
 use Rattle.refusals.specs.Outcome.{refused, line, Lowest, ExactlyWhen, above}
+use Rattle.refusals.specs.Table.{badCode}
 use Rattle.refusals.proofs.Judging.{exactly}
 use Rattle.yield_curve.specs.Curve.{askedLines}
 use Rattle.yield_curve.specs.Lists.{eachLines, eachOutcome}
 use Rattle.yield_curve.proofs.Exactly as of-a-curve
 use Rattle.swaps.specs.declared.Swap.{Swap}
-use Rattle.swaps.specs.Codes.{badCode, dayCountOf}
+use Rattle.swaps.specs.Codes.{lastCode, dayCountOf}
 use Rattle.swaps.specs.Discount.{rateAt, discountFactor}
 use Rattle.swaps.specs.Bootstrap.{parLines, fromParRates}
 use Rattle.swaps.specs.Swap.{swapLines}
 use Rattle.swaps.specs.Valuation.{fixedLegPv, floatingLegPv, swapNpv, parSwapRate, swapDv01, swapDuration, valueSwap}
 
-pub code-refused-exactly : (code : ℕ) → ExactlyWhen (line 11 (badCode code) ∷ []) (dayCountOf code)
+pub code-refused-exactly : (code : ℕ) → ExactlyWhen (line 11 (badCode lastCode code) ∷ []) (dayCountOf code)
 unfolding dayCountOf above
-code-refused-exactly code = exactly _ (line 11 (badCode code) ∷ []) tt
+code-refused-exactly code = exactly _ (line 11 (badCode lastCode code) ∷ []) tt
 
 module _ (tenors zeros : List Float) where
   pub rate-refused-exactly : (t : Float) → ExactlyWhen (askedLines tenors zeros t) (rateAt tenors zeros t)

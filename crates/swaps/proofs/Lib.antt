@@ -1,4 +1,3 @@
-pub mod Comparing
 pub mod Onward
 pub mod Eights
 pub mod Thirds

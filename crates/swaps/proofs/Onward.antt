@@ -8,10 +8,10 @@ use native.Mathlib.Omega.{arith}
 use lib.ListN.{length, getD}
 use lib.Ieee.{Float, nan, le}
 use borrow.Author.Count.{below-more}
+use Rattle.numbers.proofs.Comparing.{still-beyond}
 use Rattle.yield_curve.specs.Segments.{segmentEnding, knot}
 use Rattle.yield_curve.proofs.Serving.{Reached, ending, found, onward, ended}
-use Rattle.swaps.specs.Runs.{Beyond}
-use Rattle.swaps.proofs.Comparing.{still-beyond}
+use Rattle.swaps.specs.inner.Runs.{Beyond}
 
 module _ (tenors : List Float) (t : Float) where
   pub none-passed : Beyond tenors t 0

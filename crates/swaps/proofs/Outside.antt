@@ -3,8 +3,8 @@ use mathlib.Core.Path.{_≡_, refl, sym}
 use mathlib.Core.Bool.{true, false}
 use mathlib.Core.List.{List}
 use lib.Ieee.{Float, le}
+use Rattle.numbers.specs.Literals.{one}
 use Rattle.numbers.specs.Clamps.{plusZero}
-use Rattle.elementary.specs.WholePower.{one}
 use Rattle.yield_curve.specs.Segments.{knot, lastOf}
 use Rattle.yield_curve.proofs.Choices.{taken}
 use Rattle.yield_curve.proofs.Flat.{before-first, past-last}

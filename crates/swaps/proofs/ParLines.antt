@@ -7,15 +7,15 @@ use native.Mathlib.Numerals.{add-one}
 use native.Mathlib.Omega.{arith}
 use lib.ListN.{length, getD, drop, drop-of-length-le}
 use lib.Seq.{drop-cons}
-use lib.Ieee.{Float, nan, inf, fin, lt}
+use lib.Ieee.{Float, nan, inf, lt}
 use borrow.Author.Tests.{eq-eqb, ne-eqb, eqb-true, not-false}
 use Rattle.refusals.specs.Outcome.{Outcome, refused, accepted, Line, firstOr, judged}
-use Rattle.refusals.specs.Table.{unequal, badKnotCount, badKnot, badKnotsAfter, badKnots}
+use Rattle.refusals.specs.Table.{unequal, badKnotCount, badKnot, badKnotsAfter, badKnots, badTenor}
 use Rattle.refusals.proofs.Judging.{none-is, passed}
 use Rattle.refusals.proofs.Verdicts.{verdict}
 use Rattle.yield_curve.proofs.CurveLines.{caused, clear, at-most-120}
-use Rattle.yield_curve.proofs.KnotLine.{later}
-use Rattle.swaps.specs.Bootstrap.{badTenor, eitherOf, parLines}
+use Rattle.yield_curve.proofs.KnotLine.{after-all}
+use Rattle.swaps.specs.Bootstrap.{eitherOf, parLines}
 
 -- the line of the knots and tenors
 abbrev pub knotLine : List Float → List Float → Line
@@ -24,13 +24,6 @@ knotLine tenors pars = record { number = 6; causes = eitherOf (badKnots tenors p
 -- the same from the knot i on, by the tenor before it
 abbrev pub From : List Float → List Float → Float → ℕ → Outcome Unit
 From tenors pars before i = firstOr 6 i (eitherOf (badKnotsAfter before (drop i tenors) (drop i pars)) (map badTenor (drop i tenors))) (accepted tt)
-
--- what -infinity is not before is not finite
-after-all : (t r : Float) → badKnot t r ≡ (badKnot t r || not (lt (inf true) t))
-unfolding badKnot lt
-after-all nan r = refl
-after-all (inf s) r = refl
-after-all (fin s m e) r = later _ true refl
 
 pub at-start : (tenors pars : List Float) → verdict (knotLine tenors pars ∷ []) ≡ From tenors pars (inf true) 0
 unfolding judged badKnots badKnotsAfter

@@ -5,17 +5,17 @@ use Prim.Native.Nat.{ℕ, suc, _+_}
 use native.Mathlib.Numerals.{add-one}
 use lib.IntN.{pos}
 use lib.Ieee.{Float, binary64, add, sub, mul, div, ofInt}
+use Rattle.numbers.specs.Literals.{one}
 use Rattle.numbers.specs.Clamps.{plusZero}
 use Rattle.numbers.specs.Sums.{addedUp}
-use Rattle.elementary.specs.WholePower.{one}
 use Rattle.yield_curve.proofs.Adding.{one-more}
 use Rattle.swaps.specs.declared.Swap.{Swap}
 use Rattle.swaps.specs.declared.legs.PaymentSums.{PaymentSums}
 use Rattle.swaps.specs.Swap.{period, fraction, payDate}
 use Rattle.swaps.specs.Legs.{factorAt, fixedPayment, forward, floatingPayment}
-use Rattle.swaps.specs.LegSums.{fixedTerm, annuityTerm, timedTerm}
+use Rattle.swaps.specs.inner.LegSums.{fixedTerm, annuityTerm, timedTerm}
 use Rattle.swaps.specs.Discount.{discountOf}
-use Rattle.swaps.specs.Runs.{dateAfter, FactorsAfter, Summed}
+use Rattle.swaps.specs.inner.Runs.{dateAfter, FactorsAfter, Summed}
 
 -- what a payment adds
 module _ (notional dt part payment date factor : Float) where

@@ -7,14 +7,14 @@ use native.Mathlib.Numerals.{add-one}
 use lib.IntN.{pos}
 use lib.ListN.{length, length-map}
 use lib.Ieee.{Float, binary64, neg, mul, le, ofInt, ofBits}
+use Rattle.numbers.specs.Literals.{one}
 use Rattle.numbers.specs.Clamps.{plusZero}
-use Rattle.elementary.specs.WholePower.{one}
 use Rattle.elementary.specs.Exp.{exp}
 use Rattle.elementary.proofs.Laws.{exp-of-zero}
-use Rattle.elementary.proofs.PartWay.{map-at}
+use Rattle.numbers.proofs.Mapped.{map-at}
 use Rattle.yield_curve.specs.Segments.{knot}
 use Rattle.swaps.specs.Discount.{zeroRateOf, discountOf}
-use Rattle.swaps.specs.Runs.{exponentAt, exponentOf, dateAfter, FactorsAfter}
+use Rattle.swaps.specs.inner.Runs.{exponentAt, exponentOf, dateAfter, FactorsAfter}
 
 exp-of-nought : exp plusZero ≡ one
 unfolding ofBits

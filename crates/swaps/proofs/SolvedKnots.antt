@@ -7,7 +7,7 @@ use native.Mathlib.Omega.{arith}
 use lib.ListN.{length, take, set, getD}
 use lib.Seq.{length-take-le, take-suc-set, take-length, getD-take}
 use lib.Ieee.{Float, binary64, nan, add}
-use Rattle.elementary.specs.WholePower.{one}
+use Rattle.numbers.specs.Literals.{one}
 use Rattle.elementary.specs.Ln.{ln}
 use Rattle.yield_curve.specs.Segments.{knot, lastOf}
 use Rattle.swaps.specs.Bootstrap.{parError, solvedOr, nextZero, zerosUpTo}

@@ -4,12 +4,12 @@ use mathlib.Core.List.{List, map}
 use Prim.Native.Nat.{ℕ, _+_}
 use lib.ListN.{length, replicate}
 use lib.Ieee.{Float, binary64, add, sub, mul}
-use Rattle.elementary.specs.WholePower.{one}
+use Rattle.numbers.specs.Literals.{one}
 use Rattle.elementary.proofs.PartWay.{copies, map-alike}
 use Rattle.yield_curve.proofs.Adding.{one-more}
 use Rattle.swaps.specs.declared.knots.Knot.{Knot}
 use Rattle.swaps.specs.Bootstrap.{dates, couponAt, parError}
-use Rattle.swaps.specs.Knots.{withRate, lastAt, sumTo, errorOf, Ready, EachOf}
+use Rattle.swaps.specs.inner.Knots.{withRate, lastAt, sumTo, errorOf, Ready, EachOf}
 
 module _ (tenors earlier : List Float) (k : Knot) (rates : List Float) (eight : length rates ≡ 8) where
   pub settled-sums : Ready tenors earlier k → replicate 8 (k .sum) ≡ map (sumTo tenors earlier k (k .settled)) rates

@@ -12,9 +12,9 @@ use Rattle.elementary.specs.Exp.{exp}
 use Rattle.elementary.proofs.PartWay.{copies, map-alike, map-same}
 use Rattle.yield_curve.specs.Segments.{segmentEnding, knot, lastOf, flatOutside, Ends, endsOf}
 use Rattle.yield_curve.proofs.Flat.{before-first, past-last, inside, ends-are}
-use Rattle.swaps.specs.Knots.{withRate}
+use Rattle.swaps.specs.inner.Knots.{withRate}
 use Rattle.swaps.specs.Discount.{alongZeros, zeroRateOf, discountOf}
-use Rattle.swaps.specs.Runs.{exponentAt}
+use Rattle.swaps.specs.inner.Runs.{exponentAt}
 use Rattle.swaps.proofs.RunFactors.{exp-of-exponent}
 
 -- what is neither true nor false

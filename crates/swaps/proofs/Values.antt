@@ -7,8 +7,8 @@ use native.Mathlib.Omega.{arith}
 use lib.ListN.{length}
 use lib.Ieee.{Float, binary64, add, sub, div, eq}
 use borrow.Author.Tests.{eqb-true, not-false}
+use Rattle.numbers.specs.Literals.{one}
 use Rattle.numbers.specs.Clamps.{plusZero}
-use Rattle.elementary.specs.WholePower.{one}
 use Rattle.refusals.specs.Outcome.{accepted}
 use Rattle.refusals.specs.Table.{unequal}
 use Rattle.refusals.proofs.Judging.{none-is, passed}
@@ -18,8 +18,8 @@ use Rattle.swaps.specs.declared.Swap.{Swap}
 use Rattle.swaps.specs.Discount.{zeroRateOf}
 use Rattle.swaps.specs.Swap.{perYear, swapLines}
 use Rattle.swaps.specs.Valuation.{bumped, pointValue}
-use Rattle.swaps.specs.LegSums.{annuity}
-use Rattle.swaps.specs.Legs.{lastFactor, fixedLeg, floatingLeg, netValue, parRate, weighted, duration}
+use Rattle.swaps.specs.inner.LegSums.{annuity}
+use Rattle.swaps.specs.Legs.{lastFactor, fixedLeg, floatingLeg, netValue, parRate, weightedSum, duration}
 
 module _ (s : Swap) (tenors zeros : List Float) where
   pub net-is : {fixed floating : Float} (receivesFixed : Bool) → fixed ≡ fixedLeg s tenors zeros → floating ≡ floatingLeg s tenors zeros
@@ -33,7 +33,7 @@ module _ (s : Swap) (tenors zeros : List Float) where
   unfolding parRate
   par-is l a = rw (l, a)
 
-  pub duration-is : {fixed timed : Float} → fixed ≡ fixedLeg s tenors zeros → timed ≡ weighted s tenors zeros
+  pub duration-is : {fixed timed : Float} → fixed ≡ fixedLeg s tenors zeros → timed ≡ weightedSum s tenors zeros
       → cond (eq fixed plusZero) plusZero (div binary64 (div binary64 timed fixed) (add binary64 one (div binary64 (zeroRateOf tenors zeros (s .tenor)) (perYear s))))
       ≡ duration s tenors zeros
   unfolding duration

@@ -6,7 +6,8 @@ use native.Mathlib.Numerals.{add-one}
 use lib.ListN.{length, take, set, getD, length-map, List·getD-map}
 use lib.Seq.{take-suc, take-suc-set, take-length}
 use lib.Ieee.{Float, binary64, nan, add}
-use Rattle.swaps.specs.Valuation.{basisPoint, bumped}
+use Rattle.numbers.specs.Literals.{basisPoint}
+use Rattle.swaps.specs.Valuation.{bumped}
 
 module _ {A : Type 0} (xs out : List A) (i : ℕ) where
   pub one-more-written : (d x : A) → i < length xs → i < length out → take i out ≡ take i xs → x ≡ getD xs i d → take (i + 1) (set out i x) ≡ take (i + 1) xs

@@ -1,35 +1,19 @@
 -- The bootstrap: zero rates from par rates, one knot after the other, each solved so that its par swap is worth par. Definitions only. Assumes nothing.
 use Prim.Native.Nat.{ℕ, zero, suc}
-use mathlib.Core.Bool.{Bool, cond, not, _||_}
+use mathlib.Core.Bool.{Bool, cond, _||_}
 use mathlib.Core.List.{List, [], _∷_, _++_, map}
 use lib.IntN.{pos}
 use lib.ListN.{length, take}
-use lib.Ieee.{Float, binary64, add, sub, mul, lt, ofInt, ofBits}
+use lib.Ieee.{Float, binary64, add, sub, mul, lt, ofInt}
+use Rattle.numbers.specs.Literals.{one, five, minusOne, half, tenToMinus16}
 use Rattle.numbers.specs.Clamps.{plusZero, lowered}
 use Rattle.numbers.specs.Whole.{ceiling}
 use Rattle.numbers.specs.Sums.{addedUp}
 use Rattle.refusals.specs.Outcome.{Outcome, Line, line, judged}
-use Rattle.refusals.specs.Table.{unequal, badKnotCount, badKnots}
-use Rattle.elementary.specs.WholePower.{one}
+use Rattle.refusals.specs.Table.{unequal, badKnotCount, badKnots, badTenor}
 use Rattle.elementary.specs.Ln.{ln}
 use Rattle.yield_curve.specs.Segments.{knot}
 use Rattle.swaps.specs.Discount.{discountOf}
-
--- -1, 5, 1e-16, 0.5, 100
-abbrev pub lowest : Float
-lowest = ofBits binary64 0xbff0_0000_0000_0000
-
-abbrev pub highest : Float
-highest = ofBits binary64 0x4014_0000_0000_0000
-
-abbrev pub narrow : Float
-narrow = ofBits binary64 0x3c9c_d2b2_97d8_89bc
-
-abbrev pub half : Float
-half = ofBits binary64 0x3fe0_0000_0000_0000
-
-abbrev pub hundred : Float
-hundred = ofBits binary64 0x4059_0000_0000_0000
 
 -- the annual dates of a swap of tenor T: 1, 2, .. lowered to T, and 0 before the first
 unfoldable pub dates : Float → ℕ
@@ -48,10 +32,10 @@ unfoldable pub parError : List Float → List Float → Float → Float → Floa
 parError tenors zeros T c = sub binary64 (add binary64 (addedUp (couponAt tenors zeros T c) (dates T)) (discountOf tenors zeros T)) one
 
 -- ---- "It bisects [-1, 5], at most 200 halvings, stopping below 1e-16 of width"
-module _ (error : Float → Float) where
-  abbrev pub middle : Float → Float → Float
-  middle lo hi = mul binary64 half (add binary64 lo hi)
+abbrev pub middle : Float → Float → Float
+middle lo hi = mul binary64 half (add binary64 lo hi)
 
+module _ (error : Float → Float) where
   -- a halving goes up where the error in the middle is above 0
   unfoldable pub lowerEnd : Float → Float → Float
   lowerEnd lo hi = cond (lt plusZero (error (middle lo hi))) (middle lo hi) lo
@@ -59,17 +43,17 @@ module _ (error : Float → Float) where
   unfoldable pub upperEnd : Float → Float → Float
   upperEnd lo hi = cond (lt plusZero (error (middle lo hi))) hi (middle lo hi)
 
-  unfoldable pub halved : ℕ → Float → Float → Float
-  halved zero lo hi = middle lo hi
-  halved (suc k) lo hi =
-      cond (lt (sub binary64 (upperEnd lo hi) (lowerEnd lo hi)) narrow) (middle (lowerEnd lo hi) (upperEnd lo hi)) (halved k (lowerEnd lo hi) (upperEnd lo hi))
+  unfoldable pub bisected : ℕ → Float → Float → Float
+  bisected zero lo hi = middle lo hi
+  bisected (suc k) lo hi =
+      cond (lt (sub binary64 (upperEnd lo hi) (lowerEnd lo hi)) tenToMinus16) (middle (lowerEnd lo hi) (upperEnd lo hi)) (bisected k (lowerEnd lo hi) (upperEnd lo hi))
 
   -- "no sign change gives ln(1+c)"
   unfoldable pub noChange : Bool
-  noChange = lt (error lowest) plusZero || lt plusZero (error highest)
+  noChange = lt (error minusOne) plusZero || lt plusZero (error five)
 
   unfoldable pub solvedOr : Float → Float
-  solvedOr other = cond noChange other (halved 200 lowest highest)
+  solvedOr other = cond noChange other (bisected 200 minusOne five)
 
 -- the zero rate of the knot i, beside those before it
 unfoldable pub nextZero : List Float → List Float → List Float → ℕ → Float
@@ -80,10 +64,6 @@ nextZero tenors pars zeros i =
 unfoldable pub zerosUpTo : List Float → List Float → ℕ → List Float
 zerosUpTo tenors pars zero = []
 zerosUpTo tenors pars (suc i) = zerosUpTo tenors pars i ++ nextZero tenors pars (zerosUpTo tenors pars i) i ∷ []
-
--- 6: for a bootstrap also a tenor of 0 or above 100
-unfoldable pub badTenor : Float → Bool
-badTenor t = not (lt plusZero t) || lt hundred t
 
 abbrev pub eitherOf : List Bool → List Bool → List Bool
 eitherOf [] bs = bs

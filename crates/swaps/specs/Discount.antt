@@ -2,9 +2,9 @@
 use mathlib.Core.Bool.{cond}
 use mathlib.Core.List.{List}
 use lib.Ieee.{Float, binary64, neg, add, sub, mul, div, le}
+use Rattle.numbers.specs.Literals.{one}
 use Rattle.numbers.specs.Clamps.{plusZero}
 use Rattle.refusals.specs.Outcome.{Outcome, judged}
-use Rattle.elementary.specs.WholePower.{one}
 use Rattle.elementary.specs.Exp.{exp}
 use Rattle.yield_curve.specs.Segments.{segmentEnding, flatOutside, Ends, endsOf}
 use Rattle.yield_curve.specs.Curve.{askedLines}

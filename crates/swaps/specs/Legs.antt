@@ -3,9 +3,9 @@ use Prim.Native.Nat.{ℕ, zero, suc}
 use mathlib.Core.Bool.{Bool, cond}
 use mathlib.Core.List.{List}
 use lib.Ieee.{Float, binary64, add, sub, mul, div, eq}
+use Rattle.numbers.specs.Literals.{one}
 use Rattle.numbers.specs.Clamps.{plusZero}
 use Rattle.numbers.specs.Sums.{addedUp}
-use Rattle.elementary.specs.WholePower.{one}
 use Rattle.swaps.specs.declared.Swap.{Swap}
 use Rattle.swaps.specs.Discount.{zeroRateOf, discountOf}
 use Rattle.swaps.specs.Swap.{perYear, payments, fraction, payDate}
@@ -46,12 +46,12 @@ module _ (s : Swap) (tenors zeros : List Float) where
   parRate = div binary64 (sub binary64 one lastFactor) (addedUp (λ (i : ℕ). mul binary64 (factorAt (suc i)) (fraction s)) (payments s))
 
   -- the fixed leg's duration: the weighted sum over the sum, 0 where that is 0, over 1 + r/frequency
-  unfoldable pub weighted : Float
-  weighted =
+  unfoldable pub weightedSum : Float
+  weightedSum =
       add binary64 (addedUp (λ (i : ℕ). mul binary64 (mul binary64 (payDate s (suc i)) fixedPayment) (factorAt (suc i))) (payments s))
       (mul binary64 (mul binary64 (s .tenor) (s .notional)) lastFactor)
 
   unfoldable pub duration : Float
   duration =
       cond (eq fixedLeg plusZero) plusZero
-      (div binary64 (div binary64 weighted fixedLeg) (add binary64 one (div binary64 (zeroRateOf tenors zeros (s .tenor)) (perYear s))))
+      (div binary64 (div binary64 weightedSum fixedLeg) (add binary64 one (div binary64 (zeroRateOf tenors zeros (s .tenor)) (perYear s))))

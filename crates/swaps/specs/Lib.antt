@@ -1,12 +1,9 @@
 pub mod DayCounts
 pub mod Codes
 pub mod Discount
-pub mod DiscountEach
 pub mod Bootstrap
 pub mod Bootstrapped
-pub mod Knots
 pub mod Swap
 pub mod Legs
-pub mod LegSums
-pub mod Runs
 pub mod Valuation
+pub mod inner

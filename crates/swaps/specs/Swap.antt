@@ -3,18 +3,14 @@ use Prim.Native.Nat.{ℕ}
 use mathlib.Core.Bool.{_||_}
 use mathlib.Core.List.{List, [], _∷_, _++_}
 use lib.IntN.{pos}
-use lib.Ieee.{Float, binary64, mul, div, ofInt, ofBits}
+use lib.Ieee.{Float, binary64, mul, div, ofInt}
+use Rattle.numbers.specs.Literals.{one, threeHundredSixtyFive}
 use Rattle.numbers.specs.Whole.{nearestWhole}
 use Rattle.refusals.specs.Outcome.{Line, line}
 use Rattle.refusals.specs.Table.{badAmount, badTime, tooManyPeriods, badFrequency, badNumber}
-use Rattle.elementary.specs.WholePower.{one}
 use Rattle.yield_curve.specs.Curve.{curveLines}
 use Rattle.swaps.specs.declared.Swap.{Swap}
 use Rattle.swaps.specs.DayCounts.{dayFraction}
-
--- 365
-abbrev pub year : Float
-year = ofBits binary64 0x4076_d000_0000_0000
 
 abbrev pub perYear : Swap → Float
 perYear s = ofInt binary64 (pos (s .frequency))
@@ -23,12 +19,12 @@ perYear s = ofInt binary64 (pos (s .frequency))
 unfoldable pub payments : Swap → ℕ
 payments s = nearestWhole (mul binary64 (s .tenor) (perYear s))
 
--- dt = 1/frequency, the days of a period to the nearest whole number, and their fraction of a year
+-- dt = 1/frequency, the days 365·dt of a period to the nearest whole number, and their fraction of a year
 unfoldable pub period : Swap → Float
 period s = div binary64 one (perYear s)
 
 unfoldable pub fraction : Swap → Float
-fraction s = dayFraction (s .«day_count») (nearestWhole (mul binary64 year (period s)))
+fraction s = dayFraction (s .«day_count») (nearestWhole (mul binary64 threeHundredSixtyFive (period s)))
 
 -- the date of the payment k, from 1
 unfoldable pub payDate : Swap → ℕ → Float

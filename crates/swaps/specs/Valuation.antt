@@ -1,7 +1,8 @@
 -- What the functions over a swap and a curve answer. Definitions only. Assumes nothing.
 use mathlib.Core.Bool.{Bool}
 use mathlib.Core.List.{List, map}
-use lib.Ieee.{Float, binary64, add, sub, ofBits}
+use lib.Ieee.{Float, binary64, add, sub}
+use Rattle.numbers.specs.Literals.{basisPoint}
 use Rattle.refusals.specs.Outcome.{Outcome, refused, accepted, judged}
 use Rattle.swaps.specs.declared.Swap.{Swap}
 use Rattle.swaps.specs.declared.valuation.SwapValuation.{SwapValuation}
@@ -9,10 +10,6 @@ use Rattle.swaps.specs.declared.valuation.ValuationAnswer.{ValuationAnsw
 use Rattle.swaps.specs.declared.valuation.ValuationAnswer.the-variants as valuation-is
 use Rattle.swaps.specs.Swap.{swapLines}
 use Rattle.swaps.specs.Legs.{fixedLeg, floatingLeg, netValue, parRate, duration}
-
--- 0.0001
-abbrev pub basisPoint : Float
-basisPoint = ofBits binary64 0x3f1a_36e2_eb1c_432d
 
 -- every zero rate a basis point higher, and what that changes the value by
 unfoldable pub bumped : List Float → List Float

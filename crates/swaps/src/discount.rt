@@ -3,7 +3,7 @@ ghost use mathlib.Core.Path.{_≡_};
 ghost use Rattle.refusals.specs.Answers.{numberOutcome};
 ghost use Rattle.yield_curve.specs.Segments.{segmentEnding};
 ghost use Rattle.swaps.specs.Discount.{alongZeros, zeroRateOf, discountOf, rateAt, discountFactor};
-ghost use Rattle.swaps.specs.Runs.{Beyond};
+ghost use Rattle.swaps.specs.inner.Runs.{Beyond};
 use refusals::Number;
 use refusals::Verdict;
 use yield_curve::curve::bad_time;

@@ -3,7 +3,7 @@ ghost use mathlib.Core.Path.{_≡_};
 ghost use Prim.Native.Nat.{ℕ, _+_, _<_, _≤_};
 ghost use lib.ListN.{length};
 ghost use Rattle.yield_curve.specs.Segments.{knot};
-ghost use Rattle.swaps.specs.Runs.{Beyond, exponentAt, exponentOf, dateAfter, FactorsAfter};
+ghost use Rattle.swaps.specs.inner.Runs.{Beyond, exponentAt, exponentOf, dateAfter, FactorsAfter};
 use crate::discount::rate_from;
 
 // The exponent of the discount factor at a time, 0 at or before time 0.

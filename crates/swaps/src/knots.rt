@@ -6,14 +6,14 @@ ghost use mathlib.Core.List.{List, map};
 ghost use Prim.Native.Nat.{_+_, _-_, _<_, _≤_};
 ghost use lib.ListN.{length};
 ghost use lib.Ieee.{Float, binary64, add, sub, mul, lt};
+ghost use Rattle.numbers.specs.Literals.{one};
 ghost use Rattle.numbers.specs.Clamps.{plusZero};
 ghost use Rattle.numbers.specs.Sums.{addedUp};
-ghost use Rattle.elementary.specs.WholePower.{one};
 ghost use Rattle.elementary.specs.Ln.{ln};
 ghost use Rattle.yield_curve.specs.Segments.{knot, lastOf};
-ghost use Rattle.swaps.specs.Bootstrap.{date, couponAt, parError, halved, solvedOr};
-ghost use Rattle.swaps.specs.Runs.{FactorsAfter};
-ghost use Rattle.swaps.specs.Knots.{withRate, WholeTo, SettledTo, lastAt, sumTo, errorOf, Ready, EachOf, midway, forkOf};
+ghost use Rattle.swaps.specs.Bootstrap.{date, couponAt, parError, middle, bisected, solvedOr};
+ghost use Rattle.swaps.specs.inner.Runs.{FactorsAfter};
+ghost use Rattle.swaps.specs.inner.Knots.{withRate, WholeTo, SettledTo, lastAt, sumTo, errorOf, Ready, EachOf, forkOf};
 use crate::factors::factors_after;
 use crate::trials::discounts_with;
 use numbers::clamps::lower_to;
@@ -205,7 +205,7 @@ fn errors_of(tenors: &[f64], earlier: &[f64], knot: Knot, rates: [f64; 8]) -> [f
 }
 
 fn middle(lo: f64, hi: f64) -> f64
-    ensures { λ r. ⌜ r ≡ midway lo hi ⌝ }
+    ensures { λ r. ⌜ r ≡ middle lo hi ⌝ }
 {
     0.5 * (lo + hi)
 }
@@ -231,7 +231,7 @@ fn fork_of(bracket: Bracket) -> [f64; 8]
 
 // A halving: up where the error in the middle is above 0.
 fn half_of(bracket: Bracket, missed: f64) -> Bracket
-    ensures { λ r. ⌜ (r .lo ≡ cond (lt plusZero missed) (midway (bracket .lo) (bracket .hi)) (bracket .lo)) × (r .hi ≡ cond (lt plusZero missed) (bracket .hi) (midway (bracket .lo) (bracket .hi))) ⌝ }
+    ensures { λ r. ⌜ (r .lo ≡ cond (lt plusZero missed) (middle (bracket .lo) (bracket .hi)) (bracket .lo)) × (r .hi ≡ cond (lt plusZero missed) (bracket .hi) (middle (bracket .lo) (bracket .hi))) ⌝ }
 {
     let mid = middle(bracket.lo, bracket.hi);
     if missed > 0.0 {
@@ -256,7 +256,7 @@ fn by_way(error: f64, up: f64, down: f64) -> f64
 // At most 198 halvings, three at a time, stopping below 1e-16 of width.
 fn bisect(tenors: &[f64], earlier: &[f64], knot: Knot, start: Bracket) -> f64
     requires { ⌜ Ready (now tenors) (now earlier) knot ⌝ }
-    ensures { λ r. ⌜ r ≡ halved (errorOf (now (tenors .entry)) (now (earlier .entry)) knot) 198 (start .lo) (start .hi) ⌝ }
+    ensures { λ r. ⌜ r ≡ bisected (errorOf (now (tenors .entry)) (now (earlier .entry)) knot) 198 (start .lo) (start .hi) ⌝ }
 {
     let mut bracket = start;
     let mut left: u32 = 66;

@@ -5,9 +5,9 @@ ghost use Prim.Native.Nat.{_+_, _<_, _≤_};
 ghost use lib.ListN.{length};
 ghost use lib.Ieee.{Float};
 ghost use Rattle.refusals.specs.Answers.{numberOutcome};
-ghost use Rattle.swaps.specs.Legs.{lastFactor, fixedLeg, floatingLeg, weighted};
-ghost use Rattle.swaps.specs.LegSums.{annuity};
-ghost use Rattle.swaps.specs.Runs.{FactorsAfter, Summed};
+ghost use Rattle.swaps.specs.Legs.{lastFactor, fixedLeg, floatingLeg, weightedSum};
+ghost use Rattle.swaps.specs.inner.LegSums.{annuity};
+ghost use Rattle.swaps.specs.inner.Runs.{FactorsAfter, Summed};
 ghost use Rattle.swaps.specs.Swap.{payments, period};
 ghost use Rattle.swaps.specs.Valuation.{fixedLegPv, floatingLegPv};
 use crate::Swap;
@@ -113,7 +113,7 @@ pub struct Legs {
 
 // The legs, whatever the swap and the lists are.
 pub(crate) fn legs_of(swap: Swap, tenors: &[f64], zeros: &[f64]) -> Legs
-    ensures { λ r. ⌜ (r .fixed ≡ fixedLeg swap (now (tenors .entry)) (now (zeros .entry))) × (r .floating ≡ floatingLeg swap (now (tenors .entry)) (now (zeros .entry))) × (r .annuity ≡ annuity swap (now (tenors .entry)) (now (zeros .entry))) × (r .weighted ≡ weighted swap (now (tenors .entry)) (now (zeros .entry))) × (r .last ≡ lastFactor swap (now (tenors .entry)) (now (zeros .entry))) ⌝ }
+    ensures { λ r. ⌜ (r .fixed ≡ fixedLeg swap (now (tenors .entry)) (now (zeros .entry))) × (r .floating ≡ floatingLeg swap (now (tenors .entry)) (now (zeros .entry))) × (r .annuity ≡ annuity swap (now (tenors .entry)) (now (zeros .entry))) × (r .weighted ≡ weightedSum swap (now (tenors .entry)) (now (zeros .entry))) × (r .last ≡ lastFactor swap (now (tenors .entry)) (now (zeros .entry))) ⌝ }
 {
     let sums = payment_sums(swap, tenors, zeros);
     let last = discount_of(tenors, zeros, swap.tenor);

@@ -14,21 +14,21 @@ use lib.Ieee.Bits.{is-true}
 use lib.Ieee.Fits.{down-pos, sub-fits}
 use lib.Ieee.Scale.{finite}
 use borrow.Author.Tests.{ltb-true, ltb-false}
+use Rattle.numbers.specs.Literals.{one, two}
 use Rattle.numbers.specs.Clamps.{plusZero}
 use Rattle.numbers.proofs.Amounts.{passes, amount}
 use Rattle.numbers.proofs.Order.{amount-by-tests}
 use Rattle.numbers.proofs.Values.{round-itself}
+use Rattle.numbers.proofs.Comparing.{clash, lt-trans, le-lt-trans, lt-itself, le-itself, not-at-or-below}
 use Rattle.refusals.specs.Outcome.{accepted, firstOr, judged}
 use Rattle.refusals.specs.Table.{unequal, badKnotCount, badKnot, badKnotsAfter, badKnots}
 use Rattle.refusals.proofs.Verdicts.{verdict}
-use Rattle.elementary.specs.WholePower.{one}
 use Rattle.elementary.proofs.Unrounded.{nonzero-between, div-itself}
 use Rattle.yield_curve.specs.Segments.{knot, lastOf, segmentEnding, segmentStarting, flatOutside, endsOf}
-use Rattle.yield_curve.specs.Halving.{Rising}
+use Rattle.yield_curve.specs.inner.Rising.{Rising}
 use Rattle.yield_curve.specs.Curve.{curveLines}
 use Rattle.yield_curve.specs.Linear.{alongYields, yieldOf}
 use Rattle.yield_curve.specs.Spline.{splineOf}
-use Rattle.yield_curve.proofs.Comparing.{clash, lt-trans, le-lt-trans, lt-itself, le-itself, not-at-or-below}
 use Rattle.yield_curve.proofs.Serving.{ending, starting}
 use Rattle.yield_curve.proofs.Halvings.{serves-before, passes-on, serves-after}
 use Rattle.yield_curve.proofs.Flat.{before-first, past-last, inside}
@@ -162,11 +162,14 @@ module _ (times rates : List Float) (good : verdict (curveLines times rates) ≡
   spline-at-the-last-knot = same-arms (ltb (length times) 3) _ _ _ yield-at-the-last-knot (at-the-last-knot _)
 
 -- ---- 3 % and then 1 %: at the knot of 1 % the yield curve gives the float after it
+abbrev onePercent : Float
+onePercent = ofBits binary64 0x3f84_7ae1_47ae_147b
+
 abbrev example-times : List Float
-example-times = ofBits binary64 0 ∷ ofBits binary64 0x3ff0_0000_0000_0000 ∷ ofBits binary64 0x4000_0000_0000_0000 ∷ []
+example-times = plusZero ∷ one ∷ two ∷ []
 
 abbrev example-rates : List Float
-example-rates = ofBits binary64 0x3f9e_b851_eb85_1eb8 ∷ ofBits binary64 0x3f84_7ae1_47ae_147b ∷ ofBits binary64 0x3f84_7ae1_47ae_147b ∷ []
+example-rates = ofBits binary64 0x3f9e_b851_eb85_1eb8 ∷ onePercent ∷ onePercent ∷ []
 
 pub not-always-its-own-yield : (verdict (curveLines example-times example-rates) ≡ accepted tt) × (yieldOf example-times example-rates (knot example-times 1) ≡ ofBits binary64 0x3f84_7ae1_47ae_147c)
 unfolding judged firstOr unequal badKnotCount badKnot badKnotsAfter badKnots segmentEnding flatOutside alongYields yieldOf add sub mul div lt le eq ofBits

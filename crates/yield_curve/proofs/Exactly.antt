@@ -42,7 +42,7 @@ module _ (times rates : List Float) where
   unfolding parYield above
   par-refused-exactly t = exactly _ (curveLines times rates ++ line 7 (badTime t || tooManyPeriods (halfYears t)) ∷ []) tt
 
-  -- a list of times: `judge_each`, `rates_at_each` and `discount_factors_at_each` give this one outcome. Its lines refuse by the rule ..
+  -- a list of times: `judge_each`, `rate_at_each` and `discount_factor_at_each` give this one outcome. Its lines refuse by the rule ..
   module _ (asked : List Float) where
     pub each-judged-exactly : ExactlyWhen (eachLines times rates asked) (verdict (eachLines times rates asked))
     each-judged-exactly = exactly _ (eachLines times rates asked) (each-rising times rates asked)

@@ -1,11 +1,11 @@
 -- An array that is filled from its first place on holds what is said of each place passed. Assumes nothing.
 use mathlib.Core.Path.{_≡_, refl, _∙_}
 use mathlib.Core.Bool.{Bool, true, false}
-use mathlib.Core.List.{List, [], _∷_, _++_, map}
-use Prim.Native.Nat.{ℕ, zero, suc, _+_, _<_}
+use mathlib.Core.List.{List}
+use Prim.Native.Nat.{ℕ, _+_, _<_}
 use native.Mathlib.Omega.{arith}
 use lib.Dec.{eqb}
-use lib.ListN.{length, getD, set, take, drop}
+use lib.ListN.{length, getD, set}
 use lib.Seq.{getD-set-same, getD-set-other}
 use lib.Ieee.{Float, nan}
 use borrow.Author.Tests.{eqb-true, eqb-false}
@@ -24,10 +24,3 @@ placed l f n v h held e j less = go (eqb j n) (eqb-true j n) (eqb-false j n)
     go false same other =
         let apart : j ≡ n → ⊥ = other refl in
         getD-set-other l n j v nan apart ∙ held j (omega (arith, apart))
-
--- a room whose first n places are mapped
-pub mapped-at : (f : Float → Float) (room : List Float) (n i : ℕ) → i < n → i < length room → getD (map f (take n room) ++ drop n room) i nan ≡ f (getD room i nan)
-mapped-at f [] n i h k = absurd (omega arith)
-mapped-at f (x ∷ room) zero i h k = absurd (omega arith)
-mapped-at f (x ∷ room) (suc n) zero h k = refl
-mapped-at f (x ∷ room) (suc n) (suc i) h k = mapped-at f room n i (omega arith) (omega arith)

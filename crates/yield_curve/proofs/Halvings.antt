@@ -11,9 +11,10 @@ use lib.ListN.{length, getD, set, replicate}
 use lib.Seq.{ext-getD, getD-set-same, getD-set-other}
 use lib.Ieee.{Float, nan, lt, le}
 use borrow.Author.Tests.{lt-ltb, le-ltb, ltb-true, ltb-false, eqb-true, eqb-false}
+use Rattle.numbers.proofs.Comparing.{clash, lt-trans, le-lt-trans}
 use Rattle.yield_curve.specs.Segments.{knot, segmentEnding, segmentStarting}
-use Rattle.yield_curve.specs.Halving.{stepped, halvedFrom, halved, halvedEnding, halvedStarting, Rising, eight}
-use Rattle.yield_curve.proofs.Comparing.{clash, lt-trans, le-lt-trans}
+use Rattle.yield_curve.specs.Halving.{steppedOver, halvedFrom, halved, halvedEnding, halvedStarting, eight}
+use Rattle.yield_curve.specs.inner.Rising.{Rising}
 use Rattle.yield_curve.proofs.Serving.{FirstPassing, ending, starting}
 
 -- ---- one turn
@@ -28,14 +29,14 @@ module _ (passes : Float → Bool) (times : List Float) where
     where
       go : (b : Bool) → (b ≡ true → 1 < count)
           → (count - count / 2 ≤ k → count - count / 2 ≤ j
-          → halvedFrom passes times k (stepped passes times (count / 2) base) (count - count / 2) ≡ halvedFrom passes times j (stepped passes times (count / 2) base) (count - count / 2))
-          → cond b (halvedFrom passes times k (stepped passes times (count / 2) base) (count - count / 2)) base
-          ≡ cond b (halvedFrom passes times j (stepped passes times (count / 2) base) (count - count / 2)) base
+          → halvedFrom passes times k (steppedOver passes times (count / 2) base) (count - count / 2) ≡ halvedFrom passes times j (steppedOver passes times (count / 2) base) (count - count / 2))
+          → cond b (halvedFrom passes times k (steppedOver passes times (count / 2) base) (count - count / 2)) base
+          ≡ cond b (halvedFrom passes times j (steppedOver passes times (count / 2) base) (count - count / 2)) base
       go false more onward = refl
       go true more onward = let m : 1 < count = more refl in onward (omega arith) (omega arith)
 
   turn : (base count : ℕ) → 1 < count
-      → halvedFrom passes times count base count ≡ halvedFrom passes times (count - count / 2) (stepped passes times (count / 2) base) (count - count / 2)
+      → halvedFrom passes times count base count ≡ halvedFrom passes times (count - count / 2) (steppedOver passes times (count / 2) base) (count - count / 2)
   unfolding halvedFrom
   turn base zero h = absurd (omega arith)
   turn base (suc m) h = rw (lt-ltb 1 (suc m) h) (enough m (suc m - suc m / 2) _ _ (omega arith) (omega arith))
@@ -75,23 +76,23 @@ module _ (test : Float → Float → Bool) (times : List Float) where
   unfolding halved
   lane-start t = record { leads = refl; room = omega arith }
 
-  step-room : (t : Float) (half base : ℕ) → (stepped (test t) times half base ≡ base) ⊎ (stepped (test t) times half base ≡ base + half)
+  step-room : (t : Float) (half base : ℕ) → (steppedOver (test t) times half base ≡ base) ⊎ (steppedOver (test t) times half base ≡ base + half)
   step-room t half base = go (test t (knot times (base + half)))
     where
       go : (b : Bool) → (cond b base (base + half) ≡ base) ⊎ (cond b base (base + half) ≡ base + half)
       go true = inl refl
       go false = inr refl
 
-  lane-next : (t : Float) (count half base b : ℕ) → 1 < count → half ≡ count / 2 → Lane count t base → b ≡ stepped (test t) times half base → Lane (count - half) t b
+  lane-next : (t : Float) (count half base b : ℕ) → 1 < count → half ≡ count / 2 → Lane count t base → b ≡ steppedOver (test t) times half base → Lane (count - half) t b
   lane-next t count half base b h e l is = rw (is, e) (record {
     leads = sym (turn (test t) times base count h) ∙ l .leads;
     room = ⊎-elim (λ s. within s) (λ s. further s) (step-room t (count / 2) base);
   })
     where
-      within : stepped (test t) times (count / 2) base ≡ base → stepped (test t) times (count / 2) base + (count - count / 2) ≤ length times
+      within : steppedOver (test t) times (count / 2) base ≡ base → steppedOver (test t) times (count / 2) base + (count - count / 2) ≤ length times
       within s = let r = l .room in rw s (omega arith)
 
-      further : stepped (test t) times (count / 2) base ≡ base + count / 2 → stepped (test t) times (count / 2) base + (count - count / 2) ≤ length times
+      further : steppedOver (test t) times (count / 2) base ≡ base + count / 2 → steppedOver (test t) times (count / 2) base + (count - count / 2) ≤ length times
       further s = let r = l .room in rw s (omega arith)
 
   pub lane-inside : (t : Float) (count half base : ℕ) → 1 < count → half ≡ count / 2 → Lane count t base → base + half < length times
@@ -116,7 +117,7 @@ module _ (test : Float → Float → Bool) (times : List Float) where
   partly-end count half j asked bases h p k l = p .done k (omega arith)
 
   pub partly-next : (count half j : ℕ) (asked : List Float) (bases : List ℕ) (b : ℕ) → 1 < count → half ≡ count / 2 → j < 8 → length bases ≡ 8
-      → Partly count half j asked bases → b ≡ stepped (test (getD asked j nan)) times half (getD bases j 0) → Partly count half (j + 1) asked (set bases j b)
+      → Partly count half j asked bases → b ≡ steppedOver (test (getD asked j nan)) times half (getD bases j 0) → Partly count half (j + 1) asked (set bases j b)
   partly-next count half j asked bases b h e l n p is = record {
     done = λ k s. now-done k s (eqb k j) (eqb-true k j) (eqb-false k j);
     left = λ k s g. other k (λ z. omega arith) (p .left k (omega arith) g);

@@ -8,14 +8,14 @@ use native.Mathlib.Numerals.{add-one}
 use native.Mathlib.Omega.{arith}
 use lib.ListN.{length}
 use lib.Dec.{ltb}
-use lib.Ieee.{Float, nan, inf, fin, lt, ofBits}
+use lib.Ieee.{Float, inf, lt}
 use lib.Ieee.Scale.{finite}
 use Rattle.numbers.specs.Clamps.{plusZero}
+use Rattle.numbers.proofs.Comparing.{above-minus-infinity, finite-between, lt-trans}
 use borrow.Author.Tests.{ltb-true, ltb-false}
 use Rattle.refusals.specs.Outcome.{Outcome, accepted, judged}
 use Rattle.refusals.specs.Table.{badKnot, badKnots}
 use Rattle.yield_curve.specs.Segments.{knot, lastOf}
-use Rattle.yield_curve.proofs.Comparing.{clash, lt-trans}
 use Rattle.yield_curve.proofs.KnotLine.{From, badAt, at-start, goes-on, ended}
 
 -- what holds of each knot before the one in hand, where no fault was counted, with one knot more
@@ -28,22 +28,6 @@ one-knot-more P i f g l before here e k h = go (ltb (suc k) i) (ltb-true (suc k)
         let u : i ≤ suc k = end refl in
         let d : i - 1 ≡ k = omega arith in
         subst P d (here (omega arith))
-
--- a time that is not below zero and that something is above is finite
-numbered : (x y : Float) → lt x plusZero ≡ false → lt x y ≡ true → finite x ≡ true
-unfolding lt ofBits
-numbered nan y h k = clash k
-numbered (inf true) y h k = clash (sym h)
-numbered (inf false) nan h k = clash k
-numbered (inf false) (inf t) h k = clash k
-numbered (inf false) (fin t n d) h k = clash k
-numbered (fin s m e) y h k = refl
-
-lowest : (x : Float) → finite x ≡ true → lt (inf true) x ≡ true
-unfolding lt
-lowest nan h = h
-lowest (inf s) h = clash h
-lowest (fin s m e) h = refl
 
 module _ (times rates : List Float) (same : length times ≡ length rates)
     (first : lt (knot times 0) plusZero ≡ false) (first-rate : finite (knot rates 0) ≡ true) (last : lt (lastOf times) (inf false) ≡ true)
@@ -60,11 +44,11 @@ module _ (times rates : List Float) (same : length times ≡ length rates)
   time-finite k h = go (ltb (suc k) (length times)) (ltb-true (suc k) (length times)) (ltb-false (suc k) (length times))
     where
       go : (b : Bool) → (b ≡ true → suc k < length times) → (b ≡ false → length times ≤ suc k) → finite (knot times k) ≡ true
-      go true inner end = numbered _ _ (not-below k h) (later k (inner refl) .0)
+      go true inner end = finite-between _ _ (not-below k h) (later k (inner refl) .0)
       go false inner end =
           let g : length times ≤ suc k = end refl in
           let e : length times - 1 ≡ k = omega arith in
-          numbered _ _ (not-below k h) (ap (λ (n : ℕ). lt (knot times n) (inf false)) (sym e) ∙ last)
+          finite-between _ _ (not-below k h) (ap (λ (n : ℕ). lt (knot times n) (inf false)) (sym e) ∙ last)
 
   rate-finite : (k : ℕ) → k < length times → finite (knot rates k) ≡ true
   rate-finite zero h = first-rate
@@ -86,4 +70,4 @@ module _ (times rates : List Float) (same : length times ≡ length rates)
       next i n g = omega arith
 
   pub in-order : 0 < length times → _≡_ {A = Outcome Unit} (judged ((record { number = 6; causes = badKnots times rates }) ∷ []) tt) (accepted tt)
-  in-order h = at-start times rates ∙ rest (length times) 0 (zero-add (length times)) (inf true) (λ g. lowest (knot times 0) (time-finite 0 g))
+  in-order h = at-start times rates ∙ rest (length times) 0 (zero-add (length times)) (inf true) (λ g. above-minus-infinity (knot times 0) (time-finite 0 g))

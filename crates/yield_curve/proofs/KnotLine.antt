@@ -53,7 +53,7 @@ abbrev pub From : List Float → List Float → Float → ℕ → Outcome Unit
 From times rates before i = firstOr 6 i (badKnotsAfter before (drop i times) (drop i rates)) (accepted tt)
 
 -- what -infinity is not before is not finite
-after-all : (t r : Float) → badKnot t r ≡ (badKnot t r || not (lt (inf true) t))
+pub after-all : (t r : Float) → badKnot t r ≡ (badKnot t r || not (lt (inf true) t))
 unfolding badKnot lt
 after-all nan r = refl
 after-all (inf s) r = refl

@@ -1,6 +1,5 @@
 pub mod Choices
 pub mod Adding
-pub mod Comparing
 pub mod Serving
 pub mod Halvings
 pub mod Flat

@@ -20,7 +20,7 @@ use Rattle.refusals.proofs.Judging.{none-is, passed}
 use Rattle.refusals.proofs.Verdicts.{verdict, refused-alike, accepted-alike}
 use Rattle.refusals.proofs.Placing.{none-bad, accepted-itself, refused-itself}
 use Rattle.yield_curve.specs.Segments.{knot, flatOutside, Ends, endsOf}
-use Rattle.yield_curve.specs.Halving.{Rising}
+use Rattle.yield_curve.specs.inner.Rising.{Rising}
 use Rattle.yield_curve.specs.Curve.{curveLines}
 use Rattle.yield_curve.specs.Lists.{eachLines, eachOutcome, orAsBefore, eachAfter, rateOrExponent}
 use Rattle.yield_curve.proofs.CurveLines.{at-least-one}

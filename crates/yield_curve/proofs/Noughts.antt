@@ -2,7 +2,7 @@
 -- above 0 keeps its sign. Assumes nothing.
 use mathlib.Core.Path.{_≡_, refl, sym, ap, _∙_}
 use mathlib.Core.Logic.{_⊎_, inl, inr}
-use mathlib.Core.Bool.{Bool, true, false, _&&_, _||_, Bool·beq}
+use mathlib.Core.Bool.{Bool, true, false, _&&_}
 use Prim.Native.Nat.{ℕ, zero, suc, _+_, _*_, _^_, _<_, _≤_}
 use native.Mathlib.Nat.{mul-pos, zero-lt-suc, le-of-lt}
 use native.Mathlib.Omega.{arith}
@@ -10,16 +10,17 @@ use lib.IntN.{ℤ, pos, negsuc}
 use lib.Dec.{T, eqb, eqb→eq}
 use lib.Pow.{pow-lt}
 use lib.Ieee.{Float, nan, inf, fin, Format, binary64, up, down, unlike, fits, round, sum, add, sub, mul, div, lt, eq, ofBits}
+use lib.Ieee.Bits.{is-true}
 use lib.Ieee.Fits.{up-pos, down-pos, and-l}
 use lib.Ieee.Scale.{finite}
-use borrow.Author.Tests.{le-ltb, lt-ltb, eq-eqb, ne-eqb}
+use borrow.Author.Tests.{le-ltb, lt-ltb, ne-eqb}
 use Rattle.numbers.specs.Clamps.{plusZero}
 use Rattle.numbers.proofs.Zeros.{plus-zero, round-nothing}
 use Rattle.numbers.proofs.Amounts.{amount}
 use Rattle.numbers.proofs.Order.{lt-amount}
 use Rattle.numbers.proofs.Differences.{difference}
+use Rattle.numbers.proofs.Comparing.{clash, eq-itself}
 use Rattle.elementary.proofs.Unrounded.{nought, nonzero, nonzero-between}
-use Rattle.yield_curve.proofs.Comparing.{clash}
 
 -- whether a minus stands before it
 abbrev pub minus : Float → Bool
@@ -132,16 +133,6 @@ nothing-below false = refl
 nothing-below true = refl
 
 -- ---- equal as numbers
-level-itself : (s : Bool) (A : ℕ) → (Bool·beq s s || eqb A 0) ≡ true
-level-itself false A = refl
-level-itself true A = refl
-
-eq-itself : (x : Float) → T (finite x) → eq x x ≡ true
-unfolding eq
-eq-itself nan h = absurd h
-eq-itself (inf s) h = absurd h
-eq-itself (fin s m e) h = rw (eq-eqb (m * up e * down e) (m * up e * down e) refl) (level-itself s (m * up e * down e))
-
 eq-noughts : (s t : Bool) → eq (nought s) (nought t) ≡ true
 unfolding eq
 eq-noughts false false = refl
@@ -155,7 +146,7 @@ pub same-number : (given own : Float) → T (fits binary64 own) → T (finite ow
 same-number given own f h other zero-too = go (zero-or-not own f h)
   where
     go : T (nonzero own) ⊎ ((s : Bool) × (own ≡ nought s)) → eq given own ≡ true
-    go (inl n) = ap (λ (x : Float). eq x own) (other n) ∙ eq-itself own h
+    go (inl n) = ap (λ (x : Float). eq x own) (other n) ∙ eq-itself own (is-true _ h)
     go (inr w) =
         let g = zero-too (w .0) (w .1) in
         ap (λ (x : Float). eq x own) (g .1) ∙ ap (eq (nought (g .0))) (w .1) ∙ eq-noughts (g .0) (w .0)

@@ -7,11 +7,11 @@ use lib.Dec.{eqb}
 use lib.IntN.{pos}
 use lib.Ieee.{Float, binary64, sub, mul, div, lt, ofInt}
 use borrow.Author.Tests.{eq-eqb, ne-eqb}
+use Rattle.numbers.specs.Literals.{one, tiny}
 use Rattle.numbers.specs.Clamps.{plusZero}
 use Rattle.numbers.specs.Sizes.{absolute}
 use Rattle.numbers.specs.Sums.{addedUp}
-use Rattle.elementary.specs.WholePower.{one}
-use Rattle.yield_curve.specs.Linear.{tiny, yieldOf, discountOf, halfYears, halfYear, discountSum, parOf}
+use Rattle.yield_curve.specs.Linear.{yieldOf, discountOf, halfYears, halfYear, discountSum, parOf}
 use Rattle.yield_curve.proofs.Choices.{taken, left}
 
 module _ (times rates : List Float) (t : Float) (count : ℕ) (is-count : count ≡ halfYears t) where

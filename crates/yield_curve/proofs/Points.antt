@@ -4,9 +4,9 @@ use mathlib.Core.List.{List}
 use Prim.Native.Nat.{ℕ, _+_}
 use lib.ListN.{length}
 use lib.Ieee.{Float, binary64, add, mul}
+use Rattle.numbers.specs.Literals.{one}
 use Rattle.numbers.specs.Clamps.{plusZero}
 use Rattle.numbers.specs.Sums.{addedUp}
-use Rattle.elementary.specs.WholePower.{one}
 use Rattle.yield_curve.specs.declared.solve.Equation.{Equation}
 use Rattle.yield_curve.specs.Segments.{knot}
 use Rattle.yield_curve.specs.Fit.{slopeAt, humpAt, against}

@@ -64,10 +64,10 @@ use Rattle.yield_curve.proofs.each.judge_each.Kinds as judge-each-kinds
 use Rattle.yield_curve.proofs.each.judge_each.Reads as judge-each
 use Rattle.yield_curve.proofs.each.rate_or_exponent.Kinds as rate-or-exponent-kinds
 use Rattle.yield_curve.proofs.each.rate_or_exponent.Reads as rate-or-exponent
-use Rattle.yield_curve.proofs.each.rates_at_each.Kinds as rates-at-each-kinds
-use Rattle.yield_curve.proofs.each.rates_at_each.Reads as rates-at-each
-use Rattle.yield_curve.proofs.each.discount_factors_at_each.Kinds as discount-factors-at-each-kinds
-use Rattle.yield_curve.proofs.each.discount_factors_at_each.Reads as discount-factors-at-each
+use Rattle.yield_curve.proofs.each.rate_at_each.Kinds as rate-at-each-kinds
+use Rattle.yield_curve.proofs.each.rate_at_each.Reads as rate-at-each
+use Rattle.yield_curve.proofs.each.discount_factor_at_each.Kinds as discount-factor-at-each-kinds
+use Rattle.yield_curve.proofs.each.discount_factor_at_each.Reads as discount-factor-at-each
 
 -- ---- each answer has its own outcome
 pub fit-one-to-one : (x y : FitAnswer) → fitOutcome x ≡ fitOutcome y → x ≡ y
@@ -167,14 +167,14 @@ pub rate-or-exponent-determined : Determined 0 rate-or-exponent-kinds.ps rate-or
 rate-or-exponent-determined κs a x y e e′ p q = p ∙ sym q
 
 -- ---- lists of lookups: one verdict, and one list after the call
-pub rates-at-each-determined : Determined 3 rates-at-each-kinds.ps rates-at-each-kinds.r rates-at-each.Post
-rates-at-each-determined κs a x y e e′ p q = verdict-one-to-one x y (p .0 ∙ sym (q .0))
+pub rate-at-each-determined : Determined 3 rate-at-each-kinds.ps rate-at-each-kinds.r rate-at-each.Post
+rate-at-each-determined κs a x y e e′ p q = verdict-one-to-one x y (p .0 ∙ sym (q .0))
 
-pub rates-at-each-settled : Settled 3 rates-at-each-kinds.ps rates-at-each-kinds.r rates-at-each.Post
-rates-at-each-settled κs a x y w w′ p q = ap (λ (l : List Float). (tt, (tt, (l, tt)))) (p .1 ∙ sym (q .1))
+pub rate-at-each-settled : Settled 3 rate-at-each-kinds.ps rate-at-each-kinds.r rate-at-each.Post
+rate-at-each-settled κs a x y w w′ p q = ap (λ (l : List Float). (tt, (tt, (l, tt)))) (p .1 ∙ sym (q .1))
 
-pub discount-factors-at-each-determined : Determined 3 discount-factors-at-each-kinds.ps discount-factors-at-each-kinds.r discount-factors-at-each.Post
-discount-factors-at-each-determined κs a x y e e′ p q = verdict-one-to-one x y (p .0 ∙ sym (q .0))
+pub discount-factor-at-each-determined : Determined 3 discount-factor-at-each-kinds.ps discount-factor-at-each-kinds.r discount-factor-at-each.Post
+discount-factor-at-each-determined κs a x y e e′ p q = verdict-one-to-one x y (p .0 ∙ sym (q .0))
 
-pub discount-factors-at-each-settled : Settled 3 discount-factors-at-each-kinds.ps discount-factors-at-each-kinds.r discount-factors-at-each.Post
-discount-factors-at-each-settled κs a x y w w′ p q = ap (λ (l : List Float). (tt, (tt, (l, tt)))) (p .1 ∙ sym (q .1))
+pub discount-factor-at-each-settled : Settled 3 discount-factor-at-each-kinds.ps discount-factor-at-each-kinds.r discount-factor-at-each.Post
+discount-factor-at-each-settled κs a x y w w′ p q = ap (λ (l : List Float). (tt, (tt, (l, tt)))) (p .1 ∙ sym (q .1))

@@ -4,11 +4,11 @@ use mathlib.Core.Bool.{cond}
 use mathlib.Core.List.{List}
 use lib.Dec.{eqb}
 use lib.ListN.{length}
-use lib.Ieee.{Float, binary64, neg, mul, lt, ofBits}
+use lib.Ieee.{Float, binary64, mul, lt}
+use Rattle.numbers.specs.Literals.{one, half}
 use Rattle.numbers.specs.Clamps.{plusZero}
 use Rattle.numbers.specs.Sums.{addedUp}
 use Rattle.refusals.specs.Outcome.{Outcome, refused, accepted, judged}
-use Rattle.elementary.specs.WholePower.{one}
 use Rattle.yield_curve.specs.declared.nelson_siegel.NelsonSiegel.{NelsonSiegel}
 use Rattle.yield_curve.specs.declared.solve.System.{System}
 use Rattle.yield_curve.specs.declared.solve.Equation.{Equation}
@@ -19,9 +19,9 @@ use Rattle.yield_curve.specs.Curve.{curveLines}
 use Rattle.yield_curve.specs.NelsonSiegel.{soon, scaled, slopeLoading, humpLoading}
 use Rattle.yield_curve.specs.Solve.{solved}
 
--- 0.5
+-- "decay 0.5 when fitted"
 abbrev pub decayFitted : Float
-decayFitted = ofBits binary64 0x3fe0_0000_0000_0000
+decayFitted = half
 
 -- the loadings of a point's time: 1, and the two of Nelson-Siegel, which are 1 and 0 before 1e-10
 unfoldable pub slopeAt : Float → Float
@@ -29,10 +29,6 @@ slopeAt t = cond (lt t soon) one (slopeLoading (scaled decayFitted t))
 
 unfoldable pub humpAt : Float → Float
 humpAt t = cond (lt t soon) plusZero (humpLoading (scaled decayFitted t))
-
--- what those two take the exp of; +0 stands where they take none
-abbrev pub exponentAt : Float → Float
-exponentAt t = cond (lt t soon) plusZero (neg (scaled decayFitted t))
 
 module _ (times rates : List Float) where
   -- a sum over the points, left to right from +0

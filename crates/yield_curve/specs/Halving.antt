@@ -1,7 +1,6 @@
 -- The segment that halving comes to, on any list of times: where they rise, it is the one that the first knot that passes a test ends. Definitions only. Assumes nothing.
-use Prim.Native.Nat.{ℕ, zero, suc, _+_, _-_, _/_, _<_}
-use mathlib.Core.Path.{_≡_}
-use mathlib.Core.Bool.{Bool, true, cond}
+use Prim.Native.Nat.{ℕ, zero, suc, _+_, _-_, _/_}
+use mathlib.Core.Bool.{Bool, cond}
 use mathlib.Core.List.{List, [], _∷_}
 use lib.Dec.{ltb}
 use lib.ListN.{length}
@@ -9,14 +8,14 @@ use lib.Ieee.{Float, le, lt}
 use Rattle.yield_curve.specs.Segments.{knot}
 
 -- where half the knots are stepped over: not where the knot so far on passes
-abbrev pub stepped : (Float → Bool) → List Float → ℕ → ℕ → ℕ
-stepped passes times half base = cond (passes (knot times (base + half))) base (base + half)
+abbrev pub steppedOver : (Float → Bool) → List Float → ℕ → ℕ → ℕ
+steppedOver passes times half base = cond (passes (knot times (base + half))) base (base + half)
 
 -- of so many knots from one on, half after half, in so many turns at most
 unfoldable pub halvedFrom : (Float → Bool) → List Float → ℕ → ℕ → ℕ → ℕ
 halvedFrom passes times zero base count = base
 halvedFrom passes times (suc turns) base count =
-    cond (ltb 1 count) (halvedFrom passes times turns (stepped passes times (count / 2) base) (count - count / 2)) base
+    cond (ltb 1 count) (halvedFrom passes times turns (steppedOver passes times (count / 2) base) (count - count / 2)) base
 
 unfoldable pub halved : (Float → Bool) → List Float → ℕ
 halved passes times = halvedFrom passes times (length times) 0 (length times)
@@ -27,10 +26,6 @@ halvedEnding times t = halved (le t) times
 
 abbrev pub halvedStarting : List Float → Float → ℕ
 halvedStarting times t = halved (lt t) times
-
--- each time is before the next
-abbrev pub Rising : List Float → Type 0
-Rising times = (k : ℕ) → suc k < length times → lt (knot times k) (knot times (suc k)) ≡ true
 
 -- what is said of each of eight places
 abbrev pub eight : {A : Type 0} → (ℕ → A) → List A

@@ -7,3 +7,4 @@ pub mod Spline
 pub mod NelsonSiegel
 pub mod Solve
 pub mod Fit
+pub mod inner

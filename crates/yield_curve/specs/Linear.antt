@@ -4,24 +4,17 @@ use mathlib.Core.Bool.{cond, _||_}
 use mathlib.Core.List.{List, [], _∷_, _++_}
 use lib.Dec.{eqb}
 use lib.IntN.{pos}
-use lib.Ieee.{Float, binary64, neg, add, sub, mul, div, lt, ofInt, ofBits}
+use lib.Ieee.{Float, binary64, neg, add, sub, mul, div, lt, ofInt}
+use Rattle.numbers.specs.Literals.{one, two, tiny}
 use Rattle.numbers.specs.Clamps.{plusZero}
 use Rattle.numbers.specs.Sizes.{absolute}
 use Rattle.numbers.specs.Whole.{nearestWhole}
 use Rattle.numbers.specs.Sums.{addedUp}
 use Rattle.refusals.specs.Outcome.{Outcome, line, judged}
 use Rattle.refusals.specs.Table.{badTime, tooManyPeriods}
-use Rattle.elementary.specs.WholePower.{one}
 use Rattle.elementary.specs.Exp.{exp}
 use Rattle.yield_curve.specs.Segments.{segmentEnding, flatOutside, Ends, endsOf}
 use Rattle.yield_curve.specs.Curve.{curveLines, askedLines}
-
--- 1e-12 and 2
-abbrev pub tiny : Float
-tiny = ofBits binary64 0x3d71_9799_812d_ea11
-
-abbrev pub two : Float
-two = ofBits binary64 0x4000_0000_0000_0000
 
 -- "YieldCurve y0 + w·(y1-y0)", w = (t-t0)/(t1-t0)
 unfoldable pub alongYields : Ends → Float → Float

@@ -1,17 +1,17 @@
 -- Nelson-Siegel curves. Definitions only. Assumes nothing.
 use mathlib.Core.Bool.{cond}
 use mathlib.Core.List.{[], _∷_}
-use lib.Ieee.{Float, binary64, neg, add, sub, mul, div, lt, ofBits}
+use lib.Ieee.{Float, binary64, neg, add, sub, mul, div, lt}
 use Rattle.refusals.specs.Outcome.{Outcome, line, judged}
 use Rattle.refusals.specs.Table.{badTime}
-use Rattle.elementary.specs.WholePower.{one}
+use Rattle.numbers.specs.Literals.{one, tenToMinus10}
 use Rattle.elementary.specs.Exp.{exp}
 use Rattle.yield_curve.specs.declared.nelson_siegel.NelsonSiegel.{NelsonSiegel}
 use Rattle.yield_curve.specs.declared.nelson_siegel.CurveMetrics.{CurveMetrics}
 
--- 1e-10
+-- before 1e-10 the formulas give way to their limit
 abbrev pub soon : Float
-soon = ofBits binary64 0x3ddb_7cdf_d9d7_bdbb
+soon = tenToMinus10
 
 -- t/decay, e^-(t/decay), and the two loadings (1 - e^-x)/x and (1 - e^-x)/x - e^-x
 abbrev pub scaled : Float → Float → Float

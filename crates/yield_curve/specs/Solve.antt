@@ -1,15 +1,16 @@
 -- Three equations in three unknowns, by elimination with the largest pivot of each column first; a pivot below 1e-14 gives zeros. Definitions only. Assumes nothing.
 use mathlib.Core.Bool.{Bool, cond}
-use lib.Ieee.{Float, binary64, sub, mul, div, lt, ofBits}
+use lib.Ieee.{Float, binary64, sub, mul, div, lt}
+use Rattle.numbers.specs.Literals.{tenToMinus14}
 use Rattle.numbers.specs.Clamps.{plusZero}
 use Rattle.numbers.specs.Sizes.{absolute}
 use Rattle.yield_curve.specs.declared.solve.Equation.{Equation}
 use Rattle.yield_curve.specs.declared.solve.System.{System}
 use Rattle.yield_curve.specs.declared.solve.Unknowns.{Unknowns}
 
--- 1e-14
+-- "pivot below 1e-14 gives zeros"
 abbrev pub singular : Float
-singular = ofBits binary64 0x3d06_849b_86a1_2b9b
+singular = tenToMinus14
 
 -- x is larger in size than y
 abbrev pub larger : Float → Float → Bool

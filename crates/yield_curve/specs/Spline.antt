@@ -4,20 +4,18 @@ use mathlib.Core.Bool.{cond}
 use mathlib.Core.List.{List}
 use lib.Dec.{ltb}
 use lib.ListN.{length}
-use lib.Ieee.{Float, binary64, add, sub, mul, div, lt, ofBits}
+use lib.Ieee.{Float, binary64, add, sub, mul, div, lt}
+use Rattle.numbers.specs.Literals.{two, three, tenToMinus15}
 use Rattle.numbers.specs.Clamps.{plusZero}
 use Rattle.numbers.specs.Sizes.{absolute}
 use Rattle.refusals.specs.Outcome.{Outcome, judged}
 use Rattle.yield_curve.specs.Segments.{segmentEnding, flatOutside, knot}
 use Rattle.yield_curve.specs.Curve.{askedLines}
-use Rattle.yield_curve.specs.Linear.{two, yieldOf}
+use Rattle.yield_curve.specs.Linear.{yieldOf}
 
--- 3 and 1e-15
-abbrev pub three : Float
-three = ofBits binary64 0x4008_0000_0000_0000
-
+-- "the 1e-15 guard"
 abbrev pub guard : Float
-guard = ofBits binary64 0x3cd2_03af_9ee7_5616
+guard = tenToMinus15
 
 module _ (times rates : List Float) where
   -- h: how long the segment i is, and how much the rate rises over it for each year
@@ -31,7 +29,7 @@ module _ (times rates : List Float) where
   unfoldable pub bend : ℕ → Float
   bend i = mul binary64 three (sub binary64 (slope (suc i)) (slope i))
 
-  -- "the 1e-15 guard"
+  -- what is smaller in size gives way to it
   unfoldable pub guarded : Float → Float
   guarded x = cond (lt (absolute x) guard) guard x
 

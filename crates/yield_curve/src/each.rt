@@ -11,7 +11,7 @@ ghost use Rattle.refusals.specs.Answers.{verdictOutcome};
 ghost use Rattle.refusals.specs.Table.{badTime};
 ghost use Rattle.refusals.specs.Places.{placed};
 ghost use Rattle.yield_curve.specs.Segments.{flatOutside, endsOf};
-ghost use Rattle.yield_curve.specs.Halving.{Rising};
+ghost use Rattle.yield_curve.specs.inner.Rising.{Rising};
 ghost use Rattle.yield_curve.specs.Linear.{alongYields, yieldOf, discountOf};
 ghost use Rattle.yield_curve.specs.Lists.{eachOutcome, eachAfter, rateOrExponent};
 use crate::curve::bad_time;
@@ -116,7 +116,7 @@ fn answer_each(times: &[f64], rates: &[f64], asked: &mut [f64], exponents: bool)
 }
 
 // The yield at each time.
-pub fn rates_at_each(times: &[f64], rates: &[f64], asked: &mut [f64]) -> Verdict
+pub fn rate_at_each(times: &[f64], rates: &[f64], asked: &mut [f64]) -> Verdict
     ensures { λ r. ⌜ (verdictOutcome r ≡ eachOutcome (now (times .entry)) (now (rates .entry)) (now (asked .entry))) × (now (asked .exit) ≡ eachAfter (yieldOf (now (times .entry)) (now (rates .entry))) (now (times .entry)) (now (rates .entry)) (now (asked .entry))) ⌝ }
 {
     match judge_each(times, rates, asked) {
@@ -129,7 +129,7 @@ pub fn rates_at_each(times: &[f64], rates: &[f64], asked: &mut [f64]) -> Verdict
 }
 
 // The discount factor at each time.
-pub fn discount_factors_at_each(times: &[f64], rates: &[f64], asked: &mut [f64]) -> Verdict
+pub fn discount_factor_at_each(times: &[f64], rates: &[f64], asked: &mut [f64]) -> Verdict
     ensures { λ r. ⌜ (verdictOutcome r ≡ eachOutcome (now (times .entry)) (now (rates .entry)) (now (asked .entry))) × (now (asked .exit) ≡ eachAfter (discountOf (now (times .entry)) (now (rates .entry))) (now (times .entry)) (now (rates .entry)) (now (asked .entry))) ⌝ }
 {
     match judge_each(times, rates, asked) {

@@ -3,10 +3,11 @@ ghost use mathlib.Core.Path.{_≡_};
 ghost use Prim.Native.Nat.{ℕ, _<_, _≤_};
 ghost use lib.ListN.{length};
 ghost use lib.Ieee.{binary64, add, mul};
-ghost use Rattle.elementary.specs.WholePower.{one};
+ghost use Rattle.numbers.specs.Literals.{one};
 ghost use Rattle.elementary.specs.Exp.{exp};
 ghost use Rattle.yield_curve.specs.Segments.{knot};
-ghost use Rattle.yield_curve.specs.Fit.{slopeAt, humpAt, exponentAt, leastSquares, fitted, fit, fitOutcome};
+ghost use Rattle.yield_curve.specs.Fit.{slopeAt, humpAt, leastSquares, fitted, fit, fitOutcome};
+ghost use Rattle.yield_curve.specs.inner.Loadings.{loadingExponent};
 use crate::nelson_siegel::Loadings;
 use crate::nelson_siegel::NelsonSiegel;
 use crate::segments::knot_at;
@@ -21,7 +22,7 @@ pub enum FitAnswer {
 }
 
 fn exponent_at(t: f64) -> f64
-    ensures { λ r. ⌜ r ≡ exponentAt t ⌝ }
+    ensures { λ r. ⌜ r ≡ loadingExponent t ⌝ }
 {
     if t < 1e-10 { 0.0 } else { -(t / 0.5) }
 }
@@ -29,7 +30,7 @@ fn exponent_at(t: f64) -> f64
 // The exponents of the points' loadings.
 fn put_exponents(times: &[f64], room: &mut [f64])
     requires { ⌜ length (now times) ≤ length (now room) ⌝ }
-    ensures { λ _. ⌜ ((i : ℕ) → i < length (now (times .entry)) → knot (now (room .exit)) i ≡ exponentAt (knot (now (times .entry)) i)) ⌝ }
+    ensures { λ _. ⌜ ((i : ℕ) → i < length (now (times .entry)) → knot (now (room .exit)) i ≡ loadingExponent (knot (now (times .entry)) i)) ⌝ }
 {
     let mut i: usize = 0;
     while i < times.len() {
@@ -41,7 +42,7 @@ fn put_exponents(times: &[f64], room: &mut [f64])
 // Their exps, eight at a time: some more places are taken, up to a whole eight.
 fn put_decays(times: &[f64], room: &mut [f64])
     requires { ⌜ (length (now times) ≤ 120) × (length (now room) ≡ 120) ⌝ }
-    ensures { λ _. ⌜ ((i : ℕ) → i < length (now (times .entry)) → knot (now (room .exit)) i ≡ exp (exponentAt (knot (now (times .entry)) i))) ⌝ }
+    ensures { λ _. ⌜ ((i : ℕ) → i < length (now (times .entry)) → knot (now (room .exit)) i ≡ exp (loadingExponent (knot (now (times .entry)) i))) ⌝ }
 {
     put_exponents(times, room);
     let eights = (times.len() + 7) / 8 * 8;
@@ -50,7 +51,7 @@ fn put_decays(times: &[f64], room: &mut [f64])
 
 // The loadings of a point's time, by the exp that they take.
 fn loadings_at(t: f64, left: f64) -> Loadings
-    requires { ⌜ left ≡ exp (exponentAt t) ⌝ }
+    requires { ⌜ left ≡ exp (loadingExponent t) ⌝ }
     ensures { λ l. ⌜ (l .slope ≡ slopeAt t) × (l .hump ≡ humpAt t) ⌝ }
 {
     if t < 1e-10 {

@@ -4,13 +4,13 @@ ghost use Prim.Native.Nat.{ℕ, _+_, _<_};
 ghost use lib.ListN.{length};
 ghost use lib.Ieee.{le, lt};
 ghost use Rattle.yield_curve.specs.Segments.{knot};
-ghost use Rattle.yield_curve.specs.Halving.{stepped, halvedEnding, halvedStarting, eight};
+ghost use Rattle.yield_curve.specs.Halving.{steppedOver, halvedEnding, halvedStarting, eight};
 use crate::segments::knot_at;
 
 // Half the knots stepped over, unless t is not beyond the knot that far on.
 fn stepped_ending(times: &[f64], t: f64, half: usize, base: usize) -> usize
     requires { ⌜ base + half < length (now times) ⌝ }
-    ensures { λ r. ⌜ r ≡ stepped (le t) (now (times .entry)) half base ⌝ }
+    ensures { λ r. ⌜ r ≡ steppedOver (le t) (now (times .entry)) half base ⌝ }
 {
     let middle = base + half;
     if t <= times[middle] { base } else { middle }
@@ -19,7 +19,7 @@ fn stepped_ending(times: &[f64], t: f64, half: usize, base: usize) -> usize
 // Half the knots stepped over, unless t is before the knot that far on.
 fn stepped_starting(times: &[f64], t: f64, half: usize, base: usize) -> usize
     requires { ⌜ base + half < length (now times) ⌝ }
-    ensures { λ r. ⌜ r ≡ stepped (lt t) (now (times .entry)) half base ⌝ }
+    ensures { λ r. ⌜ r ≡ steppedOver (lt t) (now (times .entry)) half base ⌝ }
 {
     let middle = base + half;
     if t < times[middle] { base } else { middle }

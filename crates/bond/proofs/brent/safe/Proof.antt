@@ -9,8 +9,8 @@ use Rattle.bond.proofs.brent.safe.Tie as tie
 midway-requires : tie.Need-midway-requires
 midway-requires c κs = search needs
 
-width-requires : tie.Need-width-requires
-width-requires c κs = search needs
+least-step-requires : tie.Need-least-step-requires
+least-step-requires c κs = search needs
 
 absolute-value-requires : tie.Need-absolute-value-requires
 absolute-value-requires c κs = search needs
@@ -27,7 +27,7 @@ returns c =
       sym (ap (λ (f : Fraction). f .rise) (a .pre)),
       sym (ap (λ (f : Fraction). f .run) (a .pre)),
       sym (e .before .before .before .before .before .midway .ensures),
-      sym (e .before .before .before .width .ensures),
+      sym (e .before .before .before .least-step .ensures),
       sym (e .before .absolute-value .ensures),
       e .if1 .taken,
       sym (c .absolute-value2 .ensures),
@@ -41,7 +41,7 @@ returns-2 c =
       sym (ap (λ (f : Fraction). f .rise) (a .pre)),
       sym (ap (λ (f : Fraction). f .run) (a .pre)),
       sym (c .before .before .before .before .before .midway .ensures),
-      sym (c .before .before .before .width .ensures),
+      sym (c .before .before .before .least-step .ensures),
       sym (c .before .absolute-value .ensures),
       c .if1 .left,
     )
@@ -51,7 +51,7 @@ safe-spec =
     tie.close
     (tie.spec
     midway-requires
-    width-requires
+    least-step-requires
     absolute-value-requires
     absolute-value-requires-2
     returns

@@ -11,8 +11,8 @@ midway-requires c κs = search needs
 absolute-value-requires : tie.Need-absolute-value-requires
 absolute-value-requires c κs = search needs
 
-width-requires : tie.Need-width-requires
-width-requires c κs = search needs
+least-step-requires : tie.Need-least-step-requires
+least-step-requires c κs = search needs
 
 returns : tie.Need-returns
 unfolding settled
@@ -20,7 +20,7 @@ returns c =
     rw (
       sym (c .before .before .before .midway .ensures),
       sym (c .before .before .absolute-value .ensures),
-      sym (c .before .width .ensures),
+      sym (c .before .least-step .ensures),
       c .if1 .taken,
     )
 
@@ -34,7 +34,7 @@ returns-2 c =
     rw (
       sym (e .before .before .before .midway .ensures),
       sym (e .before .before .absolute-value .ensures),
-      sym (e .before .width .ensures),
+      sym (e .before .least-step .ensures),
       e .if1 .left,
       c .absolute-value2 .ensures,
     )
@@ -45,7 +45,7 @@ settled-spec =
     (tie.spec
     midway-requires
     absolute-value-requires
-    width-requires
+    least-step-requires
     returns
     absolute-value-requires-2
     returns-2)

@@ -5,15 +5,15 @@ use borrow.Author.Needs.{needs}
 use Rattle.bond.proofs.brent.shift.Statement.{statement}
 use Rattle.bond.proofs.brent.shift.Tie as tie
 
-width-requires : tie.Need-width-requires
-width-requires c κs = search needs
+least-step-requires : tie.Need-least-step-requires
+least-step-requires c κs = search needs
 
 absolute-value-requires : tie.Need-absolute-value-requires
 absolute-value-requires c κs = search needs
 
 returns : tie.Need-returns
 unfolding shift
-returns c = rw (sym (c .before .before .width .ensures), sym (c .before .absolute-value .ensures), c .if1 .taken)
+returns c = rw (sym (c .before .before .least-step .ensures), sym (c .before .absolute-value .ensures), c .if1 .taken)
 
 midway-requires : tie.Need-midway-requires
 midway-requires c κs = search needs
@@ -23,7 +23,7 @@ unfolding shift
 returns-2 c =
     let e = c .before .before in
     rw (
-      sym (e .before .before .width .ensures),
+      sym (e .before .before .least-step .ensures),
       sym (e .before .absolute-value .ensures),
       e .if1 .left,
       sym (c .before .midway .ensures),
@@ -35,7 +35,7 @@ unfolding shift
 returns-3 c =
     let e = c .before .before in
     rw (
-      sym (e .before .before .width .ensures),
+      sym (e .before .before .least-step .ensures),
       sym (e .before .absolute-value .ensures),
       e .if1 .left,
       sym (c .before .midway .ensures),
@@ -45,4 +45,4 @@ returns-3 c =
 pub shift-spec : {M : Type 1} → statement M
 shift-spec =
     tie.close
-    (tie.spec width-requires absolute-value-requires returns midway-requires returns-2 returns-3)
+    (tie.spec least-step-requires absolute-value-requires returns midway-requires returns-2 returns-3)

@@ -8,8 +8,8 @@ use Rattle.bond.proofs.brent.tried.Tie as tie
 absolute-value-requires : tie.Need-absolute-value-requires
 absolute-value-requires c κs = search needs
 
-width-requires : tie.Need-width-requires
-width-requires c κs = search needs
+least-step-requires : tie.Need-least-step-requires
+least-step-requires c κs = search needs
 
 absolute-value-requires-2 : tie.Need-absolute-value-requires-2
 absolute-value-requires-2 c κs = search needs
@@ -23,7 +23,7 @@ returns c =
     let e = c .before .before in
     rw (
       sym (e .before .before .absolute-value .ensures),
-      sym (e .before .width .ensures),
+      sym (e .before .least-step .ensures),
       e .if1 .taken,
       c .before .absolute-value2 .ensures,
       c .absolute-value3 .ensures,
@@ -31,14 +31,14 @@ returns c =
 
 returns-2 : tie.Need-returns-2
 unfolding tried
-returns-2 c = rw (sym (c .before .before .absolute-value .ensures), sym (c .before .width .ensures), c .if1 .left)
+returns-2 c = rw (sym (c .before .before .absolute-value .ensures), sym (c .before .least-step .ensures), c .if1 .left)
 
 pub tried-spec : {M : Type 1} → statement M
 tried-spec =
     tie.close
     (tie.spec
     absolute-value-requires
-    width-requires
+    least-step-requires
     absolute-value-requires-2
     absolute-value-requires-3
     returns

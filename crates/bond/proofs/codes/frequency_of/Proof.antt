@@ -3,8 +3,9 @@ use Prim.Native.Nat.{_<_}
 use native.Mathlib.Omega.{arith}
 use borrow.Author.Tests.{lt-ltb}
 use Rattle.refusals.specs.Outcome.{firstOr, judged}
+use Rattle.refusals.specs.Table.{badCode}
 use Rattle.refusals.proofs.Verdicts.{refused-as}
-use Rattle.bond.specs.Codes.{frequencyAt, badCode, frequencyOf}
+use Rattle.bond.specs.Codes.{frequencyAt, frequencyOf}
 use borrow.Author.Needs.{needs}
 use Rattle.bond.proofs.codes.frequency_of.Statement.{statement}
 use Rattle.bond.proofs.codes.frequency_of.Tie as tie

@@ -4,13 +4,13 @@ use Prim.Native.Nat.{ℕ, suc, _+_, _-_, _*_, _/_, _≤_, _<_}
 use native.Mathlib.Omega.{arith}
 use borrow.Author.Needs.{needs}
 use Rattle.numbers.specs.Sums.{addedUp}
-use Rattle.bond.specs.Weighted.{weighted}
+use Rattle.bond.specs.inner.Weighted.{weightedBy}
 use Rattle.bond.proofs.FlowSums.{added-at, coupon-worth, power-of, term}
 use Rattle.bond.proofs.durations.add_flows.Statement.{statement}
 use Rattle.bond.proofs.durations.add_flows.Tie as tie
 
 abbrev Inv-loop : tie.InvT-loop
-Inv-loop worked r squares from to before block powers sum₀ t₀ sum t = (from ≤ t) × (t ≤ to) × (sum ≡ addedUp (λ (i : ℕ). weighted (worked .bond) r squares (suc i)) (t - 1))
+Inv-loop worked r squares from to before block powers sum₀ t₀ sum t = (from ≤ t) × (t ≤ to) × (sum ≡ addedUp (λ (i : ℕ). weightedBy (worked .bond) r squares (suc i)) (t - 1))
 
 abbrev μ-loop : tie.MeasureT-loop
 μ-loop worked r squares from to before block powers sum₀ t₀ sum t = to - t
@@ -57,7 +57,7 @@ loop-again c =
     let before : t < a .worked .count = omega arith in (
       omega arith,
       omega arith,
-      added-at (weighted (a .worked .bond) (a .r) (a .squares)) _ _ t one (l .loop .inv .2)
+      added-at (weightedBy (a .worked .bond) (a .r) (a .squares)) _ _ t one (l .loop .inv .2)
           (term _ _ t (a .squares) _ _ _ (start .pre .0 .yearly) (c .before .weight .ensures)
           (coupon-worth _ _ t _ _ _ (start .pre .0 .paid) (start .pre .0 .counted) before (power-of _ _ _ t (l .before .sixteen-powers .ensures) low high))),
     )

@@ -4,13 +4,13 @@ use Prim.Native.Nat.{ℕ, suc, _+_, _-_, _≤_}
 use native.Mathlib.Omega.{arith}
 use borrow.Author.Needs.{needs}
 use Rattle.numbers.specs.Sums.{addedUp}
-use Rattle.bond.specs.Weighted.{weighted}
+use Rattle.bond.specs.inner.Weighted.{weightedBy}
 use Rattle.bond.proofs.FlowSums.{added-at, term}
 use Rattle.bond.proofs.durations.weighted_sum.Statement.{statement}
 use Rattle.bond.proofs.durations.weighted_sum.Tie as tie
 
 abbrev Inv-loop : tie.InvT-loop
-Inv-loop worked r squares sum₀ t₀ sum t = (1 ≤ t) × (t ≤ worked .count) × (sum ≡ addedUp (λ (i : ℕ). weighted (worked .bond) r squares (suc i)) (t - 1))
+Inv-loop worked r squares sum₀ t₀ sum t = (1 ≤ t) × (t ≤ worked .count) × (sum ≡ addedUp (λ (i : ℕ). weightedBy (worked .bond) r squares (suc i)) (t - 1))
 
 abbrev μ-loop : tie.MeasureT-loop
 μ-loop worked r squares sum₀ t₀ sum t = worked .count - t
@@ -50,7 +50,7 @@ returns-2 c =
     let pre = l .before .before .before .pre in
     let a = l .before .before .before .args in
     let end : l .loop .t + 1 - 1 ≡ a .worked .count = omega arith in
-    added-at (weighted (a .worked .bond) (a .r) (a .squares)) _ _ (l .loop .t) (l .loop .inv .0) (l .loop .inv .2) (term _ _ (l .loop .t) (a .squares) _ _ _ (pre .yearly) (c .before .weight .ensures) (c .flow-worth .ensures)) ∙ rw (end, pre .counted)
+    added-at (weightedBy (a .worked .bond) (a .r) (a .squares)) _ _ (l .loop .t) (l .loop .inv .0) (l .loop .inv .2) (term _ _ (l .loop .t) (a .squares) _ _ _ (pre .yearly) (c .before .weight .ensures) (c .flow-worth .ensures)) ∙ rw (end, pre .counted)
 
 pub weighted-sum-spec : {M : Type 1} → statement M
 weighted-sum-spec =

@@ -8,7 +8,7 @@ use denote.Ref.{now}
 use Rattle.refusals.proofs.Verdicts.{refused-alike}
 use Rattle.spread_analytics.specs.Spread.{zSpread}
 use Rattle.spread_analytics.specs.Dated.{timesOf, amountsOf}
-use Rattle.spread_analytics.proofs.Gathering.{same-lists, same-length, too-many}
+use Rattle.spread_analytics.proofs.Gathering.{same-lists, same-length, many-times}
 use borrow.Author.Needs.{needs}
 use native.Mathlib.Omega.{arith}
 use Rattle.spread_analytics.proofs.dated.z_spread_of_lists.Statement.{statement}
@@ -23,7 +23,7 @@ returns c =
     let s = c .before .before .before .before in
     let a = s .args in
     λ flows n g.
-    refused-alike _ _ _ _ (c .refused-for-count .ensures (timesOf flows) (amountsOf flows) (badNumber (a .market)) (same-length flows) (too-many flows (a .count) n (c .before .if1 .taken)))
+    refused-alike _ _ _ _ (c .refused-for-count .ensures (timesOf flows) (amountsOf flows) (badNumber (a .market)) (same-length flows) (many-times flows (a .count) n (c .before .if1 .taken)))
 
 array-share-prefix-times : tie.Need-array-share-prefix-times
 array-share-prefix-times c = search needs

@@ -1,8 +1,7 @@
 -- `spread_analytics::flows::judge_bond_flows` meets its contract: each test is a line's, and 3 has no cause where 7 has one. Assumes nothing.
 use mathlib.Core.Path.{sym, _∙_}
 use mathlib.Core.Bool.{_||_}
-use lib.Dec.{ltb}
-use Rattle.refusals.specs.Table.{badAmount, badTime, tooManyPeriods, badNumber}
+use Rattle.refusals.specs.Table.{badAmount, noRoomInEither, badTime, tooManyPeriods, badNumber}
 use Rattle.refusals.proofs.Verdicts.{refused-as}
 use Rattle.spread_analytics.proofs.BondFlows.{refused-1, refused-3, refused-7, refused-9, accepted-all}
 use borrow.Author.Needs.{needs}
@@ -20,7 +19,7 @@ returns c =
     let f = c .before .before in
     let a = f .before .args in
     refused-as 1 _ _ (c .refuse .ensures)
-    (refused-1 (badAmount (a .face)) (badTime (a .tenor) || tooManyPeriods (a .count)) (ltb (a .times) (a .count) || ltb (a .amounts) (a .count)) (badNumber (a .coupon))
+    (refused-1 (badAmount (a .face)) (badTime (a .tenor) || tooManyPeriods (a .count)) (noRoomInEither (a .count) (a .times) (a .amounts)) (badNumber (a .coupon))
     (sym (f .bad-amount .ensures) ∙ c .before .if1 .taken))
 
 bad-flows-requires : tie.Need-bad-flows-requires

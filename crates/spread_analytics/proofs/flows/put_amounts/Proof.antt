@@ -1,17 +1,17 @@
 -- `spread_analytics::flows::put_amounts` meets its contract: after i turns the first i amounts are put. Assumes nothing.
 use mathlib.Core.Path.{_∙_}
 use mathlib.Core.Bool.{cond}
-use Prim.Native.Nat.{ℕ, _-_, _≤_}
+use Prim.Native.Nat.{ℕ, suc, _-_, _≤_}
 use native.Mathlib.Numerals.{add-one}
 use native.Mathlib.Omega.{arith}
 use lib.Dec.{eqb}
 use lib.Ieee.{binary64, add}
-use Rattle.spread_analytics.proofs.Columns.{Put, none-put, one-more, all-put}
+use Rattle.steps.proofs.Places.{Put, none-put, one-more, all-put}
 use Rattle.spread_analytics.proofs.flows.put_amounts.Statement.{statement}
 use Rattle.spread_analytics.proofs.flows.put_amounts.Tie as tie
 
 abbrev Inv-loop : tie.InvT-loop
-Inv-loop amounts₀ count coupon face i₀ amounts i = (i ≤ count) × Put (λ (j : ℕ). cond (eqb j count) (add binary64 coupon face) coupon) amounts₀ i amounts
+Inv-loop amounts₀ count coupon face i₀ amounts i = (i ≤ count) × Put (λ (j : ℕ). cond (eqb (suc j) count) (add binary64 coupon face) coupon) amounts₀ i amounts
 
 abbrev μ-loop : tie.MeasureT-loop
 μ-loop amounts₀ count coupon face i₀ amounts i = count - i
@@ -38,13 +38,13 @@ loop-less : tie.Need-loop-less Inv-loop μ-loop
 loop-less c = omega arith
 
 loop-again : tie.Need-loop-again Inv-loop μ-loop
-loop-again c = let h = c .before .before .loop in (omega arith, one-more (h .inv .1) (omega arith) _ (c .flow-amount .ensures ∙ rw (add-one (h .i))))
+loop-again c = let h = c .before .before .loop in (omega arith, one-more _ _ _ _ _ (h .inv .1) (omega arith) (c .flow-amount .ensures ∙ rw (add-one (h .i))))
 
 same-length : tie.Need-same-length Inv-loop μ-loop
 same-length c = c .before .loop .inv .1 .kept
 
 returns : tie.Need-returns Inv-loop μ-loop
-returns c = all-put (c .before .loop .inv .1) (omega arith)
+returns c = all-put _ _ _ _ _ (c .before .loop .inv .1) (omega arith)
 
 pub put-amounts-spec : {M : Type 1} → statement M
 put-amounts-spec =

@@ -13,23 +13,23 @@ slice-aggregate-keep-rates c = search needs
 keep-rates-requires : tie.Need-keep-rates-requires
 keep-rates-requires c κs = search needs
 
-slice-aggregate-miss : tie.Need-slice-aggregate-miss
-slice-aggregate-miss c = search needs
+slice-aggregate-error-at : tie.Need-slice-aggregate-error-at
+slice-aggregate-error-at c = search needs
 
-slice-aggregate-miss-2 : tie.Need-slice-aggregate-miss-2
-slice-aggregate-miss-2 c = search needs
+slice-aggregate-error-at-2 : tie.Need-slice-aggregate-error-at-2
+slice-aggregate-error-at-2 c = search needs
 
-miss-requires : tie.Need-miss-requires
-miss-requires c κs = search needs
+error-at-requires : tie.Need-error-at-requires
+error-at-requires c κs = search needs
 
-slice-aggregate-miss-3 : tie.Need-slice-aggregate-miss-3
-slice-aggregate-miss-3 c = search needs
+slice-aggregate-error-at-3 : tie.Need-slice-aggregate-error-at-3
+slice-aggregate-error-at-3 c = search needs
 
-slice-aggregate-miss-4 : tie.Need-slice-aggregate-miss-4
-slice-aggregate-miss-4 c = search needs
+slice-aggregate-error-at-4 : tie.Need-slice-aggregate-error-at-4
+slice-aggregate-error-at-4 c = search needs
 
-miss-requires-2 : tie.Need-miss-requires-2
-miss-requires-2 c κs = search needs
+error-at-requires-2 : tie.Need-error-at-requires-2
+error-at-requires-2 c κs = search needs
 
 nearer-end-requires : tie.Need-nearer-end-requires
 nearer-end-requires c κs = search needs
@@ -40,18 +40,18 @@ returns c =
     let l = h .before .before .before .before in
     let k = l .before .before .before .before in
     let a = k .before .before .before .before .before .before .args in
-    let low = l .miss .ensures _ _ (k .keep-rates .ensures) in
-    let high = h .miss2 .ensures _ _ (k .keep-rates .ensures) in
+    let low = l .error-at .ensures _ _ (k .keep-rates .ensures) in
+    let high = h .error-at2 .ensures _ _ (k .keep-rates .ensures) in
     ap accepted (at-an-end (now (a .times)) (now (a .amounts)) (now (a .tenors)) (now (a .rates)) (a .market) _ _ low high (c .before .if1 .taken) _ (c .nearer-end .ensures))
 
-slice-aggregate-halved : tie.Need-slice-aggregate-halved
-slice-aggregate-halved c = search needs
+slice-aggregate-spread-within : tie.Need-slice-aggregate-spread-within
+slice-aggregate-spread-within c = search needs
 
-slice-aggregate-halved-2 : tie.Need-slice-aggregate-halved-2
-slice-aggregate-halved-2 c = search needs
+slice-aggregate-spread-within-2 : tie.Need-slice-aggregate-spread-within-2
+slice-aggregate-spread-within-2 c = search needs
 
-halved-requires : tie.Need-halved-requires
-halved-requires c κs = search needs
+spread-within-requires : tie.Need-spread-within-requires
+spread-within-requires c κs = search needs
 
 returns-2 : tie.Need-returns-2
 returns-2 c =
@@ -59,9 +59,9 @@ returns-2 c =
     let l = h .before .before .before .before in
     let k = l .before .before .before .before in
     let a = k .before .before .before .before .before .before .args in
-    let low = l .miss .ensures _ _ (k .keep-rates .ensures) in
-    let high = h .miss2 .ensures _ _ (k .keep-rates .ensures) in
-    ap accepted (between-the-ends (now (a .times)) (now (a .amounts)) (now (a .tenors)) (now (a .rates)) (a .market) _ _ low high (c .before .before .before .before .if1 .left) _ (c .before .halved .ensures _ _ (k .keep-rates .ensures) low))
+    let low = l .error-at .ensures _ _ (k .keep-rates .ensures) in
+    let high = h .error-at2 .ensures _ _ (k .keep-rates .ensures) in
+    ap accepted (between-the-ends (now (a .times)) (now (a .amounts)) (now (a .tenors)) (now (a .rates)) (a .market) _ _ low high (c .before .before .before .before .if1 .left) _ (c .before .spread-within .ensures _ _ (k .keep-rates .ensures) low))
 
 pub spread-of-spec : {M : Type 1} → statement M
 spread-of-spec =
@@ -69,15 +69,15 @@ spread-of-spec =
     (tie.spec
     slice-aggregate-keep-rates
     keep-rates-requires
-    slice-aggregate-miss
-    slice-aggregate-miss-2
-    miss-requires
-    slice-aggregate-miss-3
-    slice-aggregate-miss-4
-    miss-requires-2
+    slice-aggregate-error-at
+    slice-aggregate-error-at-2
+    error-at-requires
+    slice-aggregate-error-at-3
+    slice-aggregate-error-at-4
+    error-at-requires-2
     nearer-end-requires
     returns
-    slice-aggregate-halved
-    slice-aggregate-halved-2
-    halved-requires
+    slice-aggregate-spread-within
+    slice-aggregate-spread-within-2
+    spread-within-requires
     returns-2)

@@ -8,7 +8,7 @@ use lib.Ieee.{Float}
 use denote.Ref.{now}
 use Rattle.elementary.specs.Exp.{exp}
 use Rattle.yield_curve.specs.Segments.{knot}
-use Rattle.spread_analytics.proofs.KeptRates.{mapped-at}
+use Rattle.numbers.proofs.Mapped.{mapped-at}
 use borrow.Author.Needs.{needs}
 use native.Mathlib.Omega.{arith}
 use Rattle.spread_analytics.proofs.worth.put_factors.Statement.{statement}

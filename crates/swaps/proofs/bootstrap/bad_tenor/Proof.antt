@@ -1,5 +1,5 @@
 -- `swaps::bootstrap::bad_tenor` meets its contract. Assumes nothing.
-use Rattle.swaps.specs.Bootstrap.{badTenor}
+use Rattle.refusals.specs.Table.{badTenor}
 use Rattle.swaps.proofs.bootstrap.bad_tenor.Statement.{statement}
 use Rattle.swaps.proofs.bootstrap.bad_tenor.Tie as tie
 

@@ -3,8 +3,9 @@ use Prim.Native.Nat.{_<_}
 use native.Mathlib.Omega.{arith}
 use borrow.Author.Tests.{lt-ltb}
 use Rattle.refusals.specs.Outcome.{firstOr, judged}
+use Rattle.refusals.specs.Table.{badCode}
 use Rattle.refusals.proofs.Verdicts.{refused-as}
-use Rattle.swaps.specs.Codes.{dayCountAt, badCode, dayCountOf}
+use Rattle.swaps.specs.Codes.{dayCountAt, dayCountOf}
 use borrow.Author.Needs.{needs}
 use Rattle.swaps.proofs.day_counts.day_count_of.Statement.{statement}
 use Rattle.swaps.proofs.day_counts.day_count_of.Tie as tie

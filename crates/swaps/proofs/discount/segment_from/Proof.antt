@@ -2,7 +2,7 @@
 use Prim.Native.Nat.{_-_}
 use native.Mathlib.Omega.{arith}
 use lib.ListN.{length}
-use Rattle.swaps.specs.Runs.{Beyond}
+use Rattle.swaps.specs.inner.Runs.{Beyond}
 use Rattle.swaps.proofs.Onward.{one-passed, served-here, served-last}
 use Rattle.swaps.proofs.discount.segment_from.Statement.{statement}
 use Rattle.swaps.proofs.discount.segment_from.Tie as tie

@@ -11,7 +11,7 @@ use lib.ListN.{length, length-take, length-drop}
 use lib.Ieee.{Float}
 use Rattle.elementary.proofs.PartWay.{partWay, at-start, at-end, map-same, part-further}
 use Rattle.swaps.specs.Discount.{zeroRateOf}
-use Rattle.swaps.specs.DiscountEach.{zeroOrExponent}
+use Rattle.swaps.specs.inner.DiscountEach.{zeroOrExponent}
 use Rattle.swaps.proofs.discount_each.answer_each.Statement.{statement}
 use Rattle.swaps.proofs.discount_each.answer_each.Tie as tie
 

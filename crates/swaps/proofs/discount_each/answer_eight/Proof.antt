@@ -10,7 +10,7 @@ use lib.Ieee.{Float}
 use Rattle.elementary.proofs.PartWay.{partWay, at-start, one-further, next-of, at-end, map-same}
 use Rattle.yield_curve.specs.Segments.{segmentEnding, flatOutside, endsOf}
 use Rattle.swaps.specs.Discount.{alongZeros, zeroRateOf}
-use Rattle.swaps.specs.DiscountEach.{zeroOrExponent}
+use Rattle.swaps.specs.inner.DiscountEach.{zeroOrExponent}
 use Rattle.yield_curve.proofs.Flat.{ends-are}
 use Rattle.yield_curve.proofs.Halvings.{eight-end}
 use Rattle.yield_curve.proofs.Listing.{lane-rate}

@@ -9,7 +9,7 @@ use lib.ListN.{length, length-set}
 use lib.Ieee.{Float}
 use Rattle.elementary.proofs.PartWay.{partWay, at-start, one-further, next-of, at-end, map-same}
 use Rattle.swaps.specs.Discount.{zeroRateOf}
-use Rattle.swaps.specs.DiscountEach.{zeroOrExponent}
+use Rattle.swaps.specs.inner.DiscountEach.{zeroOrExponent}
 use Rattle.swaps.proofs.DiscountList.{one-answer}
 use Rattle.swaps.proofs.discount_each.answer_one_by_one.Statement.{statement}
 use Rattle.swaps.proofs.discount_each.answer_one_by_one.Tie as tie

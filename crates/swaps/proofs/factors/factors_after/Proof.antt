@@ -8,7 +8,7 @@ use lib.Seq.{length-front, getD-take}
 use lib.Ieee.{Float, nan}
 use Rattle.numbers.specs.Clamps.{plusZero}
 use Rattle.yield_curve.specs.Segments.{knot}
-use Rattle.swaps.specs.Runs.{FactorsAfter}
+use Rattle.swaps.specs.inner.Runs.{FactorsAfter}
 use Rattle.swaps.proofs.Fronts.{counted, is-part}
 use borrow.Author.Needs.{needs}
 use Rattle.swaps.proofs.factors.factors_after.Statement.{statement}

@@ -5,7 +5,7 @@ use native.Mathlib.Omega.{arith}
 use lib.ListN.{length, length-set}
 use borrow.Author.Count.{below-none}
 use Rattle.yield_curve.proofs.Filling.{Holds, placed}
-use Rattle.swaps.specs.Runs.{Beyond, exponentOf, dateAfter}
+use Rattle.swaps.specs.inner.Runs.{Beyond, exponentOf, dateAfter}
 use Rattle.swaps.proofs.Onward.{none-passed}
 use Rattle.swaps.proofs.RunFactors.{next-exponent}
 use borrow.Author.Needs.{needs}

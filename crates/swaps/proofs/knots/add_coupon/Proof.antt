@@ -4,7 +4,7 @@ use native.Mathlib.Omega.{arith}
 use lib.ListN.{length, length-map}
 use lib.Ieee.{Float}
 use Rattle.swaps.specs.Discount.{discountOf}
-use Rattle.swaps.specs.Knots.{withRate, lastAt, sumTo}
+use Rattle.swaps.specs.inner.Knots.{withRate, lastAt, sumTo}
 use Rattle.swaps.proofs.Coupons.{coupon-before, coupon-at-tenor}
 use Rattle.swaps.proofs.TriedCoupons.{one-coupon-more}
 use borrow.Author.Needs.{needs}

@@ -4,11 +4,11 @@ use mathlib.Core.List.{List}
 use Prim.Native.Nat.{_+_, _-_, _≤_}
 use native.Mathlib.Omega.{arith}
 use lib.Ieee.{Float}
+use Rattle.numbers.specs.Literals.{one}
 use Rattle.numbers.specs.Sums.{addedUp}
-use Rattle.elementary.specs.WholePower.{one}
 use Rattle.yield_curve.proofs.Adding.{one-more}
 use Rattle.swaps.specs.Bootstrap.{couponAt}
-use Rattle.swaps.specs.Runs.{FactorsAfter}
+use Rattle.swaps.specs.inner.Runs.{FactorsAfter}
 use Rattle.swaps.proofs.Coupons.{whole-coupon}
 use borrow.Author.Needs.{needs}
 use Rattle.swaps.proofs.knots.add_coupons.Statement.{statement}

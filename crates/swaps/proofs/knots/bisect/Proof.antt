@@ -6,8 +6,8 @@ use Prim.Native.Nat.{ℕ, _*_, _-_, _<_}
 use native.Mathlib.Omega.{arith}
 use lib.ListN.{length}
 use lib.Ieee.{Float}
-use Rattle.swaps.specs.Bootstrap.{lowerEnd, upperEnd, halved}
-use Rattle.swaps.specs.Knots.{errorOf, forkOf}
+use Rattle.swaps.specs.Bootstrap.{lowerEnd, upperEnd, bisected}
+use Rattle.swaps.specs.inner.Knots.{errorOf, forkOf}
 use Rattle.swaps.proofs.Bisecting.{stops, goes-on, all-halved}
 use Rattle.swaps.proofs.Thirds.{ends-are, first-tried, second-tried, third-tried}
 use borrow.Author.Needs.{needs}
@@ -16,7 +16,7 @@ use Rattle.swaps.proofs.knots.bisect.Tie as tie
 
 abbrev Inv-loop : tie.InvT-loop
 Inv-loop tenors earlier knot bracket₀ left₀ bracket left =
-    halved (errorOf tenors earlier knot) 198 (bracket₀ .lo) (bracket₀ .hi) ≡ halved (errorOf tenors earlier knot) (left * 3) (bracket .lo) (bracket .hi)
+    bisected (errorOf tenors earlier knot) 198 (bracket₀ .lo) (bracket₀ .hi) ≡ bisected (errorOf tenors earlier knot) (left * 3) (bracket .lo) (bracket .hi)
 
 abbrev μ-loop : tie.MeasureT-loop
 μ-loop tenors earlier knot bracket₀ left₀ bracket left =
@@ -165,7 +165,7 @@ two-done : (c : tie.After-half-of3 Inv-loop μ-loop)
     let half = quarter .before .before .before .before in
     let head = half .before .before .before .before in
     let l = head .loop in
-    halved (missed head) (l .left * 3) (l .bracket .lo) (l .bracket .hi) ≡ halved (missed head) (l .left * 3 - 1 - 1) (quarter .half-of2 .result .lo) (quarter .half-of2 .result .hi)
+    bisected (missed head) (l .left * 3) (l .bracket .lo) (l .bracket .hi) ≡ bisected (missed head) (l .left * 3 - 1 - 1) (quarter .half-of2 .result .lo) (quarter .half-of2 .result .hi)
 two-done c =
     let passed-2 = c .before .before .before .before in
     let quarter = passed-2 .before .before in
@@ -206,7 +206,7 @@ loop-again c =
     let left = some-left (l .left) (turn .loop-test .taken) in
     l .inv ∙ two-done eighth
     ∙ goes-on (missed (turn .before)) (q .lo) (q .hi) _ _ (three eighth .0) (three eighth .1) (l .left * 3 - 1 - 1) (left .2) (c .if3 .left)
-    ∙ ap (λ (n : ℕ). halved (missed (turn .before)) n (eighth .half-of3 .result .lo) (eighth .half-of3 .result .hi)) (three-fewer (l .left))
+    ∙ ap (λ (n : ℕ). bisected (missed (turn .before)) n (eighth .half-of3 .result .lo) (eighth .half-of3 .result .hi)) (three-fewer (l .left))
 
 middle-requires-4 : tie.Need-middle-requires-4 Inv-loop μ-loop
 middle-requires-4 c κs = search needs

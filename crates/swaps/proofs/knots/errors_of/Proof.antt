@@ -4,7 +4,7 @@ use mathlib.Core.List.{map}
 use Prim.Native.Nat.{_-_, _≤_}
 use native.Mathlib.Omega.{arith}
 use lib.ListN.{length, length-map}
-use Rattle.swaps.specs.Knots.{sumTo}
+use Rattle.swaps.specs.inner.Knots.{sumTo}
 use Rattle.swaps.proofs.TriedCoupons.{settled-sums, errors-are}
 use borrow.Author.Needs.{needs}
 use Rattle.swaps.proofs.knots.errors_of.Statement.{statement}

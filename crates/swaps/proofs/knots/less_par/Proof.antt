@@ -3,7 +3,7 @@ use Prim.Native.Nat.{_-_, _≤_}
 use native.Mathlib.Omega.{arith}
 use mathlib.Core.Path.{refl}
 use lib.Ieee.{Float, binary64, add, sub}
-use Rattle.elementary.specs.WholePower.{one}
+use Rattle.numbers.specs.Literals.{one}
 use Rattle.swaps.proofs.Eights.{MadeTo, none-made, one-made, all-made}
 use Rattle.swaps.proofs.knots.less_par.Statement.{statement}
 use Rattle.swaps.proofs.knots.less_par.Tie as tie

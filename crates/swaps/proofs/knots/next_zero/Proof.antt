@@ -1,6 +1,6 @@
 -- `swaps::knots::next_zero` meets its contract: the errors at the ends decide, and the first two halvings go by errors that were worked out with them. Assumes nothing.
 use mathlib.Core.Path.{refl, sym, _∙_}
-use Rattle.swaps.specs.Knots.{errorOf}
+use Rattle.swaps.specs.inner.Knots.{errorOf}
 use Rattle.swaps.proofs.Bisecting.{low-end-tried, high-end-tried, started, too-low, too-high, not-solved, solved, solved-at}
 use borrow.Author.Needs.{needs}
 use Rattle.swaps.proofs.knots.next_zero.Statement.{statement}

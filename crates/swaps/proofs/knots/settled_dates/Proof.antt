@@ -7,7 +7,7 @@ use lib.Ieee.{le}
 use borrow.Author.Count.{below-more}
 use borrow.Author.Tests.{not-false}
 use Rattle.swaps.specs.Bootstrap.{date}
-use Rattle.swaps.specs.Knots.{SettledTo}
+use Rattle.swaps.specs.inner.Knots.{SettledTo}
 use Rattle.swaps.proofs.Coupons.{settled-here}
 use borrow.Author.Needs.{needs}
 use Rattle.swaps.proofs.knots.settled_dates.Statement.{statement}

@@ -6,7 +6,7 @@ use native.Mathlib.Omega.{arith}
 use lib.Ieee.{Float}
 use Rattle.swaps.specs.Swap.{period}
 use Rattle.swaps.specs.Legs.{fixedPayment}
-use Rattle.swaps.specs.Runs.{FactorsAfter, Summed}
+use Rattle.swaps.specs.inner.Runs.{FactorsAfter, Summed}
 use Rattle.swaps.proofs.PaymentSums.{factor-is, one-payment-more, so-many}
 use borrow.Author.Needs.{needs}
 use Rattle.swaps.proofs.legs.add_payments.Statement.{statement}

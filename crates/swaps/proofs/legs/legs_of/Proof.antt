@@ -1,5 +1,5 @@
 -- `swaps::legs::legs_of` meets its contract: the notional at the tenor is added to the sums. Assumes nothing.
-use Rattle.swaps.specs.Legs.{lastFactor, fixedLeg, floatingLeg, weighted}
+use Rattle.swaps.specs.Legs.{lastFactor, fixedLeg, floatingLeg, weightedSum}
 use borrow.Author.Needs.{needs}
 use Rattle.swaps.proofs.legs.legs_of.Statement.{statement}
 use Rattle.swaps.proofs.legs.legs_of.Tie as tie
@@ -11,7 +11,7 @@ discount-of-requires : tie.Need-discount-of-requires
 discount-of-requires c κs = search needs
 
 returns : tie.Need-returns
-unfolding fixedLeg floatingLeg weighted lastFactor
+unfolding fixedLeg floatingLeg weightedSum lastFactor
 returns c =
     let found = c .before .before .before .before .before .before in
     let last = found .discount-of .ensures in

@@ -3,7 +3,7 @@ use mathlib.Core.Path.{_≡_}
 use Prim.Native.Nat.{_+_, _-_, _≤_}
 use native.Mathlib.Omega.{arith}
 use Rattle.swaps.specs.Swap.{payments}
-use Rattle.swaps.specs.Runs.{Summed}
+use Rattle.swaps.specs.inner.Runs.{Summed}
 use Rattle.swaps.proofs.PaymentSums.{at-start, so-many}
 use borrow.Author.Needs.{needs}
 use Rattle.swaps.proofs.legs.payment_sums.Statement.{statement}

@@ -5,8 +5,8 @@ use lib.ListN.{length, length-map}
 use lib.Ieee.{Float}
 use Rattle.elementary.specs.Exp.{exp}
 use Rattle.swaps.specs.Discount.{zeroRateOf}
-use Rattle.swaps.specs.Knots.{withRate}
-use Rattle.swaps.specs.Runs.{exponentAt}
+use Rattle.swaps.specs.inner.Knots.{withRate}
+use Rattle.swaps.specs.inner.Runs.{exponentAt}
 use Rattle.swaps.proofs.TriedRates.{each-discount}
 use borrow.Author.Needs.{needs}
 use Rattle.swaps.proofs.trials.discounts_with.Statement.{statement}

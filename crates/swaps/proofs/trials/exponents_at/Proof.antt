@@ -2,7 +2,7 @@
 use Prim.Native.Nat.{_-_, _≤_}
 use native.Mathlib.Omega.{arith}
 use lib.Ieee.{Float}
-use Rattle.swaps.specs.Runs.{exponentAt}
+use Rattle.swaps.specs.inner.Runs.{exponentAt}
 use Rattle.swaps.proofs.Eights.{MadeTo, none-made, one-made, all-made, each-alone}
 use borrow.Author.Needs.{needs}
 use Rattle.swaps.proofs.trials.exponents_at.Statement.{statement}

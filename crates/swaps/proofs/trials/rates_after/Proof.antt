@@ -5,7 +5,7 @@ use Prim.Native.Nat.{ℕ}
 use native.Mathlib.Numerals.{add-one}
 use lib.Ieee.{Float}
 use Rattle.yield_curve.specs.Segments.{knot}
-use Rattle.swaps.specs.Knots.{withRate}
+use Rattle.swaps.specs.inner.Knots.{withRate}
 use Rattle.swaps.proofs.TriedRates.{each-past}
 use borrow.Author.Needs.{needs}
 use Rattle.swaps.proofs.trials.rates_after.Statement.{statement}

@@ -3,7 +3,7 @@ use mathlib.Core.Path.{_≡_, sym, ap, _∙_}
 use lib.Ieee.{Float, lt}
 use borrow.Author.Tests.{not-false}
 use borrow.Author.Needs.{needs}
-use Rattle.yield_curve.proofs.Comparing.{clash}
+use Rattle.numbers.proofs.Comparing.{clash}
 use Rattle.yield_curve.proofs.InOrder.{in-order}
 use Rattle.yield_curve.proofs.curve.all_in_order.Statement.{statement}
 use Rattle.yield_curve.proofs.curve.all_in_order.Tie as tie

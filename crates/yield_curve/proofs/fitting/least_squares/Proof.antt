@@ -4,7 +4,7 @@ use Prim.Native.Nat.{_-_, _≤_}
 use native.Mathlib.Omega.{arith}
 use lib.ListN.{length}
 use lib.Ieee.{Float}
-use Rattle.elementary.specs.WholePower.{one}
+use Rattle.numbers.specs.Literals.{one}
 use Rattle.yield_curve.specs.Fit.{slopeAt, humpAt, leastSquares}
 use Rattle.yield_curve.proofs.Points.{upTo, no-point, all-points, one-point-more}
 use Rattle.yield_curve.proofs.fitting.least_squares.Statement.{statement}

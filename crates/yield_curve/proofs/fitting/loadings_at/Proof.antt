@@ -2,16 +2,17 @@
 use mathlib.Core.Path.{_≡_, sym, ap, _∙_}
 use mathlib.Core.Bool.{false}
 use lib.Ieee.{Float, binary64, neg, sub, div, lt}
-use Rattle.elementary.specs.WholePower.{one}
+use Rattle.numbers.specs.Literals.{one}
 use Rattle.elementary.specs.Exp.{exp}
 use Rattle.yield_curve.specs.NelsonSiegel.{soon, scaled, slopeLoading, humpLoading}
-use Rattle.yield_curve.specs.Fit.{decayFitted, slopeAt, humpAt, exponentAt}
+use Rattle.yield_curve.specs.Fit.{decayFitted, slopeAt, humpAt}
+use Rattle.yield_curve.specs.inner.Loadings.{loadingExponent}
 use Rattle.yield_curve.proofs.Choices.{taken, left}
 use Rattle.yield_curve.proofs.fitting.loadings_at.Statement.{statement}
 use Rattle.yield_curve.proofs.fitting.loadings_at.Tie as tie
 
 -- past 1e-10
-past : (t l : Float) → lt t soon ≡ false → l ≡ exp (exponentAt t)
+past : (t l : Float) → lt t soon ≡ false → l ≡ exp (loadingExponent t)
     → (div binary64 (sub binary64 one l) (scaled decayFitted t) ≡ slopeAt t) × (sub binary64 (div binary64 (sub binary64 one l) (scaled decayFitted t)) l ≡ humpAt t)
 unfolding slopeAt humpAt slopeLoading humpLoading
 past t l h e = let d : l ≡ exp (neg (scaled decayFitted t)) = e ∙ ap exp (sym (left _ _ _ h)) in (rw d (left _ _ _ h), rw d (left _ _ _ h))

@@ -10,7 +10,7 @@ use lib.Ieee.{Float}
 use borrow.Author.Needs.{needs}
 use Rattle.elementary.specs.Exp.{exp}
 use Rattle.yield_curve.specs.Segments.{knot}
-use Rattle.yield_curve.proofs.Filling.{mapped-at}
+use Rattle.numbers.proofs.Mapped.{mapped-at}
 use Rattle.yield_curve.proofs.fitting.put_decays.Statement.{statement}
 use Rattle.yield_curve.proofs.fitting.put_decays.Tie as tie
 

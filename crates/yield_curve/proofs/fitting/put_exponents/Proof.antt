@@ -5,13 +5,13 @@ use native.Mathlib.Omega.{arith}
 use borrow.Author.Count.{below-none}
 use lib.ListN.{length, length-set}
 use Rattle.yield_curve.specs.Segments.{knot}
-use Rattle.yield_curve.specs.Fit.{exponentAt}
+use Rattle.yield_curve.specs.inner.Loadings.{loadingExponent}
 use Rattle.yield_curve.proofs.Filling.{Holds, placed}
 use Rattle.yield_curve.proofs.fitting.put_exponents.Statement.{statement}
 use Rattle.yield_curve.proofs.fitting.put_exponents.Tie as tie
 
 abbrev Inv-loop : tie.InvT-loop
-Inv-loop times room₀ i₀ room i = (i ≤ length times) × (length room ≡ length room₀) × Holds room (λ (j : ℕ). exponentAt (knot times j)) i
+Inv-loop times room₀ i₀ room i = (i ≤ length times) × (length room ≡ length room₀) × Holds room (λ (j : ℕ). loadingExponent (knot times j)) i
 
 abbrev μ-loop : tie.MeasureT-loop
 μ-loop times room₀ i₀ room i = length times - i
@@ -44,7 +44,7 @@ loop-again : tie.Need-loop-again Inv-loop μ-loop
 loop-again c =
     let at = c .before .before .before .loop in
     let a = c .before .before .before .before .before .before .args in
-    (omega arith, simp length-set (at .inv .1), placed (at .room) (λ (j : ℕ). exponentAt (knot (a .times .now) j)) (at .i) _ (omega arith) (at .inv .2) (c .exponent-at .ensures))
+    (omega arith, simp length-set (at .inv .1), placed (at .room) (λ (j : ℕ). loadingExponent (knot (a .times .now) j)) (at .i) _ (omega arith) (at .inv .2) (c .exponent-at .ensures))
 
 same-length : tie.Need-same-length Inv-loop μ-loop
 same-length c = c .before .loop .inv .1

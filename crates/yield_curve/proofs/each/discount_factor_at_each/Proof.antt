@@ -1,4 +1,4 @@
--- `yield_curve::each::discount_factors_at_each` meets its contract: the verdict decides whether the times give way to their discount factors. Assumes nothing.
+-- `yield_curve::each::discount_factor_at_each` meets its contract: the verdict decides whether the times give way to their discount factors. Assumes nothing.
 use mathlib.Core.Path.{_≡_, sym, ap, _∙_}
 use mathlib.Core.Bool.{true}
 use mathlib.Core.List.{List, map}
@@ -9,8 +9,8 @@ use Rattle.elementary.specs.Exp.{exp}
 use Rattle.yield_curve.specs.Linear.{yieldOf, discountOf}
 use Rattle.yield_curve.specs.Lists.{rateOrExponent}
 use Rattle.yield_curve.proofs.Listing.{some-knots, in-rising-order, all-accepted, after-accepted, after-refused, map-twice}
-use Rattle.yield_curve.proofs.each.discount_factors_at_each.Statement.{statement}
-use Rattle.yield_curve.proofs.each.discount_factors_at_each.Tie as tie
+use Rattle.yield_curve.proofs.each.discount_factor_at_each.Statement.{statement}
+use Rattle.yield_curve.proofs.each.discount_factor_at_each.Tie as tie
 
 judge-each-requires : tie.Need-judge-each-requires
 judge-each-requires c κs = search needs
@@ -64,8 +64,8 @@ returns-2 c =
           (done .exp-each .ensures ∙ ap (map exp) (answered .answer-each .ensures) ∙ factors (a .times .now) (a .rates .now) (a .asked .now)),
     )
 
-pub discount-factors-at-each-spec : {M : Type 1} → statement M
-discount-factors-at-each-spec =
+pub discount-factor-at-each-spec : {M : Type 1} → statement M
+discount-factor-at-each-spec =
     tie.close
     (tie.spec
     judge-each-requires

@@ -5,5 +5,5 @@ use lib.Ieee.{Float}
 use Rattle.bond.specs.declared.Bond.{Bond}
 use Rattle.bond.specs.Durations.{weightedTime, weightedSquare}
 
-abbrev pub weighted : Bond → Float → Bool → ℕ → Float
-weighted b r squares t = cond squares (weightedSquare b r t) (weightedTime b r t)
+abbrev pub weightedBy : Bond → Float → Bool → ℕ → Float
+weightedBy b r squares t = cond squares (weightedSquare b r t) (weightedTime b r t)

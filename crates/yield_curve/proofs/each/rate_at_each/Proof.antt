@@ -1,11 +1,11 @@
--- `yield_curve::each::rates_at_each` meets its contract: the verdict decides whether the times give way to their yields. Assumes nothing.
+-- `yield_curve::each::rate_at_each` meets its contract: the verdict decides whether the times give way to their yields. Assumes nothing.
 use mathlib.Core.Path.{_≡_, sym, ap, _∙_}
 use borrow.Author.Needs.{needs}
 use Rattle.refusals.specs.Answers.{verdictOutcome}
 use Rattle.yield_curve.specs.Linear.{yieldOf}
 use Rattle.yield_curve.proofs.Listing.{some-knots, in-rising-order, all-accepted, after-accepted, after-refused, rates-themselves}
-use Rattle.yield_curve.proofs.each.rates_at_each.Statement.{statement}
-use Rattle.yield_curve.proofs.each.rates_at_each.Tie as tie
+use Rattle.yield_curve.proofs.each.rate_at_each.Statement.{statement}
+use Rattle.yield_curve.proofs.each.rate_at_each.Tie as tie
 
 judge-each-requires : tie.Need-judge-each-requires
 judge-each-requires c κs = search needs
@@ -50,8 +50,8 @@ returns-2 c =
       after-accepted f (a .times .now) (a .rates .now) (a .asked .now) _ (judge .judge-each .ensures) is _ (c .before .before .answer-each .ensures ∙ rates-themselves f (a .asked .now)),
     )
 
-pub rates-at-each-spec : {M : Type 1} → statement M
-rates-at-each-spec =
+pub rate-at-each-spec : {M : Type 1} → statement M
+rate-at-each-spec =
     tie.close
     (tie.spec
     judge-each-requires

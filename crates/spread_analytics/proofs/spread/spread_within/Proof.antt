@@ -1,4 +1,4 @@
--- `spread_analytics::spread::halved` meets its contract: what the search is still to give is what it gives from the ends in hand, whose lower error is kept. Assumes nothing.
+-- `spread_analytics::spread::spread_within` meets its contract: what the search is still to give is what it gives from the ends in hand, whose lower error is kept. Assumes nothing.
 use mathlib.Core.Path.{_≡_, refl, sym, _∙_}
 use mathlib.Core.List.{List}
 use mathlib.Core.Logic.{⊎-elim}
@@ -6,22 +6,23 @@ use Prim.Native.Nat.{ℕ}
 use lib.ListN.{length}
 use lib.Ieee.{Float}
 use denote.Ref.{now}
+use Rattle.numbers.specs.Literals.{twoThousand, minusFiveHundred}
 use Rattle.yield_curve.specs.Segments.{knot}
 use Rattle.spread_analytics.specs.Curves.{rateOf}
-use Rattle.spread_analytics.specs.Spread.{lowest, highest, miss, halved}
+use Rattle.spread_analytics.specs.Spread.{errorAt, spreadWithin}
 use Rattle.yield_curve.proofs.Filling.{Holds}
 use Rattle.spread_analytics.proofs.Halvings.{no-turn, close, lower-half, upper-half}
 use native.Mathlib.Omega.{arith}
-use Rattle.spread_analytics.proofs.spread.halved.Statement.{statement}
-use Rattle.spread_analytics.proofs.spread.halved.Tie as tie
+use Rattle.spread_analytics.proofs.spread.spread_within.Statement.{statement}
+use Rattle.spread_analytics.proofs.spread.spread_within.Tie as tie
 
 abbrev Inv-loop : tie.InvT-loop
 Inv-loop times amounts kept room₀ market low lo₀ hi₀ below₀ left₀ room lo hi below left =
     (length room ≡ length room₀)
     × ((tenors rates : List Float) → Holds kept (λ (j : ℕ). rateOf tenors rates (knot times j)) (length times)
-    → low ≡ miss times amounts tenors rates market lowest
-    → (below ≡ miss times amounts tenors rates market lo)
-    × (halved times amounts tenors rates market 100 lowest highest ≡ halved times amounts tenors rates market left lo hi))
+    → low ≡ errorAt times amounts tenors rates market minusFiveHundred
+    → (below ≡ errorAt times amounts tenors rates market lo)
+    × (spreadWithin times amounts tenors rates market 100 minusFiveHundred twoThousand ≡ spreadWithin times amounts tenors rates market left lo hi))
 
 abbrev μ-loop : tie.MeasureT-loop
 μ-loop times amounts kept room₀ market low lo₀ hi₀ below₀ left₀ room lo hi below left = left
@@ -44,8 +45,8 @@ returns c =
     close (now (a .times)) (now (a .amounts)) tenors rates (a .market) (h .loop .lo) (h .loop .hi) (h .loop .left) (t .loop-test .taken) _ (c .before .absolute-value .ensures) (c .if1 .taken)
     ∙ sym (h .loop .inv .1 tenors rates k l .1)
 
-miss-requires : tie.Need-miss-requires Inv-loop μ-loop
-miss-requires c κs = let s = c .before .before .before .before .before .before .before .before .before in (s .pre .0, s .pre .1, omega arith)
+error-at-requires : tie.Need-error-at-requires Inv-loop μ-loop
+error-at-requires c κs = let s = c .before .before .before .before .before .before .before .before .before in (s .pre .0, s .pre .1, omega arith)
 
 sub-left : tie.Need-sub-left Inv-loop μ-loop
 sub-left c = omega arith
@@ -59,10 +60,10 @@ loop-again c =
     let v = m .before .before .before in
     let h = v .before .before in
     let a = h .before .before .before .before .before .args in (
-      m .miss .kept .1 .1 .1 .0 ∙ h .loop .inv .0,
+      m .error-at .kept .1 .1 .1 .0 ∙ h .loop .inv .0,
       λ tenors rates k l.
           let i = h .loop .inv .1 tenors rates k l in
-          let error = m .miss .ensures tenors rates k in
+          let error = m .error-at .ensures tenors rates k in
           ⊎-elim
           (λ u. lower-half (now (a .times)) (now (a .amounts)) tenors rates (a .market) (h .loop .lo) (h .loop .hi) (h .loop .left) (v .before .loop-test .taken) _ (v .absolute-value .ensures)
           (m .before .before .if1 .left) (h .loop .below) _ (i .0) error _ (c .if2 .lo) (c .if2 .hi) (c .if2 .below) (i .1) (u .0 .taken) (u .1) (u .2) (u .3))
@@ -81,8 +82,8 @@ returns-2 c =
     λ tenors rates k l.
     no-turn (now (a .times)) (now (a .amounts)) tenors rates (a .market) (h .loop .lo) (h .loop .hi) (h .loop .left) (omega arith) ∙ sym (h .loop .inv .1 tenors rates k l .1)
 
-pub halved-spec : {M : Type 1} → statement M
-halved-spec =
+pub spread-within-spec : {M : Type 1} → statement M
+spread-within-spec =
     tie.close
     (tie.spec
     Inv-loop
@@ -91,7 +92,7 @@ halved-spec =
     absolute-value-requires
     same-length
     returns
-    miss-requires
+    error-at-requires
     sub-left
     loop-less
     loop-again

@@ -14,7 +14,7 @@ use Rattle.swaps.specs.declared.Swap.{Swap}
 use Rattle.swaps.specs.declared.legs.PaymentSums.{PaymentSums}
 use Rattle.swaps.specs.Discount.{zeroRateOf, discountOf}
 use Rattle.swaps.specs.Legs.{factorAt, floatingPayment}
-use Rattle.swaps.specs.LegSums.{fixedTerm, annuityTerm, timedTerm}
+use Rattle.swaps.specs.inner.LegSums.{fixedTerm, annuityTerm, timedTerm}
 
 -- a time is beyond the first i segments
 abbrev pub Beyond : List Float → Float → ℕ → Type 0

@@ -7,11 +7,11 @@ use mathlib.Core.List.{List, [], _∷_, _++_, map}
 use Prim.Native.Nat.{ℕ, suc, _<_, _≤_}
 use lib.IntN.{pos}
 use lib.ListN.{length}
-use lib.Ieee.{Float, binary64, add, mul, lt, le, ofInt}
+use lib.Ieee.{Float, binary64, lt, le, ofInt}
 use Rattle.numbers.specs.Sums.{addedUp}
 use Rattle.swaps.specs.declared.knots.Knot.{Knot}
 use Rattle.swaps.specs.Discount.{discountOf}
-use Rattle.swaps.specs.Bootstrap.{half, dates, date, couponAt, parError}
+use Rattle.swaps.specs.Bootstrap.{dates, date, couponAt, parError, middle}
 
 -- the zero rates before a knot, and the rate that is tried for it
 abbrev pub withRate : List Float → Float → List Float
@@ -48,12 +48,9 @@ abbrev pub EachOf : (Float → Float → Float) → List Float → List Float �
 EachOf made firsts seconds r =
     (xs : List Float) (f g : Float → Float) → length xs ≡ 8 → firsts ≡ map f xs → seconds ≡ map g xs → r ≡ map (λ (x : Float). made (f x) (g x)) xs
 
-abbrev pub midway : Float → Float → Float
-midway lo hi = mul binary64 half (add binary64 lo hi)
-
 -- what three halvings of a bracket may try: its middle, those of its halves and of its quarters; the middle again makes them eight
 abbrev pub triedWithin : Float → Float → Float → Float → Float → List Float
-triedWithin lo a m b hi = m ∷ a ∷ b ∷ midway lo a ∷ midway a m ∷ midway m b ∷ midway b hi ∷ m ∷ []
+triedWithin lo a m b hi = m ∷ a ∷ b ∷ middle lo a ∷ middle a m ∷ middle m b ∷ middle b hi ∷ m ∷ []
 
 abbrev pub forkOf : Float → Float → List Float
-forkOf lo hi = triedWithin lo (midway lo (midway lo hi)) (midway lo hi) (midway (midway lo hi) hi) hi
+forkOf lo hi = triedWithin lo (middle lo (middle lo hi)) (middle lo hi) (middle (middle lo hi) hi) hi
