@@ -54,11 +54,11 @@
 
 /* The version of the header and of the library beside it. */
 #define SENYOLANDA_VERSION_MAJOR 0
-#define SENYOLANDA_VERSION_MINOR 2
+#define SENYOLANDA_VERSION_MINOR 3
 #define SENYOLANDA_VERSION_PATCH 0
 
 /* The same as a string, "major.minor.patch", and as a number that rises with it, for a program to compare:
-   #if SENYOLANDA_VERSION_NUMBER >= SENYOLANDA_VERSION_OF(0, 2, 0) */
+   #if SENYOLANDA_VERSION_NUMBER >= SENYOLANDA_VERSION_OF(0, 3, 0) */
 #define SENYOLANDA_VERSION SENYOLANDA_DOTTED(SENYOLANDA_VERSION_MAJOR, SENYOLANDA_VERSION_MINOR, SENYOLANDA_VERSION_PATCH)
 #define SENYOLANDA_VERSION_NUMBER \
     SENYOLANDA_VERSION_OF(SENYOLANDA_VERSION_MAJOR, SENYOLANDA_VERSION_MINOR, SENYOLANDA_VERSION_PATCH)
@@ -97,6 +97,10 @@ extern "C" {
 /* Places of a row in a draw's room, and of a month in a pool's. */
 #define SENYOLANDA_ROW_PLACES 5
 #define SENYOLANDA_POOL_MONTH_PLACES 3
+
+/* Numbers of a loan in hand: counts, its term and the months done, and amounts, its rate, payment and balance. */
+#define SENYOLANDA_LOAN_COUNTS 2
+#define SENYOLANDA_LOAN_AMOUNTS 3
 
 /* The most months of a loan, loans of a pool and of a book, knots of a curve, and flows or periods. */
 #define SENYOLANDA_MOST_MONTHS 1200
@@ -274,31 +278,34 @@ senyolanda_result senyolanda_write_swap(
 senyolanda_result senyolanda_monthly_payment(
     const uint8_t *record, size_t length, double *SENYOLANDA_RESTRICT payment) SENYOLANDA_CHECKED;
 
-/* Opens a loan with the worked-out payment, as five numbers: no month is done and the balance is the principal. In C,
-   senyolanda_loan_open keeps them together. Refuses 1, 2, 11. */
+/* Opens a loan with the worked-out payment: no month is done and the balance is the principal. The counts are its term and the
+   months done, the amounts its rate, payment and balance. In C, senyolanda_loan_open keeps them together, by name.
+   Refuses 1, 2, 11. */
 senyolanda_result senyolanda_open(
     const uint8_t *record, size_t length,
-    uint32_t *SENYOLANDA_RESTRICT term, double *SENYOLANDA_RESTRICT rate, double *SENYOLANDA_RESTRICT payment,
-    uint32_t *SENYOLANDA_RESTRICT done, double *SENYOLANDA_RESTRICT balance) SENYOLANDA_CHECKED;
+    uint32_t counts[SENYOLANDA_FILLED SENYOLANDA_LOAN_COUNTS],
+    double amounts[SENYOLANDA_FILLED SENYOLANDA_LOAN_AMOUNTS]) SENYOLANDA_CHECKED;
 
 /* Opens a loan with a given payment, whatever it is: the last month repays the rest. Refuses 1, 2, 11. */
 senyolanda_result senyolanda_open_with_payment(
     const uint8_t *record, size_t length, double given,
-    uint32_t *SENYOLANDA_RESTRICT term, double *SENYOLANDA_RESTRICT rate, double *SENYOLANDA_RESTRICT payment,
-    uint32_t *SENYOLANDA_RESTRICT done, double *SENYOLANDA_RESTRICT balance) SENYOLANDA_CHECKED;
+    uint32_t counts[SENYOLANDA_FILLED SENYOLANDA_LOAN_COUNTS],
+    double amounts[SENYOLANDA_FILLED SENYOLANDA_LOAN_AMOUNTS]) SENYOLANDA_CHECKED;
 
-/* Writes as many rows as the room holds and the loan owes, and moves done and balance on; places behind the rows stay. A row is
-   five numbers: month (from 1), payment, principal, interest, balance after. The payment is the loan's own, also where less is
-   owed, and in the last month principal plus interest; interest that it does not cover is not added to the balance. written and
-   owed count rows. A finished loan writes 0 and owes 0, whatever the room. Refuses 2, 3, 10. */
+/* Writes as many rows as the room holds and the loan owes, and moves its months done and its balance on; places behind the rows
+   stay. A row is five numbers: month (from 1), payment, principal, interest, balance after. The payment is the loan's own, also
+   where less is owed, and in the last month principal plus interest; interest that it does not cover is not added to the balance.
+   written and owed count rows. A finished loan writes 0 and owes 0, whatever the room. Refuses 2, 3, 10. */
 senyolanda_result senyolanda_draw(
-    uint32_t term, double rate, double payment, uint32_t *SENYOLANDA_RESTRICT done, double *SENYOLANDA_RESTRICT balance,
+    uint32_t counts[SENYOLANDA_FILLED SENYOLANDA_LOAN_COUNTS],
+    double amounts[SENYOLANDA_FILLED SENYOLANDA_LOAN_AMOUNTS],
     double *SENYOLANDA_RESTRICT room, size_t places,
     uint32_t *SENYOLANDA_RESTRICT written, uint32_t *SENYOLANDA_RESTRICT owed) SENYOLANDA_CHECKED;
 
 /* The next row alone, as a row's record: written is 1. A finished loan writes 0, owes 0 and leaves the record. Refuses 2, 10. */
 senyolanda_result senyolanda_next_row(
-    uint32_t term, double rate, double payment, uint32_t *SENYOLANDA_RESTRICT done, double *SENYOLANDA_RESTRICT balance,
+    uint32_t counts[SENYOLANDA_FILLED SENYOLANDA_LOAN_COUNTS],
+    double amounts[SENYOLANDA_FILLED SENYOLANDA_LOAN_AMOUNTS],
     uint8_t record[SENYOLANDA_FILLED SENYOLANDA_ROW_BYTES],
     uint32_t *SENYOLANDA_RESTRICT written, uint32_t *SENYOLANDA_RESTRICT owed) SENYOLANDA_CHECKED;
 
@@ -356,33 +363,71 @@ struct senyolanda_loan {
     double balance;    /* after the months done */
 };
 
+/* The loan's counts and amounts, as the functions above take them, out of the struct and into it. */
+static inline void senyolanda_loan_taken_apart(
+    const struct senyolanda_loan *loan, uint32_t counts[SENYOLANDA_FILLED SENYOLANDA_LOAN_COUNTS],
+    double amounts[SENYOLANDA_FILLED SENYOLANDA_LOAN_AMOUNTS]) {
+    counts[0] = loan->term;
+    counts[1] = loan->done;
+    amounts[0] = loan->rate;
+    amounts[1] = loan->payment;
+    amounts[2] = loan->balance;
+}
+
+static inline void senyolanda_loan_put_together(
+    struct senyolanda_loan *SENYOLANDA_RESTRICT loan, const uint32_t counts[SENYOLANDA_READ SENYOLANDA_LOAN_COUNTS],
+    const double amounts[SENYOLANDA_READ SENYOLANDA_LOAN_AMOUNTS]) {
+    loan->term = counts[0];
+    loan->done = counts[1];
+    loan->rate = amounts[0];
+    loan->payment = amounts[1];
+    loan->balance = amounts[2];
+}
+
 /* Opens a loan with the worked-out payment. A refusal leaves the loan as it was, here and below. Refuses 1, 2, 11. */
 static inline SENYOLANDA_CHECKED senyolanda_result senyolanda_loan_open(
     const uint8_t *record, size_t length, struct senyolanda_loan *SENYOLANDA_RESTRICT loan) {
-    return senyolanda_open(record, length, &loan->term, &loan->rate, &loan->payment, &loan->done, &loan->balance);
+    uint32_t counts[SENYOLANDA_LOAN_COUNTS];
+    double amounts[SENYOLANDA_LOAN_AMOUNTS];
+    senyolanda_result result = senyolanda_open(record, length, counts, amounts);
+    if (result == 0) senyolanda_loan_put_together(loan, counts, amounts);
+    return result;
 }
 
 /* Opens a loan with a given payment. Refuses 1, 2, 11. */
 static inline SENYOLANDA_CHECKED senyolanda_result senyolanda_loan_open_with_payment(
     const uint8_t *record, size_t length, double given, struct senyolanda_loan *SENYOLANDA_RESTRICT loan) {
-    return senyolanda_open_with_payment(
-        record, length, given, &loan->term, &loan->rate, &loan->payment, &loan->done, &loan->balance);
+    uint32_t counts[SENYOLANDA_LOAN_COUNTS];
+    double amounts[SENYOLANDA_LOAN_AMOUNTS];
+    senyolanda_result result = senyolanda_open_with_payment(record, length, given, counts, amounts);
+    if (result == 0) senyolanda_loan_put_together(loan, counts, amounts);
+    return result;
 }
 
 /* The next rows, as many as the room holds and the loan owes; the loan moves on past them. Refuses 2, 3, 10. */
 static inline SENYOLANDA_CHECKED senyolanda_result senyolanda_loan_draw(
     struct senyolanda_loan *SENYOLANDA_RESTRICT loan, double *SENYOLANDA_RESTRICT room, size_t places,
     uint32_t *SENYOLANDA_RESTRICT written, uint32_t *SENYOLANDA_RESTRICT owed) {
-    return senyolanda_draw(
-        loan->term, loan->rate, loan->payment, &loan->done, &loan->balance, room, places, written, owed);
+    uint32_t counts[SENYOLANDA_LOAN_COUNTS];
+    double amounts[SENYOLANDA_LOAN_AMOUNTS];
+    senyolanda_result result;
+    senyolanda_loan_taken_apart(loan, counts, amounts);
+    result = senyolanda_draw(counts, amounts, room, places, written, owed);
+    if (result == 0) senyolanda_loan_put_together(loan, counts, amounts);
+    return result;
 }
 
 /* The next row alone, as a row's record. Refuses 2, 10. */
 static inline SENYOLANDA_CHECKED senyolanda_result senyolanda_loan_next_row(
     struct senyolanda_loan *SENYOLANDA_RESTRICT loan, uint8_t record[SENYOLANDA_FILLED SENYOLANDA_ROW_BYTES],
     uint32_t *SENYOLANDA_RESTRICT written, uint32_t *SENYOLANDA_RESTRICT owed) {
-    return senyolanda_next_row(
-        loan->term, loan->rate, loan->payment, &loan->done, &loan->balance, record, written, owed);
+    uint32_t counts[SENYOLANDA_LOAN_COUNTS];
+    double amounts[SENYOLANDA_LOAN_AMOUNTS];
+    senyolanda_result result;
+    senyolanda_loan_taken_apart(loan, counts, amounts);
+    result = senyolanda_next_row(counts, amounts, record, written, owed);
+    if (result == 0) senyolanda_loan_put_together(loan, counts, amounts);
+    return result;
 }
 
 /* A row of a schedule. */

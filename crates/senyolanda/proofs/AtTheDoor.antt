@@ -2,7 +2,7 @@
 -- among them, each handed what the one before handed back: once nothing is due, what was filed is the loan's rows by the row rule, and repays it. Assumes nothing.
 use mathlib.Core.Path.{_≡_, refl, sym, ap, _∙_, subst}
 use mathlib.Core.Bool.{Bool, true, false, cond, _||_}
-use mathlib.Core.List.{List, [], _∷_, _++_}
+use mathlib.Core.List.{List, [], _∷_}
 use Prim.Native.Nat.{ℕ, _+_, _*_, _^_, _<_, _≤_}
 use native.Mathlib.Omega.{arith}
 use lib.Dec.{T, eqb, ltb}
@@ -23,25 +23,27 @@ use Rattle.records.specs.Bytes.{floatAt}
 use Rattle.records.specs.Kinds.{termsKind, termsSize, termsIn, readTerms, rowBytes, rowIn, readRow}
 use Rattle.records.proofs.Exactly.{read-terms-exactly}
 use Rattle.records.proofs.RoundTrip.{row-again}
+use Rattle.steps.proofs.Calls.{stays, one-step, filed-to-the-end}
 use Rattle.mortgage.specs.declared.Loan.{Loan}
 use Rattle.mortgage.specs.declared.draws.Portion.{Portion}
 use Rattle.mortgage.specs.Terms.{termsLines}
-use Rattle.mortgage.specs.Payment.{payment, opened, openedWith}
+use Rattle.mortgage.specs.Payment.{monthlyRate, payment, opened, openedWith}
 use Rattle.mortgage.specs.Row.{width, places}
-use Rattle.mortgage.specs.RowRule.{endMonth, due, rowOf, nextOf}
+use Rattle.mortgage.specs.Month.{endMonth, due, last, rowOf, nextOf}
 use Rattle.mortgage.specs.Rows.{after, rows, NextRow, finished, next, stateLines, nextRow}
 use Rattle.mortgage.specs.Draws.{drawLines, drawn, filled}
-use Rattle.mortgage.specs.Demand3.{Repaid, rowsIn, handedBack, wrote}
+use Rattle.mortgage.specs.Demand3.{rowsIn, handedBack, wrote}
 use Rattle.mortgage.proofs.Exactly.{opening-with-payment-refused-exactly, draw-refused-exactly, next-row-refused-exactly}
-use Rattle.mortgage.proofs.RowLaws.{rate-after, payment-after}
+use Rattle.mortgage.proofs.RowLaws.{payment-after, term-after, due-after}
 use Rattle.mortgage.proofs.RowFits.{payment-held, interest-held, principal-held, payment-column-held, balance-column-held, balance-after-held}
-use Rattle.mortgage.proofs.DrawLaws.{hands-on}
-use Rattle.mortgage.proofs.Sequences.{Moves, stays, onward, moved-to-the-end, draw-moves, next-row-moves, term-after}
+use Rattle.mortgage.proofs.DrawCases.{rowPlaces}
+use Rattle.mortgage.proofs.Sequences.{Moves, draw-moves}
 use Rattle.mortgage.proofs.Demand3.{as-opened}
 use Rattle.senyolanda.specs.Told.{refusalResult, told}
-use Rattle.senyolanda.specs.Loans.{loanOf, loanNumbers, portionNumbers, nextNumbers}
+use Rattle.senyolanda.specs.Loans.{loanNumbers, portionNumbers, nextNumbers}
 use Rattle.senyolanda.specs.Calls.{Kept, inHand, openAnswer, openWithAnswer, drawAnswer, nextAnswer, Call, draw, next-row, rowsSaid, files, keptAfter, filed, kept, RepaysOnceOpen}
-use Rattle.senyolanda.proofs.ResultSays.{never-0, sayable, says-numbers}
+use Rattle.refusals.proofs.NumbersWithin.{between, within}
+use Rattle.senyolanda.proofs.ResultSays.{never-0}
 use Rattle.senyolanda.proofs.loans.senyolanda_open.Kinds as open-kinds
 use Rattle.senyolanda.proofs.loans.senyolanda_open.Reads as open-reads
 use Rattle.senyolanda.proofs.loans.senyolanda_open_with_payment.Kinds as open-with-kinds
@@ -56,17 +58,19 @@ none-said : (k p written : ℕ) → 0 < k → rowsSaid (refusalResult k p) writt
 none-said k p written h = rw (ne-eqb (refusalResult k p) 0 (never-0 k p h))
 
 refused-draw-number : (l : Loan) (room : List Float) (k p : ℕ) → drawn l room ≡ refused k p → 0 < k
-unfolding sayable
-refused-draw-number l room k p e = says-numbers (drawLines l (length room)) k p tt (draw-refused-exactly l room k p .0 e .applies) .0
+unfolding between
+refused-draw-number l room k p e = within 0 0x1_0000_0000 (drawLines l (length room)) k p tt (draw-refused-exactly l room k p .0 e .applies) .0
 
 refused-next-number : (l : Loan) (k p : ℕ) → nextRow l ≡ refused k p → 0 < k
-unfolding sayable
-refused-next-number l k p e = says-numbers (stateLines l) k p tt (next-row-refused-exactly l k p .0 e .applies) .0
+unfolding between
+refused-next-number l k p e = within 0 0x1_0000_0000 (stateLines l) k p tt (next-row-refused-exactly l k p .0 e .applies) .0
 
 -- ---- one call
--- a loan in hand is its five numbers
-rebuilt : (m : Loan) (term : ℕ) (rate payment : Float) → m .term ≡ term → m .rate ≡ rate → m .payment ≡ payment → loanOf term rate payment (m .done) (m .balance) ≡ m
-rebuilt m term rate payment e f g = rw (sym e, sym f, sym g)
+-- what every call leaves true of a loan in hand: its term is good, and its payment and balance are binary64 numbers
+record Held (l : Loan) : Type 0 where
+  good : badTerm (l .term) ≡ false
+  pays : T (fits binary64 (l .payment))
+  owes : T (fits binary64 (l .balance))
 
 -- what is due is no further than the term, so a u32 holds its month
 month-held : (l : Loan) → badTerm (l .term) ≡ false → 0 < due l → l .done + 1 < 2 ^ 32
@@ -79,78 +83,85 @@ month-held l good h = let n : l .term ≤ 1200 = at-most (eqb (l .term) 0) (ltb 
     at-most true many f e = absurd (subst T e tt)
 
 -- a row's record holds the row
-row-in-record : (l : Loan) → badTerm (l .term) ≡ false → T (fits binary64 (l .payment)) → T (fits binary64 (l .balance)) → 0 < due l → rowIn (rowBytes (rowOf l)) ≡ rowOf l
+row-in-record : (l : Loan) → Held l → 0 < due l → rowIn (rowBytes (rowOf l)) ≡ rowOf l
 unfolding readRow rowOf
-row-in-record l good pays owes h =
+row-in-record l held h =
+    let pays = held .pays in
+    let owes = held .owes in
+    let r = monthlyRate (l .rate) in
+    let pay = l .payment in
+    let b = l .balance in
     sym
     (accepted-value _ (rowIn (rowBytes (rowOf l))) (rowOf l)
-    (row-again (rowOf l) (month-held l good h) (payment-column-held l pays owes) (principal-held l pays owes) (interest-held l pays owes) (balance-column-held l pays owes)))
+    (row-again (rowOf l) (month-held l (held .good) h) (payment-column-held (last l) pay r b pays owes) (principal-held (last l) pay r b pays owes) (interest-held (last l) pay r b pays owes) (balance-column-held (last l) pay r b pays owes)))
 
 module _ (k : Kept) (written owed : ℕ) where
   abbrev l : Loan
   l = inHand k
+
+  abbrev ToldDrawn : Outcome Portion → ℕ × (List ℕ × List Float × ℕ × ℕ)
+  ToldDrawn o = told portionNumbers o (k .0, k .1, written, owed)
 
   draw-files : (room : List Float) → files k (draw room written owed) ≡ wrote l room
   unfolding files wrote told
   draw-files room = go (drawn l room) refl
     where
       go : (o : Outcome Portion) → drawn l room ≡ o
-          → take (rowsSaid (told portionNumbers o (k .3, k .4, written, owed) .0) (told portionNumbers o (k .3, k .4, written, owed) .1 .2) * width) (filled l room) ≡ take (rowsIn o * width) (filled l room)
+          → take (rowsSaid (ToldDrawn o .0) (ToldDrawn o .1 .2) * width) (filled l room) ≡ take (rowsIn o * width) (filled l room)
       go (refused j p) e = rw (none-said j p written (refused-draw-number l room j p e))
       go (accepted d) e = refl
 
   draw-keeps : (room : List Float) → inHand (keptAfter k (draw room written owed)) ≡ handedBack (drawn l room) l
   unfolding keptAfter told
-  draw-keeps room = go (drawn l room) refl
+  draw-keeps room = go (drawn l room)
     where
-      go : (o : Outcome Portion) → drawn l room ≡ o
-          → loanOf (k .0) (k .1) (k .2) (told portionNumbers o (k .3, k .4, written, owed) .1 .0) (told portionNumbers o (k .3, k .4, written, owed) .1 .1) ≡ handedBack o l
-      go (refused j p) e = refl
-      go (accepted d) e =
-          let on : d .loan ≡ after (d .written) l = hands-on l room d e in
-          rebuilt (d .loan) (k .0) (k .1) (k .2) (ap (λ (m : Loan). m .term) on ∙ term-after (d .written) l) (ap (λ (m : Loan). m .rate) on ∙ rate-after (d .written) l)
-          (ap (λ (m : Loan). m .payment) on ∙ payment-after (d .written) l)
+      go : (o : Outcome Portion) → inHand (ToldDrawn o .1 .0, ToldDrawn o .1 .1) ≡ handedBack o l
+      go (refused j p) = refl
+      go (accepted d) = refl
 
   a-draw : (room : List Float) → Moves l (files k (draw room written owed)) (inHand (keptAfter k (draw room written owed)))
   a-draw room = rw (draw-files room, draw-keeps room) (draw-moves l room)
 
-  module _ (bytes : List ℕ) (good : badTerm (k .0) ≡ false) (pays : T (fits binary64 (k .2))) (owes : T (fits binary64 (k .4))) where
-    abbrev Told : Outcome NextRow → ℕ × (ℕ × Float × List ℕ × ℕ × ℕ)
-    Told o = told (nextNumbers l bytes) o (k .3, k .4, bytes, written, owed)
+  module _ (bytes : List ℕ) (held : Held l) where
+    abbrev ToldNext : Outcome NextRow → ℕ × (List ℕ × List Float × List ℕ × ℕ × ℕ)
+    ToldNext o = told (nextNumbers (k .0) (k .1) bytes) o (k .0, k .1, bytes, written, owed)
 
     a-next-row : Moves l (files k (next-row bytes written owed)) (inHand (keptAfter k (next-row bytes written owed)))
     unfolding files keptAfter told nextRow nextOf
     a-next-row = go (nextRow l) refl
       where
         last-one : (row : Row) (m : Loan) (none : Bool) → (none ≡ false → 0 < due l) → next row m ≡ cond none finished (next (rowOf l) (nextOf l))
-            → Moves l (take (1 * width) (places (rowIn (rowBytes row)))) (loanOf (k .0) (k .1) (k .2) (m .done) (m .balance))
+            → Moves l (take (1 * width) (places (rowIn (rowBytes row)))) m
         last-one row m true f e = let z : _≡_ {A = ℕ} 0 1 = cc in absurd (omega arith)
         last-one row m false f e =
             let h = f refl in
             let a : row ≡ rowOf l = cc in
             let b : m ≡ nextOf l = cc in
-            rw (a, b, row-in-record l good pays owes h) (next-row-moves l h)
+            rw (a, b, row-in-record l held h) (one-step nextOf rowPlaces due l h)
 
         go : (o : Outcome NextRow) → nextRow l ≡ o
-            → Moves l (take (rowsSaid (Told o .0) (Told o .1 .3) * width) (places (rowIn (Told o .1 .2)))) (loanOf (k .0) (k .1) (k .2) (Told o .1 .0) (Told o .1 .1))
-        go (refused j p) e = rw (none-said j p written (refused-next-number l j p e)) (stays l)
-        go (accepted finished) e = stays l
+            → Moves l (take (rowsSaid (ToldNext o .0) (ToldNext o .1 .3) * width) (places (rowIn (ToldNext o .1 .2)))) (inHand (ToldNext o .1 .0, ToldNext o .1 .1))
+        go (refused j p) e = rw (none-said j p written (refused-next-number l j p e)) (stays nextOf rowPlaces due l)
+        go (accepted finished) e = stays nextOf rowPlaces due l
         go (accepted (next row m)) e =
             last-one row m (eqb (due l) 0) (λ z. (let n = eqb-false (due l) 0 z in omega arith)) (accepted-value (stateLines l) _ (next row m) e)
 
 -- ---- calls one after the other
-still-held : (k : Kept) (c : Call) → Moves (inHand k) (files k c) (inHand (keptAfter k c)) → T (fits binary64 (k .4)) → T (fits binary64 (keptAfter k c .4))
-still-held k c f owes = subst (λ (m : Loan). T (fits binary64 (m .balance))) (sym (f .state)) (balance-after-held (f .many) (inHand k) owes)
+still-held : (l : Loan) (numbers : List Float) (m : Loan) → Moves l numbers m → Held l → Held m
+still-held l numbers m f h =
+    subst Held (sym (f .state))
+    (record {
+      good = ap badTerm (term-after (f .many) l) ∙ h .good;
+      pays = rw (payment-after (f .many) l) (h .pays);
+      owes = balance-after-held (f .many) l (h .owes);
+    })
 
-calls-move : (calls : List Call) (k : Kept) → badTerm (k .0) ≡ false → T (fits binary64 (k .2)) → T (fits binary64 (k .4)) → Moves (inHand k) (filed k calls) (inHand (kept k calls))
-unfolding filed kept keptAfter
-calls-move [] k good pays owes = stays (inHand k)
-calls-move (draw room w o ∷ calls) k good pays owes =
-    let one = a-draw k w o room in
-    onward (inHand k) _ _ _ _ one (calls-move calls (keptAfter k (draw room w o)) good pays (still-held k (draw room w o) one owes))
-calls-move (next-row bytes w o ∷ calls) k good pays owes =
-    let one = a-next-row k w o bytes good pays owes in
-    onward (inHand k) _ _ _ _ one (calls-move calls (keptAfter k (next-row bytes w o)) good pays (still-held k (next-row bytes w o) one owes))
+a-call : (k : Kept) (c : Call) → Held (inHand k) → Moves (inHand k) (files k c) (inHand (keptAfter k c)) × Held (inHand (keptAfter k c))
+a-call k c h = (moves c, still-held _ _ _ (moves c) h)
+  where
+    moves : (c : Call) → Moves (inHand k) (files k c) (inHand (keptAfter k c))
+    moves (draw room written owed) = a-draw k written owed room
+    moves (next-row bytes written owed) = a-next-row k written owed bytes h
 
 -- ---- an opening, and the calls after it
 -- of an outcome that is refused with no number below 1, and whose loan is as opened
@@ -160,18 +171,19 @@ unfolding told
 once-open t pay before (refused k p) pays fit number opens z calls ended = absurd (never-0 k p (number k p refl) z)
 once-open t pay before (accepted l) pays fit number opens z calls ended =
     let own = as-opened t pay l fit (opens l refl) in
-    let moves = calls-move calls (loanNumbers l) (own .good) (rw (own .pays) pays) (rw (own .owes) fit) in
-    let e : filed (loanNumbers l) calls ≡ rows (t .term) l = moved-to-the-end l (filed (loanNumbers l) calls) _ moves ended ∙ ap (λ (n : ℕ). rows n l) (own .whole) in
+    let held : Held l = record { good = own .good; pays = rw (own .pays) pays; owes = rw (own .owes) fit } in
+    let all = filed-to-the-end nextOf rowPlaces due due-after inHand files keptAfter (λ (k : Kept). Held (inHand k)) a-call calls (loanNumbers l) held ended in
+    let e : filed (loanNumbers l) calls ≡ rows (t .term) l = all ∙ ap (λ (n : ℕ). rows n l) (own .whole) in
     (e, rw e (own .repaid-by-rows))
 
 -- what a record's opening is refused with, and what it is where it is accepted
 opening-number : (bytes : List ℕ) (pay : Terms → Float) (k p : ℕ) → andThen (readTerms bytes) (λ (t : Terms). openedWith t (pay t)) ≡ refused k p → 0 < k
-unfolding sayable
+unfolding between
 opening-number bytes pay k p = go (readTerms bytes) refl
   where
     go : (o : Outcome Terms) → readTerms bytes ≡ o → andThen o (λ (t : Terms). openedWith t (pay t)) ≡ refused k p → 0 < k
-    go (refused j q) read e = let n : j ≡ k = cc in let h = says-numbers (line 11 (badRecord termsKind termsSize bytes) ∷ []) j q tt (read-terms-exactly bytes j q .0 read .applies) .0 in omega arith
-    go (accepted t) read e = says-numbers (termsLines t) k p tt (opening-with-payment-refused-exactly t (pay t) k p .0 e .applies) .0
+    go (refused j q) read e = let n : j ≡ k = cc in let h = within 0 0x1_0000_0000 (line 11 (badRecord termsKind termsSize bytes) ∷ []) j q tt (read-terms-exactly bytes j q .0 read .applies) .0 in omega arith
+    go (accepted t) read e = within 0 0x1_0000_0000 (termsLines t) k p tt (opening-with-payment-refused-exactly t (pay t) k p .0 e .applies) .0
 
 opening-terms : (bytes : List ℕ) (pay : Terms → Float) (l : Loan) → andThen (readTerms bytes) (λ (t : Terms). openedWith t (pay t)) ≡ accepted l
     → openedWith (termsIn bytes) (pay (termsIn bytes)) ≡ accepted l
@@ -197,28 +209,26 @@ demand3-at-the-door-given bytes pay before pays =
     once-open (termsIn bytes) pay before _ pays (principal-held-in bytes) (opening-number bytes (λ (t : Terms). pay)) (opening-terms bytes (λ (t : Terms). pay))
 
 -- ---- the answers are those that the contracts promise, as the kit reads them: of the result x and of what the lent places hold after the call
-pub open-answers : (κs : Lfts 6) (a : Dens κs open-kinds.ps) (x : resT open-kinds.r κs .Denot) (w : Lasts (endedOf 6 open-kinds.ps open-kinds.r) κs a)
-    → open-reads.Post κs a x (atExit (endedOf 6 open-kinds.ps open-kinds.r) κs a w)
-    → _≡_ {A = ℕ × Kept} (x, (w .1 .0, w .1 .1 .0, w .1 .1 .1 .0, w .1 .1 .1 .1 .0, w .1 .1 .1 .1 .1 .0))
-    (openAnswer (now (a .0)) (now (a .1 .0), now (a .1 .1 .0), now (a .1 .1 .1 .0), now (a .1 .1 .1 .1 .0), now (a .1 .1 .1 .1 .1 .0)))
+pub open-answers : (κs : Lfts 3) (a : Dens κs open-kinds.ps) (x : resT open-kinds.r κs .Denot) (w : Lasts (endedOf 3 open-kinds.ps open-kinds.r) κs a)
+    → open-reads.Post κs a x (atExit (endedOf 3 open-kinds.ps open-kinds.r) κs a w)
+    → _≡_ {A = ℕ × Kept} (x, (w .1 .0, w .1 .1 .0)) (openAnswer (now (a .0)) (now (a .1 .0), now (a .1 .1 .0)))
 open-answers κs a x w p = p
 
-pub open-with-payment-answers : (κs : Lfts 6) (a : Dens κs open-with-kinds.ps) (x : resT open-with-kinds.r κs .Denot) (w : Lasts (endedOf 6 open-with-kinds.ps open-with-kinds.r) κs a)
-    → open-with-reads.Post κs a x (atExit (endedOf 6 open-with-kinds.ps open-with-kinds.r) κs a w)
-    → _≡_ {A = ℕ × Kept} (x, (w .1 .1 .0, w .1 .1 .1 .0, w .1 .1 .1 .1 .0, w .1 .1 .1 .1 .1 .0, w .1 .1 .1 .1 .1 .1 .0))
-    (openWithAnswer (now (a .0)) (a .1 .0) (now (a .1 .1 .0), now (a .1 .1 .1 .0), now (a .1 .1 .1 .1 .0), now (a .1 .1 .1 .1 .1 .0), now (a .1 .1 .1 .1 .1 .1 .0)))
+pub open-with-payment-answers : (κs : Lfts 3) (a : Dens κs open-with-kinds.ps) (x : resT open-with-kinds.r κs .Denot) (w : Lasts (endedOf 3 open-with-kinds.ps open-with-kinds.r) κs a)
+    → open-with-reads.Post κs a x (atExit (endedOf 3 open-with-kinds.ps open-with-kinds.r) κs a w)
+    → _≡_ {A = ℕ × Kept} (x, (w .1 .1 .0, w .1 .1 .1 .0)) (openWithAnswer (now (a .0)) (a .1 .0) (now (a .1 .1 .0), now (a .1 .1 .1 .0)))
 open-with-payment-answers κs a x w p = p
 
 -- of a draw also the room
 pub draw-answers : (κs : Lfts 5) (a : Dens κs draw-kinds.ps) (x : resT draw-kinds.r κs .Denot) (w : Lasts (endedOf 5 draw-kinds.ps draw-kinds.r) κs a)
     → draw-reads.Post κs a x (atExit (endedOf 5 draw-kinds.ps draw-kinds.r) κs a w)
-    → (_≡_ {A = ℕ × (ℕ × Float × ℕ × ℕ)} (x, (w .1 .1 .1 .0, w .1 .1 .1 .1 .0, w .1 .1 .1 .1 .1 .1 .0, w .1 .1 .1 .1 .1 .1 .1 .0))
-    (drawAnswer (a .0, a .1 .0, a .1 .1 .0, now (a .1 .1 .1 .0), now (a .1 .1 .1 .1 .0)) (now (a .1 .1 .1 .1 .1 .0)) (now (a .1 .1 .1 .1 .1 .1 .0)) (now (a .1 .1 .1 .1 .1 .1 .1 .0))))
-    × (w .1 .1 .1 .1 .1 .0 ≡ filled (inHand (a .0, a .1 .0, a .1 .1 .0, now (a .1 .1 .1 .0), now (a .1 .1 .1 .1 .0))) (now (a .1 .1 .1 .1 .1 .0)))
+    → (_≡_ {A = ℕ × (List ℕ × List Float × ℕ × ℕ)} (x, (w .0, w .1 .0, w .1 .1 .1 .0, w .1 .1 .1 .1 .0))
+    (drawAnswer (now (a .0), now (a .1 .0)) (now (a .1 .1 .0)) (now (a .1 .1 .1 .0)) (now (a .1 .1 .1 .1 .0))))
+    × (w .1 .1 .0 ≡ filled (inHand (now (a .0), now (a .1 .0))) (now (a .1 .1 .0)))
 draw-answers κs a x w p = p
 
 pub next-row-answers : (κs : Lfts 5) (a : Dens κs next-row-kinds.ps) (x : resT next-row-kinds.r κs .Denot) (w : Lasts (endedOf 5 next-row-kinds.ps next-row-kinds.r) κs a)
     → next-row-reads.Post κs a x (atExit (endedOf 5 next-row-kinds.ps next-row-kinds.r) κs a w)
-    → _≡_ {A = ℕ × (ℕ × Float × List ℕ × ℕ × ℕ)} (x, (w .1 .1 .1 .0, w .1 .1 .1 .1 .0, w .1 .1 .1 .1 .1 .0, w .1 .1 .1 .1 .1 .1 .0, w .1 .1 .1 .1 .1 .1 .1 .0))
-    (nextAnswer (a .0, a .1 .0, a .1 .1 .0, now (a .1 .1 .1 .0), now (a .1 .1 .1 .1 .0)) (now (a .1 .1 .1 .1 .1 .0)) (now (a .1 .1 .1 .1 .1 .1 .0)) (now (a .1 .1 .1 .1 .1 .1 .1 .0)))
+    → _≡_ {A = ℕ × (List ℕ × List Float × List ℕ × ℕ × ℕ)} (x, (w .0, w .1 .0, w .1 .1 .0, w .1 .1 .1 .0, w .1 .1 .1 .1 .0))
+    (nextAnswer (now (a .0), now (a .1 .0)) (now (a .1 .1 .0)) (now (a .1 .1 .1 .0)) (now (a .1 .1 .1 .1 .0)))
 next-row-answers κs a x w p = p

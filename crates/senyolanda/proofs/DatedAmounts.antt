@@ -1,25 +1,22 @@
--- A lent list time, amount, time, amount and so on. An even count is a list of flows: parted into two rooms, it has the core's answer at its times and amounts.
+-- A lent list time, amount, time, amount and so on. Of an even count the flows looked at lie in two rooms, and what is answered over those is the answer at the list's times and amounts.
 -- In an odd count the times and the amounts differ in length, so that line 4 refuses them. Assumes nothing.
-use mathlib.Core.Path.{_≡_, refl, sym, ap, _∙_}
-use mathlib.Core.Bool.{Bool, true, false, cond}
+use mathlib.Core.Path.{_≡_, refl, sym, ap, subst, _∙_}
+use mathlib.Core.Bool.{Bool, true, false}
 use mathlib.Core.List.{List, [], _∷_}
-use Prim.Native.Nat.{ℕ, zero, suc, _+_, _*_, _/_, _%_, _<_, _≤_}
+use Prim.Native.Nat.{ℕ, zero, suc, _+_, _*_, _/_, _%_, _<_, _≤_, min}
 use native.Mathlib.Omega.{arith}
 use lib.Dec.{ltb}
-use lib.ListN.{length, take, drop, getD, set, length-map, length-drop, length-set}
-use lib.Seq.{length-take-le, getD-take, getD-drop, ext-getD}
+use lib.ListN.{length, take, drop, getD, set, length-drop, length-set}
+use lib.Seq.{length-take-le, take-all, getD-take, getD-drop, ext-getD}
 use lib.Ieee.{Float, nan}
-use borrow.Author.Tests.{ltb-false, le-ltb, ne-eqb}
-use Rattle.pool.proofs.Reading.{filled-more}
+use borrow.Author.Tests.{ltb-true, ltb-false}
+use Rattle.steps.proofs.Places.{filled-more}
 use Rattle.refusals.specs.declared.Refusal.{Refusal}
-use Rattle.refusals.specs.Outcome.{Outcome, refused, firstOr, judged}
-use Rattle.refusals.specs.Table.{unequal}
-use Rattle.refusals.proofs.Verdicts.{refused-as}
-use Rattle.spread_analytics.specs.declared.dated.CashFlow.{CashFlow}
-use Rattle.spread_analytics.specs.declared.dated.Lists.{Lists}
-use Rattle.spread_analytics.specs.Dated.{timesOf, amountsOf}
+use Rattle.refusals.specs.Outcome.{Outcome, judged}
+use Rattle.refusals.proofs.Verdicts.{refused-alike, refused-as}
 use Rattle.spread_analytics.specs.Spread.{spreadLines}
-use Rattle.spread_analytics.proofs.Gathering.{Hold}
+use Rattle.spread_analytics.proofs.SpreadVerdict.{refused-4}
+use Rattle.spread_analytics.proofs.TooMany.{too-many}
 use Rattle.senyolanda.specs.Told.{refusalResult, told}
 use Rattle.senyolanda.specs.Dated.{timesIn, amountsIn}
 
@@ -60,95 +57,64 @@ amount-at xs i =
     let one-on : 1 + 2 * i ≡ 2 * i + 1 = omega arith in
     rw (from-the-second, time-at, getD-drop, one-on)
 
--- ---- two rooms of 1,200 places
--- as many flows as are taken stand in the list, and in the rooms
-pub taken-bounds : (count n : ℕ) → n ≡ cond (ltb 2400 count) 0 (count / 2) → (n * 2 ≤ count) × (n ≤ 1200)
-taken-bounds count n e = go (ltb 2400 count) (ltb-false 2400 count) e
-  where
-    go : (many : Bool) → (many ≡ false → count ≤ 2400) → n ≡ cond many 0 (count / 2) → (n * 2 ≤ count) × (n ≤ 1200)
-    go true h e = (omega arith, omega arith)
-    go false h e = (omega (arith, h refl), omega (arith, h refl))
-
+-- ---- two rooms of 1,201 places
 -- a room whose first k places are filled
 pub record Filled (room : List Float) (f : ℕ → Float) (k : ℕ) : Type 0 where
-  pub size : length room ≡ 1200
+  pub size : length room ≡ 1201
   pub holds : (i : ℕ) → i < k → getD room i nan ≡ f i
 
-pub none-yet : {room : List Float} {f : ℕ → Float} → length room ≡ 1200 → Filled room f 0
+pub none-yet : {room : List Float} {f : ℕ → Float} → length room ≡ 1201 → Filled room f 0
 none-yet size = record { size = size; holds = λ i h. absurd (omega arith) }
 
-pub one-more : {room : List Float} {f : ℕ → Float} {k : ℕ} → k < 1200 → Filled room f k → Filled (set room k (f k)) f (k + 1)
+pub one-more : {room : List Float} {f : ℕ → Float} {k : ℕ} → k < 1201 → Filled room f k → Filled (set room k (f k)) f (k + 1)
 one-more {room} {f} {k} h filled = record {
   size = length-set room k (f k) ∙ filled .size;
   holds = filled-more room k (f k) nan f (rw (filled .size) h) refl (filled .holds);
 }
 
-begins-with : (column room : List Float) (f : ℕ → Float) (n : ℕ) → length column ≡ n → ((i : ℕ) → getD column i nan ≡ f i) → n ≤ 1200 → Filled room f n
-    → take n room ≡ column
+begins-with : (column room : List Float) (f : ℕ → Float) (n : ℕ) → n ≤ length column → ((i : ℕ) → getD column i nan ≡ f i) → n ≤ 1201 → Filled room f n
+    → take n room ≡ take n column
 begins-with column room f n all at few filled =
     let first : length (take n room) ≡ n = length-take-le n room (rw (filled .size) few) in
-    ext-getD nan (take n room) column (first ∙ sym all)
-    (λ i h. let below : i < n = omega arith in getD-take n room i nan below ∙ filled .holds i below ∙ sym (at i))
+    ext-getD nan (take n room) (take n column) (first ∙ sym (length-take-le n column all))
+    (λ i h. let below : i < n = omega arith in getD-take n room i nan below ∙ filled .holds i below ∙ sym (getD-take n column i nan below ∙ at i))
 
--- two rooms begin with the times and the amounts, where the count is even and not too large
-abbrev pub Parted : List Float → Lists → Type 0
-Parted xs lists =
-    length xs % 2 ≡ 0 → length xs ≤ 2400 → (take (length xs / 2) (lists .times) ≡ timesIn xs) × (take (length xs / 2) (lists .amounts) ≡ amountsIn xs)
+-- as many as are looked at
+module _ (xs room : List Float) (n i : ℕ) (looked-at : n ≡ min (length xs / 2) 1201) (all : i ≡ n) where
+  pub with-times : Filled room (timeAt xs) i → take n room ≡ take n (timesIn xs)
+  with-times filled = begins-with (timesIn xs) room (timeAt xs) n (omega (arith, times-length xs)) (time-at xs) (omega arith) (subst (Filled room (timeAt xs)) all filled)
 
-pub all-parted : (xs : List Float) (lists : Lists) (n : ℕ) → n ≡ cond (ltb 2400 (length xs)) 0 (length xs / 2)
-    → Filled (lists .times) (timeAt xs) n → Filled (lists .amounts) (amountAt xs) n → Parted xs lists
-all-parted xs lists n taken times amounts even few =
-    let all : n ≡ length xs / 2 = taken ∙ rw (le-ltb 2400 (length xs) few) in
-    rw (sym all) (
-      begins-with (timesIn xs) (lists .times) (timeAt xs) n (times-length xs ∙ omega arith) (time-at xs) (omega arith) times,
-      begins-with (amountsIn xs) (lists .amounts) (amountAt xs) n (amounts-length xs ∙ sym all) (amount-at xs) (omega arith) amounts,
-    )
+  pub with-amounts : Filled room (amountAt xs) i → take n room ≡ take n (amountsIn xs)
+  with-amounts filled = begins-with (amountsIn xs) room (amountAt xs) n (omega (arith, amounts-length xs)) (amount-at xs) (omega arith) (subst (Filled room (amountAt xs)) all filled)
 
--- ---- the flows that an even count is
-flowsIn : List Float → List CashFlow
-flowsIn [] = []
-flowsIn (t ∷ []) = []
-flowsIn (t ∷ a ∷ rest) = record { time = t; amount = a } ∷ flowsIn rest
+-- ---- what a call tells is the answer at the list's times and amounts
+module _ {Value Places : Type 0} (laid : Value → Places) (value : List Float → List Float → Value) (bad : Bool) (xs tenors rates : List Float) (before : Places) where
+  abbrev answer : List Float → List Float → Outcome Value
+  answer times amounts = judged (spreadLines times amounts tenors rates bad) (value times amounts)
 
-times-are : (xs : List Float) → length xs % 2 ≡ 0 → timesOf (flowsIn xs) ≡ timesIn xs
-unfolding flowsIn timesIn
-times-are [] even = refl
-times-are (t ∷ []) even = absurd (omega arith)
-times-are (t ∷ a ∷ rest) even = ap (λ (l : List Float). t ∷ l) (times-are rest (omega arith))
-
-amounts-are : (xs : List Float) → amountsOf (flowsIn xs) ≡ amountsIn xs
-unfolding flowsIn amountsIn
-amounts-are [] = refl
-amounts-are (t ∷ []) = refl
-amounts-are (t ∷ a ∷ rest) = ap (λ (l : List Float). a ∷ l) (amounts-are rest)
-
-how-many : (xs : List Float) → length (flowsIn xs) ≡ length xs / 2
-how-many xs = sym (length-map (flowsIn xs) (λ (f : CashFlow). f .amount)) ∙ ap length (amounts-are xs) ∙ amounts-length xs
-
-in-rooms : (xs : List Float) (lists : Lists) → length xs % 2 ≡ 0 → Parted xs lists → Hold (flowsIn xs) lists
-in-rooms xs lists even parted few = rw (how-many xs, times-are xs even, amounts-are xs) (parted even (omega (arith, how-many xs)))
-
--- ---- line 4 has its cause
-pub refused-4 : {Value : Type 0} (times amounts tenors rates : List Float) (bad : Bool) (v : Value) → ¬ (length times ≡ length amounts)
-    → refused 4 0 ≡ judged (spreadLines times amounts tenors rates bad) v
-unfolding judged firstOr unequal
-refused-4 times amounts tenors rates bad v differ = rw (ne-eqb (length times) (length amounts) differ)
-
--- ---- what a call tells is the core's answer at the list's times and amounts
-module _ {Value Places : Type 0} (laid : Value → Places) (core : List Float → List Float → List Float → List Float → Float → Outcome Value)
-    (xs tenors rates : List Float) (asked : Float) (before : Places) where
-  pub told-odd : (result : ℕ) (r : Refusal)
-      → ((times amounts : List Float) → ¬ (length times ≡ length amounts) → refused 4 0 ≡ core times amounts tenors rates asked)
-      → ¬ (length xs % 2 ≡ 0) → (r .number ≡ 4) × (r .place ≡ 0) → result ≡ refusalResult (r .number) (r .place)
-      → (result, before) ≡ told laid (core (timesIn xs) (amountsIn xs) tenors rates asked) before
+  pub told-odd : (result : ℕ) (r : Refusal) → ¬ (length xs % 2 ≡ 0) → (r .number ≡ 4) × (r .place ≡ 0) → result ≡ refusalResult (r .number) (r .place)
+      → (result, before) ≡ told laid (answer (timesIn xs) (amountsIn xs)) before
   unfolding told
-  told-odd result r refuses odd is-4 e =
+  told-odd result r odd is-4 e =
       let differ : ¬ (length (timesIn xs) ≡ length (amountsIn xs)) = λ same. omega (arith, times-length xs, amounts-length xs) in
-      rw (e, sym (refused-as 4 r _ is-4 (refuses (timesIn xs) (amountsIn xs) differ)))
+      rw (e, sym (refused-as 4 r _ is-4 (refused-alike _ (value (timesIn xs) (amountsIn xs)) 4 0 (refused-4 (timesIn xs) (amountsIn xs) tenors rates bad differ))))
 
-  pub told-even : (lists : Lists) (answer : Outcome Value) (said : ℕ × Places)
-      → ((flows : List CashFlow) → length flows ≡ length xs / 2 → Hold flows lists → answer ≡ core (timesOf flows) (amountsOf flows) tenors rates asked)
-      → length xs % 2 ≡ 0 → Parted xs lists → said ≡ told laid answer before
-      → said ≡ told laid (core (timesIn xs) (amountsIn xs) tenors rates asked) before
-  told-even lists answer said answers even parted e =
-      rw (sym (times-are xs even), sym (amounts-are xs), sym (answers (flowsIn xs) (how-many xs) (in-rooms xs lists even parted))) e
+  -- where there are too many, those looked at are too many
+  looked-at-alike : (n : ℕ) → length xs % 2 ≡ 0 → n ≡ min (length xs / 2) 1201 → answer (take n (timesIn xs)) (take n (amountsIn xs)) ≡ answer (timesIn xs) (amountsIn xs)
+  looked-at-alike n even e = go (ltb 1201 (length xs / 2)) (ltb-true 1201 (length xs / 2)) (ltb-false 1201 (length xs / 2))
+    where
+      go : (many : Bool) → (many ≡ true → 1201 < length xs / 2) → (many ≡ false → length xs / 2 ≤ 1201) → answer (take n (timesIn xs)) (take n (amountsIn xs)) ≡ answer (timesIn xs) (amountsIn xs)
+      go true h h′ =
+          let many : 1201 < length xs / 2 = h refl in
+          let t : length (take n (timesIn xs)) ≡ n = length-take-le n (timesIn xs) (omega (arith, times-length xs)) in
+          let a : length (take n (amountsIn xs)) ≡ n = length-take-le n (amountsIn xs) (omega (arith, amounts-length xs)) in
+          too-many (take n (timesIn xs)) (take n (amountsIn xs)) tenors rates bad _ (t ∙ sym a) (omega arith)
+          ∙ sym (too-many (timesIn xs) (amountsIn xs) tenors rates bad _ (omega (arith, times-length xs, amounts-length xs)) (omega (arith, times-length xs)))
+      go false h h′ =
+          let few : length xs / 2 ≤ 1201 = h′ refl in
+          rw (take-all n (timesIn xs) (omega (arith, times-length xs)), take-all n (amountsIn xs) (omega (arith, amounts-length xs)))
+
+  pub told-even : (n : ℕ) (times amounts : List Float) (given : Outcome Value) (said : ℕ × Places) → length xs % 2 ≡ 0 → n ≡ min (length xs / 2) 1201
+      → take n times ≡ take n (timesIn xs) → take n amounts ≡ take n (amountsIn xs) → given ≡ answer (take n times) (take n amounts) → said ≡ told laid given before
+      → said ≡ told laid (answer (timesIn xs) (amountsIn xs)) before
+  told-even n times amounts given said even looked-at t a g e = rw (sym (looked-at-alike n even looked-at), sym t, sym a, sym g) e

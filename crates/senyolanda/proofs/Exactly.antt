@@ -10,13 +10,13 @@ use lib.Dec.{T}
 use lib.ListN.{length}
 use lib.Ieee.{Float}
 use Rattle.refusals.specs.Outcome.{Outcome, refused, accepted, Line, line, lineOfTwo, firstOr, judged, Lowest, ExactlyWhen, above, rising, andThen}
-use Rattle.refusals.specs.Table.{badRecord}
+use Rattle.refusals.specs.Table.{badRecord, badCode}
 use Rattle.refusals.proofs.Judging.{exactly}
 use Rattle.refusals.proofs.Verdicts.{accepted-value}
 use Rattle.records.specs.declared.Terms.{Terms}
 use Rattle.records.specs.declared.BondRecord.{BondRecord}
 use Rattle.records.specs.declared.SwapRecord.{SwapRecord}
-use Rattle.records.specs.Kinds.{termsKind, termsSize, termsIn, readTerms, bondKind, bondSize, bondIn, bondFields, swapKind, swapSize, swapIn, swapFields}
+use Rattle.records.specs.Kinds.{termsKind, termsSize, termsIn, readTerms, bondKind, bondSize, bondIn, readBondUncoded, swapKind, swapSize, swapIn, readSwapUncoded}
 use Rattle.mortgage.specs.declared.Loan.{Loan}
 use Rattle.mortgage.specs.Terms.{termsLines}
 use Rattle.mortgage.specs.Payment.{monthlyPayment, opened, openedWith}
@@ -27,14 +27,14 @@ use Rattle.mortgage.proofs.Exactly as loans
 use Rattle.listing.specs.Listing.{loanLines, listed, listedSize}
 use Rattle.bond.specs.declared.Bond.{Bond}
 use Rattle.bond.specs.Bonds.{bondLines}
-use Rattle.bond.specs.Codes.{badCode as badFrequencyCode}
+use Rattle.bond.specs.Codes.{lastCode as lastFrequency}
 use Rattle.bond.specs.Price.{price, dv01, currentYield}
 use Rattle.bond.specs.Yield.{yieldToMaturity}
 use Rattle.bond.specs.Durations.{macaulayDuration, modifiedDuration, convexity, priceChange, macaulayAtPrice, modifiedAtPrice, convexityAtPrice}
 use Rattle.bond.proofs.Exactly as bonds
 use Rattle.bond.proofs.Exactly.{yieldLines, at-price-exactly}
 use Rattle.swaps.specs.declared.Swap.{Swap}
-use Rattle.swaps.specs.Codes.{badCode as badDayCount}
+use Rattle.swaps.specs.Codes.{lastCode as lastDayCount}
 use Rattle.swaps.specs.Swap.{swapLines}
 use Rattle.swaps.specs.Valuation.{fixedLegPv, floatingLegPv, swapNpv, parSwapRate, swapDv01, swapDuration, valueSwap}
 use Rattle.swaps.proofs.Exactly as swaps
@@ -141,13 +141,13 @@ module _ (bytes : List ℕ) (beside : Float) where
   held = bondOf (bondIn bytes)
 
   of-bond : (asked : Bond → Outcome Float) (lines : List Line) → ExactlyWhen lines (asked held) → ExactlyWhen (bondRecordLines bytes beside lines) (ofBond bytes beside asked)
-  unfolding bondRead bondFields above
+  unfolding bondRead readBondUncoded above
   of-bond asked lines ex =
-      rw (in-two (bondFields bytes) (λ (b : BondRecord). coded (badFrequencyCode (b .frequency)) (judged (uncodedLines b beside) tt) (bondOf b)) asked)
+      rw (in-two (readBondUncoded bytes) (λ (b : BondRecord). coded (badCode lastFrequency (b .frequency)) (judged (uncodedLines b beside) tt) (bondOf b)) asked)
       (record-first (badRecord bondKind bondSize bytes) (bondIn bytes)
-      (λ (b : BondRecord). andThen (coded (badFrequencyCode (b .frequency)) (judged (uncodedLines b beside) tt) (bondOf b)) asked)
-      (afterCode (badFrequencyCode (bondIn bytes .frequency)) (uncodedLines (bondIn bytes) beside) lines)
-      (code-next (badFrequencyCode (bondIn bytes .frequency)) (uncodedLines (bondIn bytes) beside) held asked lines tt ex))
+      (λ (b : BondRecord). andThen (coded (badCode lastFrequency (b .frequency)) (judged (uncodedLines b beside) tt) (bondOf b)) asked)
+      (afterCode (badCode lastFrequency (bondIn bytes .frequency)) (uncodedLines (bondIn bytes) beside) lines)
+      (code-next (badCode lastFrequency (bondIn bytes .frequency)) (uncodedLines (bondIn bytes) beside) held asked lines tt ex))
 
   -- with a yield beside it
   pub price-refused-exactly : ExactlyWhen (bondRecordLines bytes beside (bondLines held beside)) (ofBond bytes beside (price beside))
@@ -185,19 +185,19 @@ module _ (bytes : List ℕ) (beside : Float) where
 
   -- the bond that was read is the record's
   read-bond-is : (b : Bond) → bondRead bytes beside ≡ accepted b → b ≡ held
-  unfolding bondRead bondFields
-  read-bond-is b = go (bondFields bytes) refl
+  unfolding bondRead readBondUncoded
+  read-bond-is b = go (readBondUncoded bytes) refl
     where
       coded-is : (code : Bool) (others : Outcome Unit) (v : Bond) → coded code others v ≡ accepted b → b ≡ v
       coded-is true others v e = absurd (eleven-waits others v b e)
       coded-is false others v e = cc
 
-      go : (x : Outcome BondRecord) → bondFields bytes ≡ x
-          → andThen x (λ (r : BondRecord). coded (badFrequencyCode (r .frequency)) (judged (uncodedLines r beside) tt) (bondOf r)) ≡ accepted b → b ≡ held
+      go : (x : Outcome BondRecord) → readBondUncoded bytes ≡ x
+          → andThen x (λ (r : BondRecord). coded (badCode lastFrequency (r .frequency)) (judged (uncodedLines r beside) tt) (bondOf r)) ≡ accepted b → b ≡ held
       go (refused k p) e h = absurd (apart k p b h)
       go (accepted r) e h =
           let is : r ≡ bondIn bytes = accepted-value (line 11 (badRecord bondKind bondSize bytes) ∷ []) (bondIn bytes) r e in
-          coded-is (badFrequencyCode (r .frequency)) (judged (uncodedLines r beside) tt) (bondOf r) h ∙ ap bondOf is
+          coded-is (badCode lastFrequency (r .frequency)) (judged (uncodedLines r beside) tt) (bondOf r) h ∙ ap bondOf is
 
   at-its-yield : (asked : Float → Bond → Outcome Float) → ((ytm : Float) → ExactlyWhen (bondLines held ytm) (asked ytm held))
       → RefusedAtPrice (ofBond bytes beside (λ (b : Bond). andThen (yieldToMaturity beside b) (λ (ytm : Float). asked ytm b)))
@@ -229,13 +229,13 @@ module _ (bytes : List ℕ) (tenors zeros : List Float) where
   swapHeld = swapOf (swapIn bytes)
 
   of-swap : {B : Type 0} (asked : Swap → Outcome B) → ExactlyWhen (swapLines swapHeld tenors zeros) (asked swapHeld) → ExactlyWhen (swapRecordLines bytes tenors zeros) (ofSwap bytes tenors zeros asked)
-  unfolding swapRead swapFields above
+  unfolding swapRead readSwapUncoded above
   of-swap asked ex =
-      rw (in-two (swapFields bytes) (λ (s : SwapRecord). coded (badDayCount (s .count)) (judged (swapLines (swapOf s) tenors zeros) tt) (swapOf s)) asked)
+      rw (in-two (readSwapUncoded bytes) (λ (s : SwapRecord). coded (badCode lastDayCount (s .count)) (judged (swapLines (swapOf s) tenors zeros) tt) (swapOf s)) asked)
       (record-first (badRecord swapKind swapSize bytes) (swapIn bytes)
-      (λ (s : SwapRecord). andThen (coded (badDayCount (s .count)) (judged (swapLines (swapOf s) tenors zeros) tt) (swapOf s)) asked)
-      (afterCode (badDayCount (swapIn bytes .count)) (swapLines swapHeld tenors zeros) (swapLines swapHeld tenors zeros))
-      (code-next (badDayCount (swapIn bytes .count)) (swapLines swapHeld tenors zeros) swapHeld asked (swapLines swapHeld tenors zeros) tt ex))
+      (λ (s : SwapRecord). andThen (coded (badCode lastDayCount (s .count)) (judged (swapLines (swapOf s) tenors zeros) tt) (swapOf s)) asked)
+      (afterCode (badCode lastDayCount (swapIn bytes .count)) (swapLines swapHeld tenors zeros) (swapLines swapHeld tenors zeros))
+      (code-next (badCode lastDayCount (swapIn bytes .count)) (swapLines swapHeld tenors zeros) swapHeld asked (swapLines swapHeld tenors zeros) tt ex))
 
   pub fixed-leg-refused-exactly : ExactlyWhen (swapRecordLines bytes tenors zeros) (ofSwap bytes tenors zeros (λ (s : Swap). fixedLegPv s tenors zeros))
   fixed-leg-refused-exactly = of-swap _ (swaps.fixed-leg-refused-exactly swapHeld tenors zeros)

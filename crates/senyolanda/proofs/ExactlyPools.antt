@@ -6,6 +6,7 @@ use mathlib.Core.Bool.{Bool, false}
 use mathlib.Core.List.{List}
 use Prim.Native.Nat.{ℕ, min}
 use lib.Ieee.{Float}
+use Rattle.numbers.specs.Literals.{basisPoint}
 use Rattle.numbers.specs.Whole.{largest}
 use Rattle.refusals.specs.Outcome.{Outcome, refused, Line, judged, Lowest, above, andThen}
 use Rattle.refusals.specs.Places.{placed}
@@ -13,7 +14,7 @@ use Rattle.refusals.proofs.GivenPlaces.{placed-exactly}
 use Rattle.pool.specs.declared.speed.Speed.{Speed}
 use Rattle.pool.specs.Loans.{longest, loansIn, poolLines}
 use Rattle.pool.specs.Flows.{tooLittle, cashFlows}
-use Rattle.pool.specs.Price.{basisPoint, priceAt, durationFor, convexityFor, poolPrice, poolDuration, poolConvexity}
+use Rattle.pool.specs.Price.{priceAt, durationFor, convexityFor, poolPrice, poolDuration, poolConvexity}
 use Rattle.pool.specs.Totals.{poolTotals}
 use Rattle.senyolanda.specs.Pools.{speedAt, speedLines, speedFor, monthsOf}
 use Rattle.senyolanda.proofs.SpeedCodes.{by-the-table}

@@ -10,6 +10,5 @@ pub mod Handed
 pub mod PoolFigures
 pub mod ResultSays
 pub mod SpeedCodes
-pub mod Tight
-pub mod TightLists
 pub mod Worked
+pub mod tight

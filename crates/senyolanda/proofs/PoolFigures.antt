@@ -6,12 +6,13 @@ use lib.Ieee.{lt, ofBits}
 use Rattle.numbers.specs.Clamps.{plusZero}
 use Rattle.refusals.specs.Outcome.{refused, accepted, firstOr, judged}
 use Rattle.refusals.specs.Places.{placed}
-use Rattle.refusals.specs.Table.{badAmount, badTerm}
+use Rattle.refusals.specs.Table.{badAmount, badTerm, noRoomForAll, tooManyLoans, badCode, badLength}
 use Rattle.records.specs.Bytes.{valueOf, wholeAt, floatAt}
 use Rattle.records.specs.Kinds.{termsIn}
-use Rattle.pool.specs.Loans.{recordAt, loanAt, ofEach, otherKind, badRecords, anyOf, longest}
+use Rattle.records.specs.EndToEnd.{recordAt, ofEach}
+use Rattle.pool.specs.Loans.{loanAt, otherKind, badRecords, anyOf, longest}
 use Rattle.pool.specs.Flows.{tooLittle, cashFlows}
-use Rattle.senyolanda.specs.Pools.{speedAt, badSpeed, speedFor, monthsOf}
+use Rattle.senyolanda.specs.Pools.{speedAt, speedFor, monthsOf}
 
 -- a record of a kind, with the last two bytes of its principal; rate 0, term 3
 abbrev recordOf : ℕ → ℕ → ℕ → List ℕ
@@ -39,7 +40,7 @@ pub record Table : Type 0 where
   pub known : monthsOf (good ++ good) 0 plusZero 9 ≡ accepted 3
 
 pub table : Table
-unfolding monthsOf speedFor speedAt badSpeed cashFlows tooLittle judged firstOr placed badRecords otherKind anyOf ofEach longest recordAt loanAt termsIn badAmount badTerm floatAt wholeAt valueOf lt ofBits
+unfolding monthsOf speedFor speedAt badCode cashFlows tooLittle judged firstOr placed badRecords otherKind anyOf ofEach longest recordAt loanAt termsIn badAmount badTerm noRoomForAll tooManyLoans badLength floatAt wholeAt valueOf lt ofBits
 table = record {
   known-beside-a-bad-record = refl;
   unknown-beside-a-bad-record = refl;

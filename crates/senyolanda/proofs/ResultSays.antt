@@ -1,14 +1,14 @@
 -- A result says its refusal: the number is its low half, the place its high half, and it is 0 only where the call was accepted. So where a call is refused by the table's rule,
 -- its result says so exactly when the rule does. Assumes nothing.
 use mathlib.Core.Path.{_≡_, refl, ap, _∙_, subst}
-use mathlib.Core.Logic.{_⊎_, inl, inr, _↔_}
-use mathlib.Core.Bool.{Bool, true, _&&_}
-use mathlib.Core.List.{List, [], _∷_}
+use mathlib.Core.Logic.{_↔_}
+use mathlib.Core.Bool.{Bool}
+use mathlib.Core.List.{List}
 use Prim.Native.Nat.{ℕ, _<_, _%_, _/_}
 use native.Mathlib.Omega.{arith}
-use lib.Dec.{T, ltb, ltb→lt}
-use lib.Ieee.Fits.{and-l, and-r}
-use Rattle.refusals.specs.Outcome.{Outcome, refused, accepted, Line, Applies, Lowest, ExactlyWhen}
+use lib.Dec.{T}
+use Rattle.refusals.specs.Outcome.{Outcome, refused, accepted, Line, Lowest, ExactlyWhen}
+use Rattle.refusals.proofs.NumbersWithin.{between, within}
 use Rattle.senyolanda.specs.Told.{refusalResult, told}
 
 pub number-said : (k p : ℕ) → k < 0x1_0000_0000 → refusalResult k p % 0x1_0000_0000 ≡ k
@@ -21,22 +21,8 @@ pub never-0 : (k p : ℕ) → 0 < k → ¬ (refusalResult k p ≡ 0)
 never-0 k p h e = omega arith
 
 -- ---- lines whose numbers the low half holds, and are not 0
-unfoldable pub sayable : List Line → Bool
-sayable [] = true
-sayable (l ∷ ls) = (ltb 0 (l .number) && ltb (l .number) 0x1_0000_0000) && sayable ls
-
--- a number of theirs
-pub says-numbers : (ls : List Line) (k p : ℕ) → T (sayable ls) → Applies ls k p → (0 < k) × (k < 0x1_0000_0000)
-unfolding Applies sayable
-says-numbers [] k p t a = absurd a
-says-numbers (l ∷ ls) k p t a =
-    let here = and-l (ltb 0 (l .number) && ltb (l .number) 0x1_0000_0000) (sayable ls) t in
-    let low : 0 < l .number = ltb→lt 0 (l .number) (and-l (ltb 0 (l .number)) (ltb (l .number) 0x1_0000_0000) here) in
-    let high : l .number < 0x1_0000_0000 = ltb→lt (l .number) 0x1_0000_0000 (and-r (ltb 0 (l .number)) (ltb (l .number) 0x1_0000_0000) here) in
-    elim a [
-      | inl e ↦ (let n = e .0 in (omega arith, omega arith))
-      | inr r ↦ says-numbers ls k p (and-r (ltb 0 (l .number) && ltb (l .number) 0x1_0000_0000) (sayable ls) t) r
-    ]
+abbrev sayable : List Line → Bool
+sayable = between 0 0x1_0000_0000
 
 module _ {A B : Type 0} (ls : List Line) (small : T (sayable ls)) (laid : A → B) (before : B) where
   -- the result is that of refusal k at p exactly when k at p is the table's lowest
@@ -54,7 +40,7 @@ module _ {A B : Type 0} (ls : List Line) (small : T (sayable ls)) (laid : A → 
       different v k p e = let z : _≡_ {A = ℕ} 0 1 = cc in omega arith
   result-exactly (refused j q) ex k p low high =
       let own = ex j q .0 refl in
-      let size = says-numbers ls j q small (own .applies) in (
+      let size = within 0 0x1_0000_0000 ls j q small (own .applies) in (
         λ e. (
             let n : j ≡ k = omega arith in
             let at : q ≡ p = omega arith in
@@ -74,6 +60,6 @@ module _ {A B : Type 0} (ls : List Line) (small : T (sayable ls)) (laid : A → 
   accepted-exactly (accepted v) ex = (λ e k p w. (let d = ex k p .1 w in let z : _≡_ {A = ℕ} 0 1 = cc in omega arith), λ free. refl)
   accepted-exactly (refused j q) ex =
       let own = ex j q .0 refl in (
-        λ e. absurd (never-0 j q (says-numbers ls j q small (own .applies) .0) e),
+        λ e. absurd (never-0 j q (within 0 0x1_0000_0000 ls j q small (own .applies) .0) e),
         λ free. absurd (free j q own),
       )

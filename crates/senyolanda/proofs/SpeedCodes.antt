@@ -7,33 +7,20 @@ use Prim.Native.Nat.{ℕ, suc, _<_}
 use native.Mathlib.Omega.{arith}
 use lib.ListN.{take}
 use lib.Ieee.{Float}
-use Rattle.refusals.specs.Outcome.{Outcome, refused, accepted, Line, alone, firstOr, judged, andThen}
+use Rattle.refusals.specs.Outcome.{Outcome, refused, accepted, Line, alone, above, firstOr, judged, andThen}
 use Rattle.refusals.specs.Places.{placed}
-use Rattle.refusals.proofs.Judging.{followed, judged-in-parts}
+use Rattle.refusals.specs.Table.{badCode}
+use Rattle.refusals.proofs.Judging.{exactly, followed, judged-in-parts}
+use Rattle.refusals.proofs.NumbersWithin.{between, within}
 use Rattle.refusals.proofs.Verdicts.{verdict}
 use Rattle.pool.specs.declared.speed.Speed.{Speed}
 use Rattle.pool.specs.Loans.{badRecords, poolLines}
-use Rattle.senyolanda.specs.Pools.{speedAt, badSpeed, speedLines, speedFor}
+use Rattle.senyolanda.specs.Pools.{lastSpeed, speedAt, speedLines, speedFor}
 
 abbrev Eleven : List Bool → Line
 Eleven causes = record { number = 11; causes = causes }
 
 -- ---- lines before 11 refuse with a lower number, and line 11 with no other
-abbrev Lower : List Line → Type 0
-Lower [] = Unit
-Lower (l ∷ ls) = (l .number < 11) × Lower ls
-
-lower-line : (k p : ℕ) (causes : List Bool) (rest : Outcome Unit) (j q : ℕ) → k < 11 → (refused j q ≡ rest → j < 11) → refused j q ≡ firstOr k p causes rest → j < 11
-unfolding firstOr
-lower-line k p [] rest j q h l e = l e
-lower-line k p (true ∷ bs) rest j q h l e = let z : j ≡ k = cc in omega arith
-lower-line k p (false ∷ bs) rest j q h l e = lower-line k (suc p) bs rest j q h l e
-
-lower : (ls : List Line) → Lower ls → (j q : ℕ) → refused j q ≡ verdict ls → j < 11
-unfolding judged
-lower [] u j q e = let z : _≡_ {A = ℕ} 0 1 = cc in absurd (omega arith)
-lower (l ∷ ls) h j q e = lower-line (l .number) 0 (l .causes) (verdict ls) j q (h .0) (lower ls (h .1) j q) e
-
 eleven-alone : (p : ℕ) (causes : List Bool) (j q : ℕ) → _≡_ {A = Outcome Unit} (refused j q) (firstOr 11 p causes (accepted tt)) → j ≡ 11
 unfolding firstOr
 eleven-alone p [] j q e = cc
@@ -43,8 +30,9 @@ eleven-alone p (false ∷ bs) j q e = eleven-alone (suc p) bs j q e
 abbrev Before : List ℕ → Bool → List Line
 Before bytes noRoom = take 4 (poolLines bytes noRoom)
 
-before-lower : (bytes : List ℕ) (noRoom : Bool) → Lower (Before bytes noRoom)
-before-lower bytes noRoom = (omega arith, (omega arith, (omega arith, (omega arith, tt))))
+before-lower : (bytes : List ℕ) (noRoom : Bool) (j q : ℕ) → refused j q ≡ verdict (Before bytes noRoom) → j < 11
+unfolding above between
+before-lower bytes noRoom j q e = within 0 11 (Before bytes noRoom) j q tt (exactly tt (Before bytes noRoom) tt j q .0 (sym e) .applies) .1
 
 -- ---- with the code line 11 stands at place 0, and without it at the first bad record
 code-at-0 : {Value : Type 0} (causes : List Bool) (v : Value) → judged (Eleven (alone true causes) ∷ []) v ≡ refused 11 0
@@ -94,21 +82,21 @@ module _ (bytes : List ℕ) (noRoom : Bool) (code : ℕ) where
   pool-in-parts : verdict (poolLines bytes noRoom) ≡ followed First Records
   pool-in-parts = judged-in-parts (Before bytes noRoom) (Eleven (badRecords bytes) ∷ []) tt
 
-  unknown-lines : {Value : Type 0} (v : Value) → badSpeed code ≡ true → placed (judged (speedLines bytes noRoom code) v) ≡ Unknown First
+  unknown-lines : {Value : Type 0} (v : Value) → badCode lastSpeed code ≡ true → placed (judged (speedLines bytes noRoom code) v) ≡ Unknown First
   unknown-lines v bad =
       rw bad
       (ap placed (judged-in-parts (Before bytes noRoom) (Eleven (alone true (badRecords bytes)) ∷ []) v ∙ ap (followed First) (code-at-0 (badRecords bytes) v)))
 
-  known-lines : badSpeed code ≡ false → speedLines bytes noRoom code ≡ poolLines bytes noRoom
+  known-lines : badCode lastSpeed code ≡ false → speedLines bytes noRoom code ≡ poolLines bytes noRoom
   unfolding badRecords
   known-lines good = rw (good, no-code)
 
   module _ (number : Float) where
-    pub known-speed : (s : Speed) → badSpeed code ≡ false → s ≡ speedAt code number → accepted s ≡ speedFor bytes noRoom code number
+    pub known-speed : (s : Speed) → badCode lastSpeed code ≡ false → s ≡ speedAt code number → accepted s ≡ speedFor bytes noRoom code number
     unfolding speedFor
     known-speed s good e = rw good (ap accepted e)
 
-    module _ (bad : badSpeed code ≡ true) where
+    module _ (bad : badCode lastSpeed code ≡ true) where
       unknown-speed : Unknown First ≡ speedFor bytes noRoom code number
       unfolding speedFor
       unknown-speed =
@@ -122,7 +110,7 @@ module _ (bytes : List ℕ) (noRoom : Bool) (code : ℕ) where
       module _ (j q : ℕ) (eleven : j ≡ 11) (first : q ≡ 0) where
         pub before-records : (k p : ℕ) → refused k p ≡ placed (verdict (poolLines bytes noRoom)) → k ≡ 11 → refused j q ≡ speedFor bytes noRoom code number
         before-records k p e h =
-            rw (eleven, first) (code-before First Records (lower (Before bytes noRoom) (before-lower bytes noRoom)) k p (e ∙ ap placed pool-in-parts) h ∙ unknown-speed)
+            rw (eleven, first) (code-before First Records (before-lower bytes noRoom) k p (e ∙ ap placed pool-in-parts) h ∙ unknown-speed)
 
         pub nothing-else : accepted tt ≡ placed (verdict (poolLines bytes noRoom)) → refused j q ≡ speedFor bytes noRoom code number
         nothing-else e = rw (eleven, first) (code-only First Records (e ∙ ap placed pool-in-parts) ∙ unknown-speed)
@@ -130,12 +118,12 @@ module _ (bytes : List ℕ) (noRoom : Bool) (code : ℕ) where
     -- ---- whatever the code: a pool that is asked with a speed is judged by the lines that both meet
     pub by-the-table : {Value : Type 0} (v : Speed → Value)
         → andThen (speedFor bytes noRoom code number) (λ (s : Speed). placed (judged (poolLines bytes noRoom) (v s))) ≡ placed (judged (speedLines bytes noRoom code) (v (speedAt code number)))
-    by-the-table {Value} v = go (badSpeed code) refl
+    by-the-table {Value} v = go (badCode lastSpeed code) refl
       where
         asked : Speed → Outcome Value
         asked s = placed (judged (poolLines bytes noRoom) (v s))
 
-        go : (b : Bool) → badSpeed code ≡ b → andThen (speedFor bytes noRoom code number) asked ≡ placed (judged (speedLines bytes noRoom code) (v (speedAt code number)))
+        go : (b : Bool) → badCode lastSpeed code ≡ b → andThen (speedFor bytes noRoom code number) asked ≡ placed (judged (speedLines bytes noRoom code) (v (speedAt code number)))
         go true bad =
             ap (λ (o : Outcome Speed). andThen o asked) (sym (unknown-speed bad))
             ∙ still-refused asked First ∙ sym (unknown-lines (v (speedAt code number)) bad)

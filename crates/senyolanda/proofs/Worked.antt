@@ -2,16 +2,19 @@
 -- listing; so is its text. Assumes nothing.
 use mathlib.Core.Path.{_≡_, refl}
 use mathlib.Core.List.{List, [], _∷_, _++_, map}
-use Prim.Native.Nat.{ℕ}
+use Prim.Native.Nat.{ℕ, _-_, _*_}
 use lib.ListN.{replicate}
 use lib.Ieee.{Float, nan, binary64, add, sub, mul, div, lt, eq, ofInt, ofBits, toBits}
 use Rattle.refusals.specs.Outcome.{accepted, firstOr, judged}
 use Rattle.refusals.specs.Table.{badAmount, badTerm, noRoom, pastEnd, badRecord}
 use Rattle.records.specs.Bytes.{valueOf, bytesOf, wholeAt, floatAt, wholeBytes, floatBytes}
-use Rattle.records.specs.Kinds.{termsIn, readTerms, rowBytes, rowIn}
+use Rattle.records.specs.Kinds.{termsIn, readTerms, rowSize, rowBytes, rowIn}
 use Rattle.mortgage.specs.Payment.{monthlyRate, payment, loanOf, openedWith, opened}
-use Rattle.mortgage.specs.RowRule.{endMonth, due, last, interestOf, principalOf, paymentOf, newBalance, rowOf, nextOf}
-use Rattle.mortgage.specs.Steps.{stepped, written}
+use Rattle.mortgage.specs.Month.{endMonth, due, last, rowOf, nextOf}
+use Rattle.mortgage.specs.RowRule.{interestOf, principalOf, paymentOf, leftOf}
+use Rattle.steps.specs.Steps.{pieces, stepped}
+use Rattle.steps.specs.Calls.{filed as all-filed, left}
+use Rattle.mortgage.specs.Row.{width}
 use Rattle.mortgage.specs.Rows.{nextRow}
 use Rattle.mortgage.specs.Draws.{portion, drawn, filled}
 use Rattle.mortgage.specs.Demand3.{Repaid}
@@ -27,24 +30,24 @@ bytes = 1 ∷ 0 ∷ 0 ∷ 0 ∷ 0 ∷ 0 ∷ 192 ∷ 146 ∷ 64 ∷ 0 ∷ 0 ∷ 0
 
 -- what stood in the places does not matter
 abbrev before : Kept
-before = (7, nan, nan, 7, nan)
+before = (7 ∷ 7 ∷ [], nan ∷ nan ∷ nan ∷ [])
 
 abbrev number : ℕ → Float
 number = ofBits binary64
 
--- term, rate, payment, months done, balance
+-- term and months done; rate, payment and balance
 abbrev loan : Kept
-loan = (3, number 0, number 0x4079_0000_0000_0000, 0, number 0x4092_c000_0000_0000)
+loan = (3 ∷ 0 ∷ [], number 0 ∷ number 0x4079_0000_0000_0000 ∷ number 0x4092_c000_0000_0000 ∷ [])
 
 abbrev calls : List Call
-calls = next-row (replicate 37 255) 9 9 ∷ draw (replicate 4 nan) 9 9 ∷ draw (replicate 10 nan) 9 9 ∷ []
+calls = next-row (replicate rowSize 255) 9 9 ∷ draw (replicate (width - 1) nan) 9 9 ∷ draw (replicate (2 * width) nan) 9 9 ∷ []
 
 pub opens : openAnswer bytes before ≡ (0, loan)
 unfolding told readTerms badRecord termsIn floatAt wholeAt valueOf judged firstOr opened openedWith badAmount badTerm loanOf payment monthlyRate eq div lt ofInt ofBits
 opens = refl
 
 pub to-the-end : due (inHand (kept loan calls)) ≡ 0
-unfolding kept keptAfter told nextRow drawn judged firstOr badTerm noRoom pastEnd portion due endMonth stepped nextOf
+unfolding left keptAfter told nextRow drawn judged firstOr badTerm noRoom pastEnd portion due endMonth stepped nextOf
 to-the-end = refl
 
 -- "1 4079000000000000 4079000000000000 0000000000000000 4089000000000000", and so on, with the month as a number
@@ -52,7 +55,7 @@ pub listing : filed loan calls ≡ map number
     (0x3ff0_0000_0000_0000 ∷ 0x4079_0000_0000_0000 ∷ 0x4079_0000_0000_0000 ∷ 0 ∷ 0x4089_0000_0000_0000
     ∷ 0x4000_0000_0000_0000 ∷ 0x4079_0000_0000_0000 ∷ 0x4079_0000_0000_0000 ∷ 0 ∷ 0x4079_0000_0000_0000
     ∷ 0x4008_0000_0000_0000 ∷ 0x4079_0000_0000_0000 ∷ 0x4079_0000_0000_0000 ∷ 0 ∷ 0 ∷ [])
-unfolding filed files keptAfter told nextRow rowBytes rowIn wholeBytes floatBytes bytesOf wholeAt floatAt valueOf toBits filled drawn judged firstOr badTerm noRoom pastEnd portion due endMonth stepped written rowOf nextOf newBalance paymentOf principalOf interestOf last monthlyRate add sub mul div lt ofInt ofBits
+unfolding all-filed files keptAfter told nextRow rowBytes rowIn wholeBytes floatBytes bytesOf wholeAt floatAt valueOf toBits filled drawn judged firstOr badTerm noRoom pastEnd portion due endMonth stepped pieces rowOf nextOf leftOf paymentOf principalOf interestOf last monthlyRate add sub mul div lt ofInt ofBits
 listing = refl
 
 -- ---- the same as text
@@ -74,7 +77,7 @@ text = header
     ++ 114 ∷ 111 ∷ 119 ∷ 115 ∷ 32 ∷ 51 ∷ 32 ∷ 108 ∷ 101 ∷ 102 ∷ 116 ∷ 32 ∷ 48 ∷ 10 ∷ []
 
 listed-text : listed bytes ≡ accepted text
-unfolding listed loanLines rowLine footer spacedOf decimal decimalDigits hexDigits toBits readTerms badRecord termsIn floatAt wholeAt valueOf judged firstOr opened openedWith badAmount badTerm loanOf payment monthlyRate due endMonth stepped written rowOf nextOf newBalance paymentOf principalOf interestOf last add sub mul div lt eq ofInt ofBits
+unfolding listed loanLines rowLine footer spacedOf decimal decimalDigits hexDigits toBits readTerms badRecord termsIn floatAt wholeAt valueOf judged firstOr opened openedWith badAmount badTerm loanOf payment monthlyRate due endMonth stepped pieces rowOf nextOf leftOf paymentOf principalOf interestOf last add sub mul div lt eq ofInt ofBits
 listed-text = refl
 
 -- 265 bytes at the start of what was lent, and the bytes behind them as they were

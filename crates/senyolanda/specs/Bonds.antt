@@ -3,13 +3,13 @@ use Prim.Native.Nat.{ℕ}
 use mathlib.Core.List.{List}
 use lib.Ieee.{Float}
 use Rattle.refusals.specs.Outcome.{Outcome, refused, accepted, Line, andThen, judged}
-use Rattle.refusals.specs.Table.{badTime}
+use Rattle.refusals.specs.Table.{badTime, badCode}
 use Rattle.records.specs.declared.BondRecord.{BondRecord}
-use Rattle.records.specs.Kinds.{bondFields}
+use Rattle.records.specs.Kinds.{readBondUncoded}
 use Rattle.bond.specs.declared.Bond.{Bond}
 use Rattle.bond.specs.declared.Frequency.{Frequency}
 use Rattle.bond.specs.Bonds.{periodsPerYear, numberLines}
-use Rattle.bond.specs.Codes.{frequencyAt, badCode, frequencyOf}
+use Rattle.bond.specs.Codes.{lastCode, frequencyAt, frequencyOf}
 use Rattle.senyolanda.specs.declared.bonds.BondIn.{BondIn}
 use Rattle.senyolanda.specs.declared.bonds.BondIn.the-variants as bond-is
 use Rattle.senyolanda.specs.Told.{coded}
@@ -27,8 +27,8 @@ uncodedLines b beside = numberLines (b .face) (badTime (b .maturity)) (b .coupon
 -- the bond of a record that has one number beside it, a yield or a market price
 unfoldable pub bondRead : List ℕ → Float → Outcome Bond
 bondRead bytes beside =
-    andThen (bondFields bytes)
-    (λ (b : BondRecord). coded (badCode (b .frequency)) (judged (uncodedLines b beside) tt) (bondOf b))
+    andThen (readBondUncoded bytes)
+    (λ (b : BondRecord). coded (badCode lastCode (b .frequency)) (judged (uncodedLines b beside) tt) (bondOf b))
 
 -- what is asked of it
 abbrev pub ofBond : List ℕ → Float → (Bond → Outcome Float) → Outcome Float

@@ -1,31 +1,32 @@
--- A loan as a host works with it: opened from a record's bytes, then drawn and asked for its next row in any mix, each call handed the months done and the balance that the call
+-- A loan as a host works with it: opened from a record's bytes, then drawn and asked for its next row in any mix, each call handed the counts and the amounts that the call
 -- before handed back. What a call answers is what its function promises: the result, and what the lent places hold after it. Definitions only. Assumes nothing.
 use mathlib.Core.Path.{_≡_}
 use mathlib.Core.Bool.{cond}
-use mathlib.Core.List.{List, [], _∷_, _++_}
+use mathlib.Core.List.{List}
 use Prim.Native.Nat.{ℕ, _*_}
 use lib.Dec.{eqb}
 use lib.ListN.{take}
 use lib.Ieee.{Float}
 use Rattle.refusals.specs.Outcome.{andThen}
+use Rattle.steps.specs.Calls as calls
 use Rattle.records.specs.declared.Terms.{Terms}
 use Rattle.records.specs.Kinds.{readTerms, rowIn}
 use Rattle.mortgage.specs.declared.Loan.{Loan}
 use Rattle.mortgage.specs.Payment.{opened, openedWith}
 use Rattle.mortgage.specs.Row.{width, places}
-use Rattle.mortgage.specs.RowRule.{due}
+use Rattle.mortgage.specs.Month.{due}
 use Rattle.mortgage.specs.Rows.{rows, nextRow}
 use Rattle.mortgage.specs.Draws.{drawn, filled}
 use Rattle.mortgage.specs.Demand3.{Repaid}
 use Rattle.senyolanda.specs.Told.{told}
-use Rattle.senyolanda.specs.Loans.{loanOf, loanNumbers, portionNumbers, nextNumbers}
+use Rattle.senyolanda.specs.Loans.{loanIn, loanNumbers, portionNumbers, nextNumbers}
 
--- ---- the numbers that a host keeps of a loan: term, rate, payment, months done, balance
+-- ---- what a host keeps of a loan: its counts and its amounts
 abbrev pub Kept : Type 0
-Kept = ℕ × Float × Float × ℕ × Float
+Kept = List ℕ × List Float
 
 abbrev pub inHand : Kept → Loan
-inHand k = loanOf (k .0) (k .1) (k .2) (k .3) (k .4)
+inHand k = loanIn (k .0) (k .1)
 
 -- ---- what each function answers, by what stood in the places before it
 abbrev pub openAnswer : List ℕ → Kept → ℕ × Kept
@@ -34,13 +35,13 @@ openAnswer bytes before = told loanNumbers (andThen (readTerms bytes) opened) be
 abbrev pub openWithAnswer : List ℕ → Float → Kept → ℕ × Kept
 openWithAnswer bytes payment before = told loanNumbers (andThen (readTerms bytes) (λ (t : Terms). openedWith t payment)) before
 
--- months done, balance, rows written, rows owed
-abbrev pub drawAnswer : Kept → List Float → ℕ → ℕ → ℕ × (ℕ × Float × ℕ × ℕ)
-drawAnswer k room written owed = told portionNumbers (drawn (inHand k) room) (k .3, k .4, written, owed)
+-- the loan's counts and amounts, rows written, rows owed
+abbrev pub drawAnswer : Kept → List Float → ℕ → ℕ → ℕ × (List ℕ × List Float × ℕ × ℕ)
+drawAnswer k room written owed = told portionNumbers (drawn (inHand k) room) (k .0, k .1, written, owed)
 
--- months done, balance, the row's record, rows written, rows owed
-abbrev pub nextAnswer : Kept → List ℕ → ℕ → ℕ → ℕ × (ℕ × Float × List ℕ × ℕ × ℕ)
-nextAnswer k bytes written owed = told (nextNumbers (inHand k) bytes) (nextRow (inHand k)) (k .3, k .4, bytes, written, owed)
+-- the loan's counts and amounts, the row's record, rows written, rows owed
+abbrev pub nextAnswer : Kept → List ℕ → ℕ → ℕ → ℕ × (List ℕ × List Float × List ℕ × ℕ × ℕ)
+nextAnswer k bytes written owed = told (nextNumbers (k .0) (k .1) bytes) (nextRow (inHand k)) (k .0, k .1, bytes, written, owed)
 
 -- ---- a call: the room or the record that is lent, and what stands where it will say how many rows it wrote and how many are owed
 pub data Call : Type 0 where
@@ -58,19 +59,17 @@ files k (draw room written owed) =
 files k (next-row bytes written owed) =
     take (rowsSaid (nextAnswer k bytes written owed .0) (nextAnswer k bytes written owed .1 .3) * width) (places (rowIn (nextAnswer k bytes written owed .1 .2)))
 
--- and what it keeps: the months done and the balance that are handed back
+-- and what it keeps: the loan that is handed back
 unfoldable pub keptAfter : Kept → Call → Kept
-keptAfter k (draw room written owed) = (k .0, k .1, k .2, drawAnswer k room written owed .1 .0, drawAnswer k room written owed .1 .1)
-keptAfter k (next-row bytes written owed) = (k .0, k .1, k .2, nextAnswer k bytes written owed .1 .0, nextAnswer k bytes written owed .1 .1)
+keptAfter k (draw room written owed) = (drawAnswer k room written owed .1 .0, drawAnswer k room written owed .1 .1)
+keptAfter k (next-row bytes written owed) = (nextAnswer k bytes written owed .1 .0, nextAnswer k bytes written owed .1 .1)
 
--- ---- calls one after the other
-unfoldable pub filed : Kept → List Call → List Float
-filed k [] = []
-filed k (c ∷ calls) = files k c ++ filed (keptAfter k c) calls
+-- ---- calls one after the other: what they file, and what the host keeps after them
+abbrev pub filed : Kept → List Call → List Float
+filed = calls.filed files keptAfter
 
-unfoldable pub kept : Kept → List Call → Kept
-kept k [] = k
-kept k (c ∷ calls) = kept (keptAfter k c) calls
+abbrev pub kept : Kept → List Call → Kept
+kept = calls.left keptAfter
 
 -- ---- demand 3 at the door: where an opening's result is 0, whatever calls go on to the loan's end file just its rows by the row rule, and these repay it
 abbrev pub RepaysOnceOpen : Terms → ℕ × Kept → Type 0

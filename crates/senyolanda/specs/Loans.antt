@@ -1,7 +1,8 @@
--- Loans as a host holds them: terms as a record, the loan in hand as plain numbers. Definitions only. Assumes nothing.
+-- Loans as a host holds them: terms as a record, the loan in hand as two arrays. Definitions only. Assumes nothing.
 use Prim.Native.Nat.{ℕ}
-use mathlib.Core.List.{List}
-use lib.Ieee.{Float}
+use mathlib.Core.List.{List, [], _∷_}
+use lib.ListN.{getD}
+use lib.Ieee.{Float, nan}
 use Rattle.refusals.specs.Outcome.{Outcome, refused, accepted, andThen}
 use Rattle.records.specs.declared.Row.{Row}
 use Rattle.records.specs.declared.Terms.{Terms}
@@ -9,25 +10,31 @@ use Rattle.records.specs.Kinds.{readTerms, rowBytes}
 use Rattle.mortgage.specs.declared.Loan.{Loan}
 use Rattle.mortgage.specs.declared.draws.Portion.{Portion}
 use Rattle.mortgage.specs.declared.savings.Savings.{Savings}
-use Rattle.mortgage.specs.RowRule.{due}
+use Rattle.mortgage.specs.Month.{due}
 use Rattle.mortgage.specs.Rows.{NextRow, finished, next}
 use Rattle.mortgage.specs.BreakEven.{refinanceBreakeven}
 
--- ---- the loan in hand: term, rate, payment, months done, balance
-abbrev pub loanOf : ℕ → Float → Float → ℕ → Float → Loan
-loanOf term rate payment done balance = record { term = term; rate = rate; payment = payment; done = done; balance = balance }
+-- ---- the loan in hand as a host keeps it: its counts (term, months done) and its amounts (rate, payment, balance)
+abbrev pub countsOf : Loan → List ℕ
+countsOf l = l .term ∷ l .done ∷ []
 
-abbrev pub loanNumbers : Loan → ℕ × Float × Float × ℕ × Float
-loanNumbers l = (l .term, l .rate, l .payment, l .done, l .balance)
+abbrev pub amountsOf : Loan → List Float
+amountsOf l = l .rate ∷ l .payment ∷ l .balance ∷ []
 
--- ---- what a draw hands back: months done, balance, rows written, rows owed
-abbrev pub portionNumbers : Portion → ℕ × Float × ℕ × ℕ
-portionNumbers p = (p .loan .done, p .loan .balance, p .written, p .owed)
+abbrev pub loanIn : List ℕ → List Float → Loan
+loanIn counts amounts = record { term = getD counts 0 0; done = getD counts 1 0; rate = getD amounts 0 nan; payment = getD amounts 1 nan; balance = getD amounts 2 nan }
 
--- ---- the next row alone: months done, balance, the row's record, rows written, rows owed. A finished loan leaves the first three.
-abbrev pub nextNumbers : Loan → List ℕ → NextRow → ℕ × Float × List ℕ × ℕ × ℕ
-nextNumbers l before finished = (l .done, l .balance, before, 0, 0)
-nextNumbers l before (next row m) = (m .done, m .balance, rowBytes row, 1, due m)
+abbrev pub loanNumbers : Loan → List ℕ × List Float
+loanNumbers l = (countsOf l, amountsOf l)
+
+-- ---- what a draw hands back: the loan, rows written, rows owed
+abbrev pub portionNumbers : Portion → List ℕ × List Float × ℕ × ℕ
+portionNumbers p = (countsOf (p .loan), amountsOf (p .loan), p .written, p .owed)
+
+-- ---- the next row alone: the loan, the row's record, rows written, rows owed. A finished loan leaves the loan and the record.
+abbrev pub nextNumbers : List ℕ → List Float → List ℕ → NextRow → List ℕ × List Float × List ℕ × ℕ × ℕ
+nextNumbers counts amounts before finished = (counts, amounts, before, 0, 0)
+nextNumbers counts amounts before (next row m) = (countsOf m, amountsOf m, rowBytes row, 1, due m)
 
 abbrev pub savingsNumbers : Savings → ℕ × Float
 savingsNumbers s = (s .months, s .interest)

@@ -2,10 +2,11 @@
 use Prim.Native.Nat.{ℕ}
 use mathlib.Core.Bool.{Bool, cond}
 use mathlib.Core.List.{List, [], _∷_, _++_}
-use lib.Dec.{ltb, eqb}
+use lib.Dec.{eqb}
 use lib.ListN.{length, take}
 use lib.Ieee.{Float}
 use Rattle.refusals.specs.Outcome.{Outcome, refused, accepted, Line, line, alone, andThen, judged}
+use Rattle.refusals.specs.Table.{badCode}
 use Rattle.pool.specs.declared.speed.Speed.{Speed}
 use Rattle.pool.specs.declared.speed.Speed.the-variants.{Cpr, Psa, History}
 use Rattle.pool.specs.declared.totals.Totals.{Totals}
@@ -20,20 +21,20 @@ use Rattle.senyolanda.specs.declared.pools.SpeedIn.the-variants as speed
 unfoldable pub speedAt : ℕ → Float → Speed
 speedAt code number = cond (eqb code 0) (Cpr number) (cond (eqb code 1) (Psa number) History)
 
-unfoldable pub badSpeed : ℕ → Bool
-badSpeed code = ltb 2 code
+abbrev pub lastSpeed : ℕ
+lastSpeed = 2
 
 unfoldable pub speedOf : ℕ → Float → Outcome Speed
-speedOf code number = judged (line 11 (badSpeed code) ∷ []) (speedAt code number)
+speedOf code number = judged (line 11 (badCode lastSpeed code) ∷ []) (speedAt code number)
 
 -- the lines that a pool and a speed code meet: the pool's, and in line 11 the code as a single argument, at 0 and so before a bad record
 abbrev pub speedLines : List ℕ → Bool → ℕ → List Line
-speedLines bytes noRoom code = take 4 (poolLines bytes noRoom) ++ record { number = 11; causes = alone (badSpeed code) (badRecords bytes) } ∷ []
+speedLines bytes noRoom code = take 4 (poolLines bytes noRoom) ++ record { number = 11; causes = alone (badCode lastSpeed code) (badRecords bytes) } ∷ []
 
 -- the speed that a pool is asked with; whether its room is too little is asked where there is room. With a known code the pool's own function judges
 unfoldable pub speedFor : List ℕ → Bool → ℕ → Float → Outcome Speed
 speedFor bytes noRoom code number =
-    cond (badSpeed code) (placed (judged (speedLines bytes noRoom code) (speedAt code number))) (accepted (speedAt code number))
+    cond (badCode lastSpeed code) (placed (judged (speedLines bytes noRoom code) (speedAt code number))) (accepted (speedAt code number))
 
 -- the share that is prepaid in a month
 unfoldable pub smmOf : ℕ → Float → List Float → ℕ → Outcome Float

@@ -5,14 +5,14 @@ use mathlib.Core.List.{List, [], _∷_, _++_}
 use Prim.Native.Nat.{ℕ}
 use lib.Ieee.{Float}
 use Rattle.refusals.specs.Outcome.{Line, line, lineOfTwo}
-use Rattle.refusals.specs.Table.{badRecord}
+use Rattle.refusals.specs.Table.{badRecord, badCode}
 use Rattle.records.specs.Kinds.{termsKind, termsSize, termsIn, bondKind, bondSize, bondIn, swapKind, swapSize, swapIn}
 use Rattle.mortgage.specs.Terms.{termsLines}
 use Rattle.mortgage.specs.BreakEven.{breakEvenLines}
-use Rattle.bond.specs.Codes.{badCode as badFrequencyCode}
-use Rattle.swaps.specs.Codes.{badCode as badDayCount}
+use Rattle.bond.specs.Codes.{lastCode as lastFrequency}
+use Rattle.swaps.specs.Codes.{lastCode as lastDayCount}
 use Rattle.swaps.specs.Swap.{swapLines}
-use Rattle.senyolanda.specs.Bonds.{bondOf, uncodedLines}
+use Rattle.senyolanda.specs.Bonds.{uncodedLines}
 use Rattle.senyolanda.specs.Swaps.{swapOf}
 
 -- 11 and nothing else where the record is bad, else the lines of what it holds
@@ -37,10 +37,10 @@ breakEvenRecordLines old new cost =
 abbrev pub bondRecordLines : List ℕ → Float → List Line → List Line
 bondRecordLines bytes beside lines =
     afterRecord (badRecord bondKind bondSize bytes)
-    (afterCode (badFrequencyCode (bondIn bytes .frequency)) (uncodedLines (bondIn bytes) beside) lines)
+    (afterCode (badCode lastFrequency (bondIn bytes .frequency)) (uncodedLines (bondIn bytes) beside) lines)
 
 -- ---- a swap's record, over a curve
 abbrev pub swapRecordLines : List ℕ → List Float → List Float → List Line
 swapRecordLines bytes tenors zeros =
     afterRecord (badRecord swapKind swapSize bytes)
-    (afterCode (badDayCount (swapIn bytes .count)) (swapLines (swapOf (swapIn bytes)) tenors zeros) (swapLines (swapOf (swapIn bytes)) tenors zeros))
+    (afterCode (badCode lastDayCount (swapIn bytes .count)) (swapLines (swapOf (swapIn bytes)) tenors zeros) (swapLines (swapOf (swapIn bytes)) tenors zeros))

@@ -6,12 +6,13 @@ use lib.Dec.{eqb}
 use lib.ListN.{length, drop}
 use lib.Ieee.{Float}
 use Rattle.refusals.specs.Outcome.{Outcome, refused, accepted, andThen, judged}
+use Rattle.refusals.specs.Table.{badCode}
 use Rattle.records.specs.declared.SwapRecord.{SwapRecord}
-use Rattle.records.specs.Kinds.{swapFields}
+use Rattle.records.specs.Kinds.{readSwapUncoded}
 use Rattle.swaps.specs.declared.Swap.{Swap}
 use Rattle.swaps.specs.declared.day_counts.DayCount.{DayCount}
 use Rattle.swaps.specs.declared.valuation.SwapValuation.{SwapValuation}
-use Rattle.swaps.specs.Codes.{dayCountAt, badCode, dayCountOf}
+use Rattle.swaps.specs.Codes.{lastCode, dayCountAt, dayCountOf}
 use Rattle.swaps.specs.DayCounts.{dayFraction}
 use Rattle.swaps.specs.Swap.{swapLines}
 use Rattle.senyolanda.specs.declared.swap_values.SwapIn.{SwapIn}
@@ -27,8 +28,8 @@ swapOf s = countedBy (dayCountAt (s .count)) s
 -- the swap of a record, over a curve of tenors and zero rates
 unfoldable pub swapRead : List ℕ → List Float → List Float → Outcome Swap
 swapRead bytes tenors zeros =
-    andThen (swapFields bytes)
-    (λ (s : SwapRecord). coded (badCode (s .count)) (judged (swapLines (swapOf s) tenors zeros) tt) (swapOf s))
+    andThen (readSwapUncoded bytes)
+    (λ (s : SwapRecord). coded (badCode lastCode (s .count)) (judged (swapLines (swapOf s) tenors zeros) tt) (swapOf s))
 
 -- what is asked of it
 abbrev pub ofSwap : {A : Type 0} → List ℕ → List Float → List Float → (Swap → Outcome A) → Outcome A

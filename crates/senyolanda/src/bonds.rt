@@ -34,7 +34,7 @@ fn judge_uncoded(fields: BondRecord, beside: f64) -> Verdict
 fn bond_in(bytes: &[u8], beside: f64) -> BondIn
     ensures { λ r. ⌜ bondInOutcome r ≡ bondRead (now (bytes .entry)) beside ⌝ }
 {
-    match records::bond_record::bond_fields(bytes) {
+    match records::bond_record::read_bond_uncoded(bytes) {
         BondRead::Refused(refusal) => BondIn::Refused(refusal),
         BondRead::Given(fields) => match bond::codes::frequency_of(fields.frequency) {
             FrequencyRead::Given(frequency) => BondIn::Given(Bond {

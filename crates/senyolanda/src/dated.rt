@@ -1,8 +1,6 @@
 // Cash flows as one lent list of dated amounts: time, amount, time, amount and so on.
 ghost use mathlib.Core.Path.{_≡_};
-ghost use mathlib.Core.Bool.{cond};
-ghost use Prim.Native.Nat.{_/_, _%_, _≤_};
-ghost use lib.Dec.{ltb};
+ghost use Prim.Native.Nat.{_/_, min};
 ghost use lib.ListN.{length, take};
 ghost use Rattle.spread_analytics.specs.Spread.{pvCashFlows, zSpread, durationConvexity};
 ghost use Rattle.senyolanda.specs.Told.{told, toldNumber};
@@ -12,31 +10,30 @@ use crate::results::put_number;
 use crate::results::refusal_result;
 use crate::spreads::put_sensitivity;
 use crate::spreads::put_spread;
-use spread_analytics::dated::Lists;
 use spread_analytics::units::BasisPoints;
 
-// How many flows so many numbers are: none where there are too many.
-fn taken(count: usize) -> usize
-    ensures { λ r. ⌜ r ≡ cond (ltb 2400 count) 0 (count / 2) ⌝ }
+// How many flows of so many numbers are looked at: one more than there may be shows that there are too many.
+fn looked_at(count: usize) -> usize
+    ensures { λ r. ⌜ r ≡ min (count / 2) 1201 ⌝ }
 {
-    if count > 2400 { 0 } else { count / 2 }
+    if count / 2 < 1201 { count / 2 } else { 1201 }
 }
 
-// The flows in two lists of our own.
-fn parted(flows: &[f64]) -> Lists
-    ensures { λ l. ⌜ (length (l .times) ≡ 1200) × (length (l .amounts) ≡ 1200) ⌝ }
-    ensures { λ l. ⌜ (length (now (flows .entry)) % 2 ≡ 0 → length (now (flows .entry)) ≤ 2400 → (take (length (now (flows .entry)) / 2) (l .times) ≡ timesIn (now (flows .entry))) × (take (length (now (flows .entry)) / 2) (l .amounts) ≡ amountsIn (now (flows .entry)))) ⌝ }
+// The flows in two rooms, times and amounts: how many are looked at.
+fn parted(flows: &[f64], times: &mut [f64], amounts: &mut [f64]) -> usize
+    requires { ⌜ (length (now times) ≡ 1201) × (length (now amounts) ≡ 1201) ⌝ }
+    ensures { λ n. ⌜ n ≡ min (length (now (flows .entry)) / 2) 1201 ⌝ }
+    ensures { λ n. ⌜ take n (now (times .exit)) ≡ take n (timesIn (now (flows .entry))) ⌝ }
+    ensures { λ n. ⌜ take n (now (amounts .exit)) ≡ take n (amountsIn (now (flows .entry))) ⌝ }
 {
-    let n = taken(flows.len());
-    let mut times = [0.0; 1200];
-    let mut amounts = [0.0; 1200];
+    let n = looked_at(flows.len());
     let mut i: usize = 0;
     while i < n {
         times[i] = flows[2 * i];
         amounts[i] = flows[2 * i + 1];
         i += 1;
     }
-    Lists { times, amounts }
+    n
 }
 
 // The present value of flows over a curve and a spread.
@@ -53,11 +50,18 @@ pub extern "C" fn senyolanda_dated_pv(
     if flows.len() % 2 != 0 {
         return refusal_result(refusals::refuse(4));
     }
-    let count = flows.len() / 2;
-    let lists = parted(flows);
+    let mut times = [0.0; 1201];
+    let mut amounts = [0.0; 1201];
+    let count = parted(flows, &mut times, &mut amounts);
     let spread = BasisPoints(points);
     put_number(
-        spread_analytics::dated::pv_of_lists(lists, count, tenors, rates, spread),
+        spread_analytics::spread::pv_cash_flows(
+            &times[..count],
+            &amounts[..count],
+            tenors,
+            rates,
+            spread,
+        ),
         pv,
     )
 }
@@ -77,9 +81,16 @@ pub extern "C" fn senyolanda_dated_z_spread(
     if flows.len() % 2 != 0 {
         return refusal_result(refusals::refuse(4));
     }
-    let count = flows.len() / 2;
-    let lists = parted(flows);
-    let answer = spread_analytics::dated::z_spread_of_lists(lists, count, tenors, rates, market);
+    let mut times = [0.0; 1201];
+    let mut amounts = [0.0; 1201];
+    let count = parted(flows, &mut times, &mut amounts);
+    let answer = spread_analytics::spread::z_spread(
+        &times[..count],
+        &amounts[..count],
+        tenors,
+        rates,
+        market,
+    );
     put_spread(answer, points, found)
 }
 
@@ -97,11 +108,18 @@ pub extern "C" fn senyolanda_dated_duration_convexity(
     if flows.len() % 2 != 0 {
         return refusal_result(refusals::refuse(4));
     }
-    let count = flows.len() / 2;
-    let lists = parted(flows);
+    let mut times = [0.0; 1201];
+    let mut amounts = [0.0; 1201];
+    let count = parted(flows, &mut times, &mut amounts);
     let spread = BasisPoints(points);
     put_sensitivity(
-        spread_analytics::dated::sensitivity_of_lists(lists, count, tenors, rates, spread),
+        spread_analytics::spread::duration_convexity(
+            &times[..count],
+            &amounts[..count],
+            tenors,
+            rates,
+            spread,
+        ),
         sensitivity,
     )
 }

@@ -20,7 +20,7 @@ pub extern "C" fn senyolanda_linear_interpolate_each(
     ensures { λ r. ⌜ (r, tt) ≡ toldNumber (eachOutcome (now (times .entry)) (now (rates .entry)) (now (asked .entry))) tt ⌝ }
     ensures { λ _. ⌜ now (asked .exit) ≡ eachAfter (yieldOf (now (times .entry)) (now (rates .entry))) (now (times .entry)) (now (rates .entry)) (now (asked .entry)) ⌝ }
 {
-    verdict_result(yield_curve::each::rates_at_each(times, rates, asked))
+    verdict_result(yield_curve::each::rate_at_each(times, rates, asked))
 }
 
 // A yield curve's discount factors.
@@ -33,7 +33,7 @@ pub extern "C" fn senyolanda_yield_curve_discount_factor_each(
     ensures { λ r. ⌜ (r, tt) ≡ toldNumber (eachOutcome (now (times .entry)) (now (rates .entry)) (now (asked .entry))) tt ⌝ }
     ensures { λ _. ⌜ now (asked .exit) ≡ eachAfter (yieldDiscountOf (now (times .entry)) (now (rates .entry))) (now (times .entry)) (now (rates .entry)) (now (asked .entry)) ⌝ }
 {
-    verdict_result(yield_curve::each::discount_factors_at_each(times, rates, asked))
+    verdict_result(yield_curve::each::discount_factor_at_each(times, rates, asked))
 }
 
 // A discount curve's zero rates.

@@ -1,4 +1,4 @@
-// Loans: terms come as a kind 1 record, the loan in hand as plain numbers that are handed back.
+// Loans: terms come as a kind 1 record, the loan in hand as two arrays that are handed back.
 ghost use mathlib.Core.Path.{_≡_};
 ghost use Rattle.refusals.specs.Outcome.{andThen};
 ghost use Rattle.records.specs.declared.Terms.{Terms};
@@ -10,7 +10,7 @@ ghost use Rattle.mortgage.specs.Totals.{totalInterest, remainingBalance, loanTo
 ghost use Rattle.mortgage.specs.Savings.{prepaymentSavings, savingsOutcome};
 ghost use Rattle.listing.specs.Listing.{listed, listedSize, linesOver};
 ghost use Rattle.senyolanda.specs.Told.{told, toldNumber};
-ghost use Rattle.senyolanda.specs.Loans.{loanOf, loanNumbers, portionNumbers, nextNumbers, savingsNumbers, breakevenOf};
+ghost use Rattle.senyolanda.specs.Loans.{loanIn, loanNumbers, portionNumbers, nextNumbers, savingsNumbers, breakevenOf};
 use crate::results::ACCEPTED;
 use crate::results::put_count;
 use crate::results::put_number;
@@ -33,25 +33,39 @@ pub extern "C" fn senyolanda_monthly_payment(record: &[u8], payment: &mut f64) -
     }
 }
 
-// The numbers of a loan that was opened.
-fn put_loan(
-    opening: Opening,
-    term: &mut u32,
-    rate: &mut f64,
-    payment: &mut f64,
-    done: &mut u32,
-    balance: &mut f64,
-) -> u64
-    ensures { λ r. ⌜ (r, (now (term .exit), now (rate .exit), now (payment .exit), now (done .exit), now (balance .exit))) ≡ told loanNumbers (openingOutcome opening) (now (term .entry), now (rate .entry), now (payment .entry), now (done .entry), now (balance .entry)) ⌝ }
+// Counts of a loan in hand: term, months done.
+pub const COUNTS: usize = 2;
+
+// Amounts of it: rate, payment, balance.
+pub const AMOUNTS: usize = 3;
+
+fn loan_in(counts: &[u32; COUNTS], amounts: &[f64; AMOUNTS]) -> Loan
+    ensures { λ r. ⌜ r ≡ loanIn (now (counts .entry)) (now (amounts .entry)) ⌝ }
+{
+    Loan {
+        term: counts[0],
+        done: counts[1],
+        rate: amounts[0],
+        payment: amounts[1],
+        balance: amounts[2],
+    }
+}
+
+fn hand_back(loan: Loan, counts: &mut [u32; COUNTS], amounts: &mut [f64; AMOUNTS])
+    ensures { λ _. ⌜ (now (counts .exit), now (amounts .exit)) ≡ loanNumbers loan ⌝ }
+{
+    *counts = [loan.term, loan.done];
+    *amounts = [loan.rate, loan.payment, loan.balance];
+}
+
+// A loan that was opened.
+fn put_loan(opening: Opening, counts: &mut [u32; COUNTS], amounts: &mut [f64; AMOUNTS]) -> u64
+    ensures { λ r. ⌜ (r, (now (counts .exit), now (amounts .exit))) ≡ told loanNumbers (openingOutcome opening) (now (counts .entry), now (amounts .entry)) ⌝ }
 {
     match opening {
         Opening::Refused(refusal) => refusal_result(refusal),
         Opening::Open(loan) => {
-            *term = loan.term;
-            *rate = loan.rate;
-            *payment = loan.payment;
-            *done = loan.done;
-            *balance = loan.balance;
+            hand_back(loan, counts, amounts);
             ACCEPTED
         }
     }
@@ -61,26 +75,14 @@ fn put_loan(
 #[no_mangle]
 pub extern "C" fn senyolanda_open(
     record: &[u8],
-    term: &mut u32,
-    rate: &mut f64,
-    payment: &mut f64,
-    done: &mut u32,
-    balance: &mut f64,
+    counts: &mut [u32; COUNTS],
+    amounts: &mut [f64; AMOUNTS],
 ) -> u64
-    ensures { λ r. ⌜ (r, (now (term .exit), now (rate .exit), now (payment .exit), now (done .exit), now (balance .exit))) ≡ told loanNumbers (andThen (readTerms (now («record» .entry))) opened) (now (term .entry), now (rate .entry), now (payment .entry), now (done .entry), now (balance .entry)) ⌝ }
+    ensures { λ r. ⌜ (r, (now (counts .exit), now (amounts .exit))) ≡ told loanNumbers (andThen (readTerms (now («record» .entry))) opened) (now (counts .entry), now (amounts .entry)) ⌝ }
 {
     match records::terms_record::read_terms(record) {
         TermsRead::Refused(refusal) => refusal_result(refusal),
-        TermsRead::Given(terms) => {
-            put_loan(
-                mortgage::opening::open(terms),
-                term,
-                rate,
-                payment,
-                done,
-                balance,
-            )
-        }
+        TermsRead::Given(terms) => put_loan(mortgage::opening::open(terms), counts, amounts),
     }
 }
 
@@ -89,19 +91,16 @@ pub extern "C" fn senyolanda_open(
 pub extern "C" fn senyolanda_open_with_payment(
     record: &[u8],
     given: f64,
-    term: &mut u32,
-    rate: &mut f64,
-    payment: &mut f64,
-    done: &mut u32,
-    balance: &mut f64,
+    counts: &mut [u32; COUNTS],
+    amounts: &mut [f64; AMOUNTS],
 ) -> u64
-    ensures { λ r. ⌜ (r, (now (term .exit), now (rate .exit), now (payment .exit), now (done .exit), now (balance .exit))) ≡ told loanNumbers (andThen (readTerms (now («record» .entry))) (λ (t : Terms). openedWith t given)) (now (term .entry), now (rate .entry), now (payment .entry), now (done .entry), now (balance .entry)) ⌝ }
+    ensures { λ r. ⌜ (r, (now (counts .exit), now (amounts .exit))) ≡ told loanNumbers (andThen (readTerms (now («record» .entry))) (λ (t : Terms). openedWith t given)) (now (counts .entry), now (amounts .entry)) ⌝ }
 {
     match records::terms_record::read_terms(record) {
         TermsRead::Refused(refusal) => refusal_result(refusal),
         TermsRead::Given(terms) => {
             let opening = mortgage::opening::open_with_payment(terms, given);
-            put_loan(opening, term, rate, payment, done, balance)
+            put_loan(opening, counts, amounts)
         }
     }
 }
@@ -109,19 +108,17 @@ pub extern "C" fn senyolanda_open_with_payment(
 // What a draw hands back.
 fn put_portion(
     drawing: Drawing,
-    done: &mut u32,
-    balance: &mut f64,
+    counts: &mut [u32; COUNTS],
+    amounts: &mut [f64; AMOUNTS],
     written: &mut u32,
     owed: &mut u32,
 ) -> u64
-    ensures { λ r. ⌜ (r, (now (done .exit), now (balance .exit), now (written .exit), now (owed .exit))) ≡ told portionNumbers (drawingOutcome drawing) (now (done .entry), now (balance .entry), now (written .entry), now (owed .entry)) ⌝ }
+    ensures { λ r. ⌜ (r, (now (counts .exit), now (amounts .exit), now (written .exit), now (owed .exit))) ≡ told portionNumbers (drawingOutcome drawing) (now (counts .entry), now (amounts .entry), now (written .entry), now (owed .entry)) ⌝ }
 {
     match drawing {
         Drawing::Refused(refusal) => refusal_result(refusal),
         Drawing::Drawn(portion) => {
-            let loan = portion.loan;
-            *done = loan.done;
-            *balance = loan.balance;
+            hand_back(portion.loan, counts, amounts);
             *written = portion.written;
             *owed = portion.owed;
             ACCEPTED
@@ -129,58 +126,34 @@ fn put_portion(
     }
 }
 
-// Writes as many rows of five numbers as the room holds and the term still owes.
+// Writes as many rows as the room holds and the term still owes.
 #[no_mangle]
 pub extern "C" fn senyolanda_draw(
-    term: u32,
-    rate: f64,
-    payment: f64,
-    done: &mut u32,
-    balance: &mut f64,
+    counts: &mut [u32; COUNTS],
+    amounts: &mut [f64; AMOUNTS],
     room: &mut [f64],
     written: &mut u32,
     owed: &mut u32,
 ) -> u64
-    ensures { λ r. ⌜ (r, (now (done .exit), now (balance .exit), now (written .exit), now (owed .exit))) ≡ told portionNumbers (drawn (loanOf term rate payment (now (done .entry)) (now (balance .entry))) (now (room .entry))) (now (done .entry), now (balance .entry), now (written .entry), now (owed .entry)) ⌝ }
-    ensures { λ _. ⌜ now (room .exit) ≡ filled (loanOf term rate payment (now (done .entry)) (now (balance .entry))) (now (room .entry)) ⌝ }
+    ensures { λ r. ⌜ (r, (now (counts .exit), now (amounts .exit), now (written .exit), now (owed .exit))) ≡ told portionNumbers (drawn (loanIn (now (counts .entry)) (now (amounts .entry))) (now (room .entry))) (now (counts .entry), now (amounts .entry), now (written .entry), now (owed .entry)) ⌝ }
+    ensures { λ _. ⌜ now (room .exit) ≡ filled (loanIn (now (counts .entry)) (now (amounts .entry))) (now (room .entry)) ⌝ }
 {
-    let loan = Loan {
-        term,
-        rate,
-        payment,
-        done: *done,
-        balance: *balance,
-    };
-    put_portion(
-        mortgage::draws::draw(loan, room),
-        done,
-        balance,
-        written,
-        owed,
-    )
+    let drawing = mortgage::draws::draw(loan_in(counts, amounts), room);
+    put_portion(drawing, counts, amounts, written, owed)
 }
 
 // Writes the next row alone, as a kind 3 record.
 #[no_mangle]
 pub extern "C" fn senyolanda_next_row(
-    term: u32,
-    rate: f64,
-    payment: f64,
-    done: &mut u32,
-    balance: &mut f64,
-    record: &mut [u8; 37],
+    counts: &mut [u32; COUNTS],
+    amounts: &mut [f64; AMOUNTS],
+    record: &mut [u8; records::row_record::ROW_SIZE],
     written: &mut u32,
     owed: &mut u32,
 ) -> u64
-    ensures { λ r. ⌜ (r, (now (done .exit), now (balance .exit), now («record» .exit), now (written .exit), now (owed .exit))) ≡ told (nextNumbers (loanOf term rate payment (now (done .entry)) (now (balance .entry))) (now («record» .entry))) (nextRow (loanOf term rate payment (now (done .entry)) (now (balance .entry)))) (now (done .entry), now (balance .entry), now («record» .entry), now (written .entry), now (owed .entry)) ⌝ }
+    ensures { λ r. ⌜ (r, (now (counts .exit), now (amounts .exit), now («record» .exit), now (written .exit), now (owed .exit))) ≡ told (nextNumbers (now (counts .entry)) (now (amounts .entry)) (now («record» .entry))) (nextRow (loanIn (now (counts .entry)) (now (amounts .entry)))) (now (counts .entry), now (amounts .entry), now («record» .entry), now (written .entry), now (owed .entry)) ⌝ }
 {
-    let loan = Loan {
-        term,
-        rate,
-        payment,
-        done: *done,
-        balance: *balance,
-    };
+    let loan = loan_in(counts, amounts);
     match mortgage::rows::next_row(loan) {
         Next::Refused(refusal) => refusal_result(refusal),
         Next::Finished => {
@@ -190,8 +163,7 @@ pub extern "C" fn senyolanda_next_row(
         }
         Next::Due(row, next) => {
             records::row_record::write_row(row, record);
-            *done = next.done;
-            *balance = next.balance;
+            hand_back(next, counts, amounts);
             *written = 1;
             *owed = mortgage::rows::rows_due(next);
             ACCEPTED

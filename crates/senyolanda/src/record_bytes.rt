@@ -2,7 +2,8 @@
 ghost use mathlib.Core.Path.{_≡_};
 ghost use mathlib.Core.List.{[], _∷_};
 ghost use Rattle.refusals.specs.Outcome.{line, judged};
-ghost use Rattle.records.specs.Kinds.{readTerms, termsBytes, readBond, bondBytes, badCode, readRow, rowBytes, readSwap, swapBytes};
+ghost use Rattle.refusals.specs.Table.{badCode};
+ghost use Rattle.records.specs.Kinds.{readTerms, termsBytes, readBond, bondBytes, readRow, rowBytes, readSwap, swapBytes};
 ghost use Rattle.senyolanda.specs.Told.{always, told};
 ghost use Rattle.senyolanda.specs.Loans.{termsNumbers, rowNumbers};
 ghost use Rattle.senyolanda.specs.Bonds.{bondNumbers};
@@ -43,7 +44,7 @@ pub extern "C" fn senyolanda_write_loan(
     principal: f64,
     rate: f64,
     term: u32,
-    record: &mut [u8; 21],
+    record: &mut [u8; records::terms_record::TERMS_SIZE],
 ) -> u64
     ensures { λ r. ⌜ (r, now («record» .exit)) ≡ always (termsBytes (record { principal = principal; rate = rate; term = term })) ⌝ }
 {
@@ -85,7 +86,7 @@ pub extern "C" fn senyolanda_write_bond(
     coupon: f64,
     maturity: f64,
     frequency: u32,
-    record: &mut [u8; 26],
+    record: &mut [u8; records::bond_record::BOND_SIZE],
 ) -> u64
     ensures { λ r. ⌜ (r, now («record» .exit)) ≡ told bondBytes (judged (line 11 (badCode 3 frequency) ∷ []) (record { face = face; coupon = coupon; maturity = maturity; frequency = frequency })) (now («record» .entry)) ⌝ }
 {
@@ -133,7 +134,7 @@ pub extern "C" fn senyolanda_write_row(
     principal: f64,
     interest: f64,
     balance: f64,
-    record: &mut [u8; 37],
+    record: &mut [u8; records::row_record::ROW_SIZE],
 ) -> u64
     ensures { λ r. ⌜ (r, now («record» .exit)) ≡ always (rowBytes (record { month = month; payment = payment; principal = principal; interest = interest; balance = balance })) ⌝ }
 {
@@ -180,7 +181,7 @@ pub extern "C" fn senyolanda_write_swap(
     tenor: f64,
     frequency: u32,
     day_count: u32,
-    record: &mut [u8; 30],
+    record: &mut [u8; records::swap_record::SWAP_SIZE],
 ) -> u64
     ensures { λ r. ⌜ (r, now («record» .exit)) ≡ told swapBytes (judged (line 11 (badCode 2 «day_count») ∷ []) (record { notional = notional; rate = rate; tenor = tenor; frequency = frequency; count = «day_count» })) (now («record» .entry)) ⌝ }
 {

@@ -1,6 +1,6 @@
 // Spreads: curves of rates, cash flows as two lists, spreads in basis points.
 ghost use mathlib.Core.Path.{_≡_};
-ghost use Rattle.spread_analytics.specs.Units.{decimal};
+ghost use Rattle.spread_analytics.specs.Units.{asDecimal};
 ghost use Rattle.spread_analytics.specs.Curves.{rateAt, discountFactor, forwardRate};
 ghost use Rattle.spread_analytics.specs.Flows.{bondCashFlows, flowTime, flowAmount, columnIn};
 ghost use Rattle.spread_analytics.specs.Spread.{pvCashFlows, zSpread, durationConvexity, spreadOutcome, sensitivityOutcome};
@@ -17,7 +17,7 @@ use spread_analytics::units::BasisPoints;
 // So many basis points, as a decimal rate.
 #[no_mangle]
 pub extern "C" fn senyolanda_points_to_decimal(points: f64, rate: &mut f64) -> u64
-    ensures { λ r. ⌜ (r, now (rate .exit)) ≡ always (decimal points) ⌝ }
+    ensures { λ r. ⌜ (r, now (rate .exit)) ≡ always (asDecimal points) ⌝ }
 {
     *rate = spread_analytics::units::to_decimal(BasisPoints(points)).0;
     ACCEPTED

@@ -42,7 +42,7 @@ fn counted_by(day_count: DayCount, fields: SwapRecord) -> Swap
 fn swap_in(bytes: &[u8], tenors: &[f64], zeros: &[f64]) -> SwapIn
     ensures { λ r. ⌜ swapInOutcome r ≡ swapRead (now (bytes .entry)) (now (tenors .entry)) (now (zeros .entry)) ⌝ }
 {
-    match records::swap_record::swap_fields(bytes) {
+    match records::swap_record::read_swap_uncoded(bytes) {
         SwapRead::Refused(refusal) => SwapIn::Refused(refusal),
         SwapRead::Given(fields) => match swaps::day_counts::day_count_of(fields.count) {
             DayCountRead::Given(day_count) => SwapIn::Given(counted_by(day_count, fields)),

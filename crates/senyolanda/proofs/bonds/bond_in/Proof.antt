@@ -11,8 +11,8 @@ use borrow.Author.Needs.{needs}
 use Rattle.senyolanda.proofs.bonds.bond_in.Statement.{statement}
 use Rattle.senyolanda.proofs.bonds.bond_in.Tie as tie
 
-bond-fields-requires : tie.Need-bond-fields-requires
-bond-fields-requires c κs = search needs
+read-bond-uncoded-requires : tie.Need-read-bond-uncoded-requires
+read-bond-uncoded-requires c κs = search needs
 
 enum-known-refusal : tie.Need-enum-known-refusal
 enum-known-refusal c = search needs
@@ -40,7 +40,7 @@ enum-told c = search needs
 
 returns : tie.Need-returns
 unfolding bondRead
-returns c = unread _ _ _ _ (sym (ap bondOutcome (c .before .refusal .given .1)) ∙ c .before .before .before .bond-fields .ensures)
+returns c = unread _ _ _ _ (sym (ap bondOutcome (c .before .refusal .given .1)) ∙ c .before .before .before .read-bond-uncoded .ensures)
 
 returns-2 : tie.Need-returns-2
 unfolding bondRead frequencyOf
@@ -49,7 +49,7 @@ returns-2 c =
     let r = f .before .before in
     let set = in-set _ _ _ (sym (ap frequencyOutcome (c .before .frequency .given .1)) ∙ f .frequency-of .ensures) in
     let b = r .fields .given .0 .0 in
-    read-so _ _ _ _ (sym (ap bondOutcome (r .fields .given .1)) ∙ r .before .before .bond-fields .ensures)
+    read-so _ _ _ _ (sym (ap bondOutcome (r .fields .given .1)) ∙ r .before .before .read-bond-uncoded .ensures)
     (known _ (judged (uncodedLines b (r .before .before .before .before .args .beside)) tt) _ _ (set .0) (ap (λ (f : Frequency). paidEach f b) (set .1)))
 
 returns-3 : tie.Need-returns-3
@@ -58,7 +58,7 @@ returns-3 c =
     let f = c .before .before .before .before .before .before .before in
     let r = f .before .before in
     let set = out-of-set _ _ _ _ (sym (ap frequencyOutcome (c .before .before .before .before .before .unknown .given .1)) ∙ f .frequency-of .ensures) in
-    read-so _ _ _ _ (sym (ap bondOutcome (r .fields .given .1)) ∙ r .before .before .bond-fields .ensures)
+    read-so _ _ _ _ (sym (ap bondOutcome (r .fields .given .1)) ∙ r .before .before .read-bond-uncoded .ensures)
     (others-first _ _ _ _ _ (set .0) (sym (ap verdictOutcome (c .before .refusal2 .given .1)) ∙ c .before .before .before .judge-uncoded .ensures))
 
 returns-4 : tie.Need-returns-4
@@ -67,14 +67,14 @@ returns-4 c =
     let f = c .before .before .before .before .before .before in
     let r = f .before .before in
     let set = out-of-set _ _ _ _ (sym (ap frequencyOutcome (c .before .before .before .before .unknown .given .1)) ∙ f .frequency-of .ensures) in
-    read-so _ _ _ _ (sym (ap bondOutcome (r .fields .given .1)) ∙ r .before .before .bond-fields .ensures)
+    read-so _ _ _ _ (sym (ap bondOutcome (r .fields .given .1)) ∙ r .before .before .read-bond-uncoded .ensures)
     (unknown _ _ _ _ _ (set .0) (sym (ap verdictOutcome (c .enum-told .given .1)) ∙ c .before .before .judge-uncoded .ensures) (set .1) (set .2))
 
 pub bond-in-spec : {M : Type 1} → statement M
 bond-in-spec =
     tie.close
     (tie.spec
-    bond-fields-requires
+    read-bond-uncoded-requires
     enum-known-refusal
     enum-known-fields
     frequency-of-requires

@@ -2,7 +2,8 @@
 use mathlib.Core.Path.{refl, sym, ap, _∙_}
 use borrow.Author.Tests.{lt-ltb}
 use Rattle.refusals.proofs.Verdicts.{refused-as}
-use Rattle.bond.specs.Codes.{badCode, frequencyOf, frequencyOutcome}
+use Rattle.refusals.specs.Table.{badCode}
+use Rattle.bond.specs.Codes.{frequencyOf, frequencyOutcome}
 use Rattle.senyolanda.specs.Bonds.{periodsPerYearOf}
 use Rattle.senyolanda.proofs.Codes.{refused-code}
 use Rattle.senyolanda.proofs.Handed.{accepted-so, not-read, asked-of}

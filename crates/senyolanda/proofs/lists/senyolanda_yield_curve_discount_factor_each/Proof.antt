@@ -4,8 +4,8 @@ use borrow.Author.Needs.{needs}
 use Rattle.senyolanda.proofs.lists.senyolanda_yield_curve_discount_factor_each.Statement.{statement}
 use Rattle.senyolanda.proofs.lists.senyolanda_yield_curve_discount_factor_each.Tie as tie
 
-discount-factors-at-each-requires : tie.Need-discount-factors-at-each-requires
-discount-factors-at-each-requires c κs = search needs
+discount-factor-at-each-requires : tie.Need-discount-factor-at-each-requires
+discount-factor-at-each-requires c κs = search needs
 
 verdict-result-requires : tie.Need-verdict-result-requires
 verdict-result-requires c κs = search needs
@@ -15,8 +15,8 @@ same-length c = search needs
 
 returns : tie.Need-returns
 returns c =
-    let each = c .before .before .before .discount-factors-at-each in
+    let each = c .before .before .before .discount-factor-at-each in
     (told-as _ _ _ _ _ (c .verdict-result .ensures) (each .ensures .0), each .ensures .1)
 
 pub senyolanda-yield-curve-discount-factor-each-spec : {M : Type 1} → statement M
-senyolanda-yield-curve-discount-factor-each-spec = tie.close (tie.spec discount-factors-at-each-requires verdict-result-requires same-length returns)
+senyolanda-yield-curve-discount-factor-each-spec = tie.close (tie.spec discount-factor-at-each-requires verdict-result-requires same-length returns)

@@ -29,8 +29,8 @@ returns c = not-read _ _ _ _ _ _ _ (sym (ap termsOutcome (c .before .before .ref
 
 returns-2 : tie.Need-returns-2
 returns-2 c =
-    asked-of _ _ _ _ _ _ _ (sym (ap termsOutcome (c .before .before .before .before .before .before .before .before .terms .given .1)) ∙ c .before .before .before .before .before .before .before .before .before .before .read-terms .ensures)
-    (c .put-loan .ensures) (c .before .before .before .before .before .before .open .ensures)
+    asked-of _ _ _ _ _ _ _ (sym (ap termsOutcome (c .before .before .before .before .before .terms .given .1)) ∙ c .before .before .before .before .before .before .before .read-terms .ensures)
+    (c .put-loan .ensures) (c .before .before .before .open .ensures)
 
 pub senyolanda-open-spec : {M : Type 1} → statement M
 senyolanda-open-spec =

@@ -2,8 +2,9 @@
 use mathlib.Core.Path.{_≡_, sym, ap, _∙_}
 use mathlib.Core.Bool.{true, _&&_}
 use Rattle.refusals.specs.Answers.{verdictOutcome}
+use Rattle.refusals.specs.Table.{badCode}
 use Rattle.pool.specs.Flows.{tooLittle}
-use Rattle.senyolanda.specs.Pools.{badSpeed, speedOf, speedInOutcome}
+use Rattle.senyolanda.specs.Pools.{lastSpeed, speedOf, speedInOutcome}
 use Rattle.senyolanda.proofs.Codes.{out-of-set, in-set}
 use Rattle.senyolanda.proofs.SpeedCodes.{known-speed, lower-first, before-records, nothing-else}
 use borrow.Author.Needs.{needs}
@@ -29,7 +30,7 @@ enum-told : tie.Need-enum-told
 enum-told c = search needs
 
 -- what an unknown code is refused with
-unset : (c : tie.After-unknown) → (badSpeed (c .before .before .before .before .args .code) ≡ true) × (c .unknown .given .0 .0 .number ≡ 11) × (c .unknown .given .0 .0 .place ≡ 0)
+unset : (c : tie.After-unknown) → (badCode lastSpeed (c .before .before .before .before .args .code) ≡ true) × (c .unknown .given .0 .0 .number ≡ 11) × (c .unknown .given .0 .0 .place ≡ 0)
 unfolding speedOf
 unset c = out-of-set _ _ _ _ (sym (ap speedInOutcome (c .unknown .given .1)) ∙ c .before .before .speed-of .ensures)
 

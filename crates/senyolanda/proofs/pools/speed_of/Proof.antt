@@ -3,8 +3,9 @@ use Prim.Native.Nat.{_<_}
 use native.Mathlib.Omega.{arith}
 use borrow.Author.Tests.{lt-ltb}
 use Rattle.refusals.specs.Outcome.{firstOr, judged}
+use Rattle.refusals.specs.Table.{badCode}
 use Rattle.refusals.proofs.Verdicts.{refused-as}
-use Rattle.senyolanda.specs.Pools.{speedAt, badSpeed, speedOf}
+use Rattle.senyolanda.specs.Pools.{speedAt, speedOf}
 use borrow.Author.Needs.{needs}
 use Rattle.senyolanda.proofs.pools.speed_of.Statement.{statement}
 use Rattle.senyolanda.proofs.pools.speed_of.Tie as tie
@@ -13,19 +14,19 @@ refuse-requires : tie.Need-refuse-requires
 refuse-requires c κs = search needs
 
 returns : tie.Need-returns
-unfolding speedOf speedAt badSpeed judged firstOr
+unfolding speedOf speedAt badCode judged firstOr
 returns c = rw (c .match .keys1)
 
 returns-2 : tie.Need-returns-2
-unfolding speedOf speedAt badSpeed judged firstOr
+unfolding speedOf speedAt badCode judged firstOr
 returns-2 c = rw (c .match .keys2)
 
 returns-3 : tie.Need-returns-3
-unfolding speedOf speedAt badSpeed judged firstOr
+unfolding speedOf speedAt badCode judged firstOr
 returns-3 c = rw (c .match .keys3)
 
 returns-4 : tie.Need-returns-4
-unfolding speedOf speedAt badSpeed judged firstOr
+unfolding speedOf speedAt badCode judged firstOr
 returns-4 c =
     let x = c .before .before .args .code in
     let m = c .before .match .rest in

@@ -1,5 +1,6 @@
 -- `senyolanda::record_bytes::senyolanda_write_swap` meets its contract. Assumes nothing.
 use borrow.Author.Tests.{lt-ltb, le-ltb}
+use Rattle.refusals.specs.Table.{badCode}
 use Rattle.refusals.proofs.Verdicts.{refused-as}
 use Rattle.senyolanda.proofs.Codes.{refused-code, accepted-code}
 use Rattle.senyolanda.proofs.Handed.{refused-so, accepted-so}
@@ -14,6 +15,7 @@ refusal-result-requires : tie.Need-refusal-result-requires
 refusal-result-requires c κs = search needs
 
 returns : tie.Need-returns
+unfolding badCode
 returns c =
     refused-so _ _ _ _ _ _ (refused-as 11 _ _ (c .before .refuse .ensures) (refused-code _ _ (lt-ltb 2 _ (c .before .before .if1 .taken)))) (c .refusal-result .ensures)
 
@@ -24,6 +26,7 @@ write-swap-requires : tie.Need-write-swap-requires
 write-swap-requires c κs = search needs
 
 returns-2 : tie.Need-returns-2
+unfolding badCode
 returns-2 c = accepted-so _ _ _ _ _ (accepted-code _ _ (le-ltb 2 _ (c .before .before .if1 .left))) (c .write-swap .ensures)
 
 pub senyolanda-write-swap-spec : {M : Type 1} → statement M

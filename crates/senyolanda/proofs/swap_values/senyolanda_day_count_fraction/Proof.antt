@@ -2,7 +2,8 @@
 use mathlib.Core.Path.{refl, sym, ap, _∙_}
 use borrow.Author.Tests.{lt-ltb}
 use Rattle.refusals.proofs.Verdicts.{refused-as}
-use Rattle.swaps.specs.Codes.{badCode, dayCountOf, dayCountOutcome}
+use Rattle.refusals.specs.Table.{badCode}
+use Rattle.swaps.specs.Codes.{dayCountOf, dayCountOutcome}
 use Rattle.senyolanda.specs.Swaps.{fractionOf}
 use Rattle.senyolanda.proofs.Codes.{refused-code}
 use Rattle.senyolanda.proofs.Handed.{accepted-so, not-read, asked-of}

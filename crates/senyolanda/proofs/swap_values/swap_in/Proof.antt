@@ -22,8 +22,8 @@ alike : (s : Swap) (d e : DayCount) (b : SwapRecord) (tenors zeros : List Float)
 unfolding payments
 alike s d e b tenors zeros is o = o ∙ ap (λ (q : Swap). judged (swapLines q tenors zeros) tt) is
 
-swap-fields-requires : tie.Need-swap-fields-requires
-swap-fields-requires c κs = search needs
+read-swap-uncoded-requires : tie.Need-read-swap-uncoded-requires
+read-swap-uncoded-requires c κs = search needs
 
 enum-known-refusal : tie.Need-enum-known-refusal
 enum-known-refusal c = search needs
@@ -57,7 +57,7 @@ enum-told c = search needs
 
 returns : tie.Need-returns
 unfolding swapRead
-returns c = unread _ _ _ _ (sym (ap swapOutcome (c .before .refusal .given .1)) ∙ c .before .before .before .swap-fields .ensures)
+returns c = unread _ _ _ _ (sym (ap swapOutcome (c .before .refusal .given .1)) ∙ c .before .before .before .read-swap-uncoded .ensures)
 
 returns-2 : tie.Need-returns-2
 unfolding swapRead dayCountOf
@@ -67,7 +67,7 @@ returns-2 c =
     let b = r .fields .given .0 .0 in
     let a = r .before .before .before .before .before .before .args in
     let set = in-set _ _ _ (sym (ap dayCountOutcome (c .before .before .day-count .given .1)) ∙ f .day-count-of .ensures) in
-    read-so _ _ _ _ (sym (ap swapOutcome (r .fields .given .1)) ∙ r .before .before .swap-fields .ensures)
+    read-so _ _ _ _ (sym (ap swapOutcome (r .fields .given .1)) ∙ r .before .before .read-swap-uncoded .ensures)
     (known _ (judged (swapLines (swapOf b) (a .tenors .now) (a .zeros .now)) tt) _ _ (set .0) (c .counted-by .ensures ∙ ap (λ (d : DayCount). countedBy d b) (set .1)))
 
 returns-3 : tie.Need-returns-3
@@ -80,7 +80,7 @@ returns-3 c =
     let b = r .fields .given .0 .0 in
     let a = r .before .before .before .before .before .before .args in
     let set = out-of-set _ _ _ _ (sym (ap dayCountOutcome (u .unknown .given .1)) ∙ f .day-count-of .ensures) in
-    read-so _ _ _ _ (sym (ap swapOutcome (r .fields .given .1)) ∙ r .before .before .swap-fields .ensures)
+    read-so _ _ _ _ (sym (ap swapOutcome (r .fields .given .1)) ∙ r .before .before .read-swap-uncoded .ensures)
     (others-first _ _ _ _ _ (set .0) (sym (ap verdictOutcome (c .before .refusal2 .given .1)) ∙ alike _ _ (dayCountAt (b .count)) b (a .tenors .now) (a .zeros .now) (j .before .counted-by2 .ensures) (j .judge-swap .ensures)))
 
 returns-4 : tie.Need-returns-4
@@ -93,14 +93,14 @@ returns-4 c =
     let b = r .fields .given .0 .0 in
     let a = r .before .before .before .before .before .before .args in
     let set = out-of-set _ _ _ _ (sym (ap dayCountOutcome (u .unknown .given .1)) ∙ f .day-count-of .ensures) in
-    read-so _ _ _ _ (sym (ap swapOutcome (r .fields .given .1)) ∙ r .before .before .swap-fields .ensures)
+    read-so _ _ _ _ (sym (ap swapOutcome (r .fields .given .1)) ∙ r .before .before .read-swap-uncoded .ensures)
     (unknown _ _ _ _ _ (set .0) (sym (ap verdictOutcome (c .enum-told .given .1)) ∙ alike _ _ (dayCountAt (b .count)) b (a .tenors .now) (a .zeros .now) (j .before .counted-by2 .ensures) (j .judge-swap .ensures)) (set .1) (set .2))
 
 pub swap-in-spec : {M : Type 1} → statement M
 swap-in-spec =
     tie.close
     (tie.spec
-    swap-fields-requires
+    read-swap-uncoded-requires
     enum-known-refusal
     enum-known-fields
     day-count-of-requires

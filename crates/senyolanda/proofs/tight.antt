@@ -1,0 +1,13 @@
+pub mod Bonds
+pub mod Books
+pub mod Curves
+pub mod Dated
+pub mod Lists
+pub mod Loans
+pub mod Models
+pub mod OneAnswer
+pub mod Plain
+pub mod Pools
+pub mod RecordBytes
+pub mod Spreads
+pub mod SwapValues
