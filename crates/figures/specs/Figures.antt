@@ -7,7 +7,7 @@ use lib.Ieee.{Float, nan, binary64, add, sub, mul, div, lt, le, eq, ofInt, ofBit
 use Rattle.numbers.specs.Sizes.{absolute}
 use Rattle.numbers.specs.Whole.{nearestWhole}
 use Rattle.refusals.specs.Outcome.{accepted, firstOr, judged}
-use Rattle.refusals.specs.Table.{badAmount, badTerm, badNumber, badRecord, unequal, badKnotCount, badKnot, badKnotsAfter, badKnots, badTime}
+use Rattle.refusals.specs.Table.{badAmount, badTerm, badNumber, badRecord, unequal, badKnotCount, badKnot, badKnotsAfter, badKnots, badTime, tooManyPeriods}
 use Rattle.elementary.specs.WholePower.{turns, wholePower, negativePower}
 use Rattle.records.specs.declared.Terms.{Terms}
 use Rattle.records.specs.declared.Row.{Row}
@@ -15,8 +15,9 @@ use Rattle.records.specs.Bytes.{valueOf, wholeAt, floatAt}
 use Rattle.records.specs.Kinds.{readTerms, termsIn}
 use Rattle.mortgage.specs.declared.Loan.{Loan}
 use Rattle.mortgage.specs.Payment.{monthlyRate, growth, levelPayment, payment, monthlyPayment, loanOf, openedWith, opened}
-use Rattle.mortgage.specs.RowRule.{endMonth, due, last, interestOf, principalOf, paymentOf, newBalance, rowOf, nextOf}
-use Rattle.mortgage.specs.Steps.{stepped, written}
+use Rattle.mortgage.specs.Month.{endMonth, due, last, rowOf, nextOf}
+use Rattle.mortgage.specs.RowRule.{interestOf, principalOf, paymentOf, leftOf}
+use Rattle.steps.specs.Steps.{pieces, stepped, written}
 use Rattle.bond.specs.declared.Bond.{Bond}
 use Rattle.bond.specs.declared.Frequency.the-variants.{Annual}
 use Rattle.bond.specs.Bonds.{periodCoupon, periods, badMaturity}
@@ -111,7 +112,7 @@ pub record Figures : Type 0 where
   pub past-the-end : smm History (pattern 0x3fe0_0000_0000_0000 ∷ []) 2 ≡ pattern 0
 
 pub figures : Figures
-unfolding nearestWhole absolute badAmount badNumber unequal badKnotCount badKnot badKnotsAfter badKnots badTime segmentEnding flatOutside share alongZeros zeroRateOf rateAt smm badTerm badRecord firstOr judged turns wholePower negativePower periodCoupon periods badMaturity periodRate undiscounted discount discounted priceOf price valueOf wholeAt floatAt readTerms termsIn monthlyRate growth levelPayment payment monthlyPayment loanOf openedWith opened endMonth due last interestOf principalOf paymentOf newBalance rowOf nextOf stepped written hexDigits decimalDigits decimal spaced rowLine footer loanLines recordLines saying listing add sub mul div lt le eq ofInt ofBits toBits
+unfolding nearestWhole absolute badAmount badNumber unequal badKnotCount badKnot badKnotsAfter badKnots badTime tooManyPeriods segmentEnding flatOutside share alongZeros zeroRateOf rateAt smm badTerm badRecord firstOr judged turns wholePower negativePower periodCoupon periods badMaturity periodRate undiscounted discount discounted priceOf price valueOf wholeAt floatAt readTerms termsIn monthlyRate growth levelPayment payment monthlyPayment loanOf openedWith opened endMonth due last interestOf principalOf paymentOf leftOf rowOf nextOf stepped pieces hexDigits decimalDigits decimal spaced rowLine footer loanLines recordLines saying listing add sub mul div lt le eq ofInt ofBits toBits
 figures = record {
   two-and-a-half = refl;
   nearly-a-half = refl;

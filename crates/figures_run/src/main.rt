@@ -1,6 +1,7 @@
 // Document 01's figures that are run only: terms of 1,200 and 1,201, room for 4 and 5 numbers, and curves of 120 and 121 knots.
 use libc::STDOUT_FILENO;
 use mortgage::draws::Drawing;
+use mortgage::draws::WIDTH;
 use mortgage::opening::Opening;
 use records::Terms;
 use refusals::Number;
@@ -76,13 +77,13 @@ fn ask(times: &[f64], rates: &[f64]) {
 }
 
 fn main() {
-    let mut whole = [0.0; 6000];
-    let mut four = [0.0; 4];
-    let mut five = [0.0; 5];
+    let mut whole = [0.0; 1200 * WIDTH];
+    let mut short = [0.0; WIDTH - 1];
+    let mut row = [0.0; WIDTH];
     draw(1200, &mut whole);
     draw(1201, &mut whole);
-    draw(3, &mut four);
-    draw(3, &mut five);
+    draw(3, &mut short);
+    draw(3, &mut row);
     let mut years = [0.0; 120];
     set_years(&mut years);
     ask(&years, &[0.5; 120]);
