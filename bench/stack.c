@@ -26,7 +26,8 @@ static uint8_t bond[SENYOLANDA_BOND_BYTES], row[SENYOLANDA_ROW_BYTES], swap[SENY
 static double times[KNOTS], rates[KNOTS], zeros[KNOTS], model[4] = { 0.05, -0.02, 0.01, 0.5 };
 static double flow_times[FLOWS], amounts[FLOWS], dated[2 * FLOWS], history[MONTHS], bond_times[FLOWS], bond_amounts[FLOWS];
 static double room[MONTHS * SENYOLANDA_ROW_PLACES], asked[MONTHS], numbers[8], x, rate, payment, balance;
-static uint32_t term, done, written, owed, count, code;
+static uint32_t counts[SENYOLANDA_LOAN_COUNTS], term, written, owed, count, code;
+static double loan_amounts[SENYOLANDA_LOAN_AMOUNTS];
 static uint8_t book[BOOK * SENYOLANDA_LOAN_BYTES];
 static double book_room[BOOK * MONTHS * SENYOLANDA_ROW_PLACES];
 static uint32_t answers[BOOK];
@@ -57,6 +58,7 @@ static int set_out(void) {
 /* ---- every function, with its arguments ---- */
 
 #define LOAN OF(loan)
+#define HAND counts, loan_amounts
 #define POOL OF(pool), SENYOLANDA_PSA, 1.5, OF(history)
 #define BOND OF(bond)
 #define CURVE OF(times), OF(rates)
@@ -77,10 +79,10 @@ static int set_out(void) {
     CALL(read_swap, (OF(swap), &x, &rate, &payment, &count, &code))                                     \
     CALL(write_swap, (1e6, 0.04, 100.0, 12, SENYOLANDA_ACTUAL_360, swap))                               \
     CALL(monthly_payment, (LOAN, &x))                                                                   \
-    CALL(open, (LOAN, &term, &rate, &payment, &done, &balance))                                         \
-    CALL(open_with_payment, (LOAN, 1500.0, &term, &rate, &payment, &done, &balance))                    \
-    CALL(next_row, (term, rate, payment, &done, &balance, row, &written, &owed))                        \
-    CALL(draw, (term, rate, payment, &done, &balance, OF(room), &written, &owed))                       \
+    CALL(open, (LOAN, HAND))                                                                            \
+    CALL(open_with_payment, (LOAN, 1500.0, HAND))                                                       \
+    CALL(next_row, (HAND, row, &written, &owed))                                                        \
+    CALL(draw, (HAND, OF(room), &written, &owed))                                                       \
     CALL(draw_book, (OF(book), OF(answers), OF(book_room), &count, &written, &owed))                    \
     CALL(total_interest, (LOAN, &x))                                                                    \
     CALL(remaining_balance, (LOAN, MONTHS, &x))                                                         \

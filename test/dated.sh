@@ -7,7 +7,7 @@ cd "$(dirname "$0")/.."
 room=$(mktemp -d)
 trap 'rm -rf "$room"' EXIT
 mkdir -p "$room/crates/dated_run/src"
-for crate in numbers refusals elementary yield_curve spread_analytics; do
+for crate in spread_analytics $(sed -n 's/^spread_analytics://p' crates.txt); do
     cp -R "crates/$crate" "$room/crates/"
     grep "^$crate:" crates.txt >>"$room/crates.txt"
 done

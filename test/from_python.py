@@ -7,6 +7,10 @@ import sys
 from ctypes import POINTER, byref, c_double, c_size_t, c_uint8, c_uint32, c_uint64
 
 ROW = 5
+LOAN_BYTES = 21
+LISTING_BYTES = 96000
+COUNTS = c_uint32 * 2
+AMOUNTS = c_double * 3
 BYTES = POINTER(c_uint8), c_size_t
 NUMBERS = POINTER(c_double), c_size_t
 NUMBER, COUNT = POINTER(c_double), POINTER(c_uint32)
@@ -32,30 +36,28 @@ def function(name, *parameters):
 
 
 write_loan = function("senyolanda_write_loan", c_double, c_double, c_uint32, POINTER(c_uint8))
-open_ = function("senyolanda_open", *BYTES, COUNT, NUMBER, NUMBER, COUNT, NUMBER)
-open_with_payment = function("senyolanda_open_with_payment", *BYTES, c_double, COUNT, NUMBER, NUMBER, COUNT, NUMBER)
-draw = function("senyolanda_draw", c_uint32, c_double, c_double, COUNT, NUMBER, *NUMBERS, COUNT, COUNT)
+open_ = function("senyolanda_open", *BYTES, COUNT, NUMBER)
+open_with_payment = function("senyolanda_open_with_payment", *BYTES, c_double, COUNT, NUMBER)
+draw = function("senyolanda_draw", COUNT, NUMBER, *NUMBERS, COUNT, COUNT)
 pool_totals = function("senyolanda_pool_totals", *BYTES, NUMBER)
 listing = function("senyolanda_listing", *BYTES, POINTER(c_uint8), COUNT)
 
 
 class Loan:
-    """A loan in hand, from its terms and, where one is given, its payment."""
+    """A loan in hand, from its terms and, where one is given, its payment: its counts and its amounts."""
 
     def __init__(self, principal, rate, term, given=None):
         record = record_of(principal, rate, term)
-        self.state = c_uint32(), c_double(), c_double(), c_uint32(), c_double()
-        state = map(byref, self.state)
+        self.state = COUNTS(), AMOUNTS()
         if given is None:
-            open_(record, len(record), *state)
+            open_(record, len(record), *self.state)
         else:
-            open_with_payment(record, len(record), given, *state)
+            open_with_payment(record, len(record), given, *self.state)
 
     def draw(self, room):
         """The rows written into the room, and how many are owed after them."""
-        term, rate, payment, done, balance = self.state
         written, owed = c_uint32(), c_uint32()
-        draw(term, rate, payment, byref(done), byref(balance), room, len(room), byref(written), byref(owed))
+        draw(*self.state, room, len(room), byref(written), byref(owed))
         return written.value, owed.value
 
     def rows(self, places):
@@ -68,7 +70,7 @@ class Loan:
 
 
 def record_of(principal, rate, term):
-    record = (c_uint8 * 21)()
+    record = (c_uint8 * LOAN_BYTES)()
     write_loan(principal, rate, term, record)
     return record
 
@@ -100,7 +102,7 @@ def refusal(call, *arguments):
     return None
 
 
-for places in range(5, 16):
+for places in range(ROW, 3 * ROW + 1):
     same(bits(Loan(1200.0, 0.0, 3).rows(places)), [
         "1 4079000000000000 4079000000000000 0000000000000000 4089000000000000",
         "2 4079000000000000 4079000000000000 0000000000000000 4079000000000000",
@@ -112,26 +114,27 @@ for places in range(5, 16):
         "1 4059000000000000 0000000000000000 407f400000000000 408f400000000000",
         "2 4097700000000000 408f400000000000 407f400000000000 0000000000000000"])
 
-# Room for four numbers is refused with 3; neither the room nor the loan is touched, and the next draw goes on from there.
-loan, short = Loan(1200.0, 0.0, 3), (c_double * 4)(*[1.5] * 4)
-before = [number.value for number in loan.state]
+# Room for all but one number of a row is refused with 3; neither the room nor the loan is touched, and the next draw goes on from there.
+loan, short = Loan(1200.0, 0.0, 3), (c_double * (ROW - 1))(*[1.5] * (ROW - 1))
+same([array[:] for array in loan.state], [[3, 0], [0.0, 400.0, 1200.0]])
 same(refusal(loan.draw, short), (3, 0))
-same(short[:], [1.5] * 4)
-same([number.value for number in loan.state], before)
-same(loan.draw((c_double * 5)()), (1, 2))
+same(short[:], [1.5] * (ROW - 1))
+same([array[:] for array in loan.state], [[3, 0], [0.0, 400.0, 1200.0]])
+same(loan.draw((c_double * ROW)()), (1, 2))
+same([array[:] for array in loan.state], [[3, 1], [0.0, 400.0, 800.0]])
 
 # A term of 0, a record that is no loan's, and none at all.
 same(refusal(Loan, 1200.0, 0.0, 0), (2, 0))
 same(refusal(Loan, -1.0, 0.0, 3), (1, 0))
-same(refusal(open_, None, 0, *map(byref, loan.state)), (11, 0))
+same(refusal(open_, None, 0, *loan.state), (11, 0))
 
 # A listing is the same rows between its header and its footer; the bytes behind it stay, and a refusal leaves all of them.
-text, size = (c_uint8 * 96000)(*[7] * 96000), c_uint32()
+text, size = (c_uint8 * LISTING_BYTES)(*[7] * LISTING_BYTES), c_uint32()
 same(refusal(listed, 1200.0, 0.0, 1201, text, size), (2, 0))
-same((bytes(text), size.value), (b"\7" * 96000, 0))
+same((bytes(text), size.value), (b"\7" * LISTING_BYTES, 0))
 same(listed(1000.0, 6.0, 2, text, size), [
-    "month payment principal interest balance", *bits(Loan(1000.0, 6.0, 2).rows(5)), "rows 2 left 0"])
-same(bytes(text[size.value:]), b"\7" * (96000 - size.value))
+    "month payment principal interest balance", *bits(Loan(1000.0, 6.0, 2).rows(ROW)), "rows 2 left 0"])
+same(bytes(text[size.value:]), b"\7" * (LISTING_BYTES - size.value))
 
 # A pool whose third loan owes less than nothing: the place is its index.
 pool = b"".join(map(bytes, [record_of(1200.0, 0.0, 3), record_of(1000.0, 6.0, 2), record_of(-1.0, 0.0, 3)]))

@@ -1,9 +1,10 @@
 #!/usr/bin/env python3
-"""header.py LIBRARY: include/senyolanda.h, the crate's exported functions and the library's symbols are one list. The header asks for a
-warning of a dropped result exactly where the sentence before a function names refusals, and its version is the one that make reads.
+"""header.py LIBRARY: include/senyolanda.h, the crate's exported functions, those that test/library.rs declares for Rust and the library's
+symbols are one list. The header asks for a warning of a dropped result exactly where the sentence before a function names refusals,
+and its version is the one that make reads.
 
-A function has the same name, the same answer and the same parameters in the header as in the crate: their order, their names,
-their types and their lengths.
+A function has the same name, the same answer and the same parameters in the header and for Rust as in the crate: their order, their
+names, their types and their lengths.
 
     f64, u32           double, uint32_t
     &[f64]             const double *, size_t     a list to read
@@ -12,7 +13,8 @@ their types and their lengths.
     &[f64; 4]          const double [static 4]
     &mut [u8; 21]      uint8_t [restrict static 21]
 
-A length may be a constant of another crate, as listing::ROOM. It also has to find fault with altered copies of the header.
+A length may be a constant, of the crate or of another: COUNTS, listing::ROOM, records::row_record::ROW_SIZE. It also has to find
+fault with altered copies of the header and of what is declared for Rust.
 """
 import functools
 import os
@@ -37,6 +39,10 @@ ALTERED = [
     ("double totals[SENYOLANDA_FILLED 3]", "double totals[SENYOLANDA_FILLED 4]"),
     ("const double model[SENYOLANDA_READ 4]", "double model[SENYOLANDA_FILLED 4]"),
     ("#define SENYOLANDA_ROW_BYTES 37", "#define SENYOLANDA_ROW_BYTES 36"),
+    ("#define SENYOLANDA_LOAN_COUNTS 2", "#define SENYOLANDA_LOAN_COUNTS 3"),
+    ("#define SENYOLANDA_LOAN_AMOUNTS 3", "#define SENYOLANDA_LOAN_AMOUNTS 2"),
+    ("double amounts[SENYOLANDA_FILLED SENYOLANDA_LOAN_AMOUNTS],\n    double *SENYOLANDA_RESTRICT room",
+     "const double amounts[SENYOLANDA_READ SENYOLANDA_LOAN_AMOUNTS],\n    double *SENYOLANDA_RESTRICT room"),
     ("#define SENYOLANDA_LISTING_BYTES 96000", "#define SENYOLANDA_LISTING_BYTES 95999"),
     ("const double *history,", "double *SENYOLANDA_RESTRICT history,"),
     ("double *SENYOLANDA_RESTRICT ratio", "double *ratio"),
@@ -48,6 +54,18 @@ ALTERED = [
     ("#define SENYOLANDA_CHECKED __attribute__((warn_unused_result))", "#define SENYOLANDA_CHECKED"),
     ("#define SENYOLANDA_VERSION_MINOR ", "#define SENYOLANDA_VERSION_MINOR 1"),
     ("SENYOLANDA_DOTTED(SENYOLANDA_VERSION_MAJOR, ", "SENYOLANDA_DOTTED(1 + SENYOLANDA_VERSION_MAJOR, "),
+]
+
+# Likewise of what is declared for Rust.
+ALTERED_FOR_RUST = [
+    ("senyolanda_ln(x: f64,", "senyolanda_log(x: f64,"),
+    ("senyolanda_power(x: f64, y: f64,", "senyolanda_power(y: f64, x: f64,"),
+    ("[record: u8], value: f64,", "record: u8, value: f64,"),
+    ("[mut answers: u32]", "[mut answers: f64]"),
+    ("totals: &mut [f64; 3]", "totals: &[f64; 3]"),
+    ("&'a mut [u32; LOAN_COUNTS]", "&'a mut [u32; LOAN_AMOUNTS]"),
+    ("pub const ROW_BYTES: usize = 37", "pub const ROW_BYTES: usize = 36"),
+    ("pub const ROW_PLACES: usize = 5", "pub const ROW_PLACES: usize = 6"),
 ]
 
 
@@ -68,22 +86,42 @@ def parameter_of_crate(text):
     return name, C_NAMES[value or one or item], way, "1" if not item else length or "a list"
 
 
-def constant(crate, name):
-    """The number that a crate's constant stands for."""
-    found = re.search(rf"^pub const {name}: usize = (\d+);", (ROOT / "crates" / crate / "src" / "lib.rt").read_text(), re.M)
+def constant(path, text):
+    """The number that a constant stands for: one of another crate's module, of its lib.rt where none is named, else of the text."""
+    crate, *modules, name = path.split("::") if "::" in path else ("", path)
+    if crate:
+        text = (ROOT / "crates" / crate / "src" / f"{'/'.join(modules) or 'lib'}.rt").read_text()
+    found = re.search(rf"^pub const {name}: usize = (\d+);", text, re.M)
     if not found:
-        raise Unreadable(f"the crate {crate} has no number {name}")
+        raise Unreadable(f"there is no number {path}")
     return found[1]
 
 
 def functions_of_crate():
     text = "".join(re.sub("//.*", "", path.read_text()) for path in sorted(ROOT.glob("crates/senyolanda/src/**/*.rt")))
-    text = re.sub(r"; (\w+)::(\w+)\]", lambda length: f"; {constant(*length.groups())}]", text)
+    text = re.sub(r"; ([A-Za-z_][\w:]*)\]", lambda length: f"; {constant(length[1], text)}]", text)
     found = re.findall(r'#\[no_mangle\]\s*pub extern "C" fn (\w+)\(([^)]*)\)\s*->\s*(\w+)', text)
     if not found or len(found) != text.count('extern "C"'):
         raise Unreadable('the crate has an extern "C" that is not `#[no_mangle] pub extern "C" fn NAME(..) -> TYPE`')
     return {name: (C_NAMES[answer], [parameter_of_crate(one.strip()) for one in parameters.split(",") if one.strip()])
             for name, parameters, answer in found}
+
+
+def functions_for_rust(text):
+    """What test/library.rs declares: a list stands in brackets, a reference may have a name of its own."""
+    references = dict(re.findall(r"^type (\w+)<'a> = &'a (.*);$", text, re.M))
+
+    def parameter(one):
+        one = re.sub(r"^\[(mut )?(\w+): (\w+)\]$", r"\2: &\1[\3]", one)
+        one = re.sub(r": (\w+)$", lambda kind: f": &{references[kind[1]]}" if kind[1] in references else kind[0], one)
+        return parameter_of_crate(re.sub(r"; ([A-Z_]+)\]", lambda length: f"; {constant(length[1], text)}]", one))
+
+    return {name: (C_NAMES["u64"], list(map(parameter, parameters.split(", "))))
+            for name, parameters in re.findall(r"^ +(senyolanda_\w+)\((.*)\);$", text, re.M)}
+
+
+def numbers_for_rust(text):
+    return re.findall(r"^pub const (\w+): usize = (\d+);$", text, re.M)
 
 
 def parameter_of_header(text):
@@ -169,10 +207,11 @@ def symbols_of(library):
     return {line.split()[-1] for line in output_of("nm", which, "--defined-only", library).splitlines() if " " in line}
 
 
-def faults(header, crate, symbols, version):
-    """What differs between the header's text, the crate's functions, the library's symbols and the Makefile's version."""
+def faults(header, rust, crate, symbols, version):
+    """What differs between the header's text, what is declared for Rust, the crate's functions, the library's symbols and the Makefile's
+    version."""
     try:
-        prototypes = functions_of_header(header)
+        prototypes, declared = functions_of_header(header), functions_for_rust(rust)
     except Unreadable as fault:
         return [str(fault)]
     found = [f"{name} is in the header and not in the crate" for name in sorted(prototypes.keys() - crate.keys())]
@@ -182,31 +221,45 @@ def faults(header, crate, symbols, version):
     for name in sorted(prototypes.keys() & crate.keys()):
         if prototypes[name] != crate[name]:
             found.append(f"{name} differs\n  header {prototypes[name]}\n  crate  {crate[name]}")
+    for name in sorted(declared.keys() | crate.keys()):
+        if declared.get(name) != crate.get(name):
+            found.append(f"{name} differs\n  test/library.rs {declared.get(name)}\n  crate           {crate.get(name)}")
+    found += [f"{name} is {number} in test/library.rs, and not in the header" for name, number in numbers_for_rust(rust)
+              if f"#define SENYOLANDA_{name} {number}\n" not in header]
     found += wrongly_marked(header)
     if version_of(header) != version:
         found.append(f"the version is {version_of(header)} in the header and {version} in the Makefile")
     return found
 
 
-def unfound(header, crate, symbols, version):
+def altered(text, alterations):
+    """Copies of the text, and what each has for what."""
+    for old, new in alterations:
+        if old not in text:
+            raise Unreadable(f"there is no `{old}` to alter")
+        yield text.replace(old, new, 1), f"`{new}` for `{old}`"
+
+
+def unfound(header, rust, crate, symbols, version):
     """The alterations that would not be found out."""
-    for old, new in ALTERED:
-        if old not in header:
-            raise Unreadable(f"the header has no `{old}` to alter")
-        if not faults(header.replace(old, new, 1), crate, symbols, version):
-            yield f"`{new}` for `{old}`"
+    for copy, what in altered(header, ALTERED):
+        if not faults(copy, rust, crate, symbols, version):
+            yield what
+    for copy, what in altered(rust, ALTERED_FOR_RUST):
+        if not faults(header, copy, crate, symbols, version):
+            yield what
     for missing_or_more in ({"senyolanda_draw"}, {"a_symbol_of_another_name"}):
-        if not faults(header, crate, symbols ^ missing_or_more, version):
+        if not faults(header, rust, crate, symbols ^ missing_or_more, version):
             yield f"{missing_or_more} in or out of the library"
 
 
 def main(library):
-    header = (ROOT / "include" / "senyolanda.h").read_text()
+    header, rust = (ROOT / "include" / "senyolanda.h").read_text(), (ROOT / "test" / "library.rs").read_text()
     known = functions_of_crate(), symbols_of(library), version_of_makefile()
-    wrong = faults(header, *known) or [f"{what} is not found out" for what in unfound(header, *known)]
+    wrong = faults(header, rust, *known) or [f"{what} is not found out" for what in unfound(header, rust, *known)]
     if wrong:
         sys.exit("\n".join(f"header: {one}" for one in wrong))
-    print(f"header: {len(known[0])} functions are alike in the header, the crate and {library}; altered copies are found out")
+    print(f"header: {len(known[0])} functions are alike in the header, for Rust, in the crate and {library}; altered copies are found out")
 
 
 if __name__ == "__main__":

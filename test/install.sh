@@ -12,7 +12,7 @@ make -s install DESTDIR="$room/staged" PREFIX=/usr
 [ "$(sed -n 's/^prefix=//p' "$room/staged/usr/lib/pkgconfig/senyolanda.pc")" = /usr ] || fails "the staged senyolanda.pc names another prefix"
 staged=$room/staged/usr/lib
 case $(uname -m) in
-x86_64) [ -f "$staged/glibc-hwcaps/x86-64-v3/libsenyolanda.so.0" ] || fails "the library for x86-64-v3 is not where the loader looks" ;;
+x86_64) [ -f "$staged/glibc-hwcaps/x86-64-v3/$(readlink "$staged/libsenyolanda.so")" ] || fails "the library for x86-64-v3 is not where the loader looks" ;;
 *) [ ! -e "$staged/glibc-hwcaps" ] || fails "there is a library that no processor of this machine's kind takes" ;;
 esac
 make -s uninstall DESTDIR="$room/staged" PREFIX=/usr

@@ -1,5 +1,6 @@
 //! Bonds that pay each half year: price, yield and duration.
 use crate::job::{one_by_one, Job};
+use crate::library::records::senyolanda_write_bond;
 use crate::library::*;
 use crate::measure::{scattered, unseen};
 use crate::published::bond::{self, Bond, CouponFrequency};

@@ -1,5 +1,7 @@
 //! Loans: a schedule, a book of them, a payment.
+use crate::called;
 use crate::job::{one_by_one, unless_refused, Job};
+use crate::library::records::senyolanda_write_loan;
 use crate::library::*;
 use crate::measure::{filling, giving, lent, unseen};
 use crate::published::mortgage::{AmortizationRow, MortgageCalculator, MortgageTerms};
@@ -22,14 +24,10 @@ fn loan(principal: f64, annual_rate: f64, term_months: u32) -> (Record, Mortgage
 
 /// Opens a loan and draws all of it; the places that its rows fill.
 fn drawn(record: &Record, room: &mut [f64]) -> usize {
-    let (mut term, mut rate, mut payment, mut done, mut balance) = (0, 0.0, 0.0, 0, 0.0);
+    let (mut counts, mut amounts) = ([0; LOAN_COUNTS], [0.0; LOAN_AMOUNTS]);
     let (mut written, mut owed) = (0, 0);
-    let outcome = unsafe {
-        senyolanda_open(record.as_ptr(), record.len(), &mut term, &mut rate, &mut payment, &mut done, &mut balance)
-            | senyolanda_draw(
-                term, rate, payment, &mut done, &mut balance, room.as_mut_ptr(), room.len(), &mut written, &mut owed,
-            )
-    };
+    let outcome = called!(senyolanda_open, [record], &mut counts, &mut amounts)
+        | called!(senyolanda_draw, &mut counts, &mut amounts, [mut room], &mut written, &mut owed);
     unless_refused(outcome | Outcome::from(owed), written as usize * ROW_PLACES)
 }
 

@@ -8,6 +8,8 @@ mod elementary;
 mod growth;
 mod job;
 mod jobs;
+#[allow(dead_code)]
+#[path = "../../test/library.rs"]
 mod library;
 mod limits;
 mod loans;

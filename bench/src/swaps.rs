@@ -1,6 +1,7 @@
 //! Swaps: the bootstrap, and a whole valuation.
 use crate::curves::{curve, YEARS};
 use crate::job::{unless_refused, Job};
+use crate::library::records::senyolanda_write_swap;
 use crate::library::*;
 use crate::measure::{giving, lent, unseen};
 use crate::published::swaps::{value_swap, DayCount, DiscountCurve, SwapSpec};

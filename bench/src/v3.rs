@@ -5,6 +5,7 @@ mod curves;
 mod elementary;
 mod job;
 mod jobs;
+#[path = "../../test/library.rs"]
 mod library;
 mod loans;
 mod measure;

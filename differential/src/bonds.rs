@@ -1,4 +1,5 @@
 // Bonds beside bond.rs. Its powers are the standard library's `powi`, whose loop is document 01's on the machines we know.
+use crate::asking::*;
 use crate::harness::{bits, plain, refused, relative, Answer, Case, Compared, Family};
 use crate::library::*;
 use crate::published::bond::{self, CouponFrequency};
@@ -22,8 +23,8 @@ input!(Zero { ytm: f64, maturity: f64 });
 input!(Code { code: u32 });
 
 impl Bond {
-    fn record(&self) -> [u8; 26] {
-        let mut record = [2; 26];
+    fn record(&self) -> [u8; BOND_BYTES] {
+        let mut record = [2; BOND_BYTES];
         record[1..9].copy_from_slice(&self.face.to_le_bytes());
         record[9..17].copy_from_slice(&self.coupon.to_le_bytes());
         record[17..25].copy_from_slice(&self.maturity.to_le_bytes());

@@ -1,12 +1,13 @@
 // A book of loans in one call, beside the Rust's schedules one behind the other.
+use crate::asking::*;
 use crate::harness::{part_of, plain, refused, Answer, Case, Compared, Family};
 use crate::library::*;
-use crate::loans::{numbers_of, plain_loan, Loan, WIDTH};
+use crate::loans::{plain_loan, Loan};
 use crate::published::mortgage::MortgageCalculator;
 use crate::random::Random;
+use crate::rows::{numbers_of, WIDTH};
 use crate::{called, input};
 
-const MOST_LOANS: usize = 256;
 /// Rows from an own payment are compared for terms up to here; a book has many short loans.
 const LONGEST: u32 = 480;
 const MOST_ROWS: u32 = 1500;
@@ -30,7 +31,7 @@ fn answer(loan: &Loan) -> u32 {
 impl Book {
     /// The loans that have an answer, in order, each with the rows that the room holds of it.
     fn rows_held(&self) -> Vec<(&Loan, u32)> {
-        let mut left = self.places / WIDTH as u32;
+        let mut left = self.places / WIDTH;
         let mut held = Vec::new();
         for loan in &self.loans {
             let asked = if answer(loan) == 0 { loan.term } else { 0 };
@@ -61,11 +62,11 @@ fn booked(random: &mut Random) -> Loan {
 fn drawn(random: &mut Random) -> Case<Book> {
     let loans: Vec<Loan> = (0..random.below(24)).map(|_| booked(random)).collect();
     let due: u32 = loans.iter().filter(|loan| answer(loan) == 0).map(|loan| loan.term).sum();
-    let whole = WIDTH as u32 * due.min(MOST_ROWS);
-    let places = if random.once_in(2) { whole } else { random.whole(WIDTH as u32, whole + 2 * WIDTH as u32) };
+    let whole = WIDTH * due.min(MOST_ROWS);
+    let places = if random.once_in(2) { whole } else { random.whole(WIDTH, whole + 2 * WIDTH) };
     let book = Book { places, answers: loans.len() as u32 + random.whole(0, 2), loans };
     match random.below(48) {
-        0 if due > 0 => refused(Book { places: random.whole(0, WIDTH as u32 - 1), ..book }, 3, 0),
+        0 if due > 0 => refused(Book { places: random.whole(0, WIDTH - 1), ..book }, 3, 0),
         1 if !book.loans.is_empty() => refused(Book { answers: random.below(book.loans.len() as u64) as u32, ..book }, 3, 0),
         _ => plain(book),
     }
@@ -75,9 +76,9 @@ fn drawn(random: &mut Random) -> Case<Book> {
 fn edges() -> Vec<Case<Book>> {
     let loan = |term| Loan { principal: 250_000.0, rate: 0.0575, term };
     let few = || vec![loan(3), loan(0), loan(7), loan(1), Loan { principal: -1.0, ..loan(9) }, loan(5)];
-    let every = (5..=90).map(|places| plain(Book { loans: few(), places, answers: 6 }));
-    let full = |count: usize| Book { loans: (0..count).map(|i| loan(1 + (i % 5) as u32)).collect(), places: 4000, answers: 300 };
-    every.chain([plain(full(MOST_LOANS)), refused(full(MOST_LOANS + 1), 11, 0)]).collect()
+    let every = (WIDTH..=18 * WIDTH).map(|places| plain(Book { loans: few(), places, answers: 6 }));
+    let full = |count: usize| Book { loans: (0..count).map(|i| loan(1 + (i % 5) as u32)).collect(), places: 800 * WIDTH, answers: 300 };
+    every.chain([plain(full(MOST_BOOK_LOANS)), refused(full(MOST_BOOK_LOANS + 1), 11, 0)]).collect()
 }
 
 /// Finished, cut short and waiting, then the answers and the room, whole.

@@ -1,13 +1,13 @@
 // Yield curves beside yield_curve.rs, and the curves that swaps and spreads are read from too.
+use crate::asking::*;
 use crate::harness::{absolute, bits, part_of, plain, refused, relative, Answer, Case, Compared, Family};
 use crate::library::*;
 use crate::published::yield_curve::{CurveMetrics, NelsonSiegel, YieldCurve, YieldPoint};
 use crate::random::{around, Random, NOT_FINITE};
 use crate::{called, input};
 
-const MOST_KNOTS: usize = 120;
 /// The counts of knots at which code turns.
-const COUNTS: [usize; 5] = [1, 2, 3, 119, 120];
+const COUNTS: [usize; 5] = [1, 2, 3, MOST_KNOTS - 1, MOST_KNOTS];
 /// The decay of a fitted model, and the least pivot that document 01 compares.
 const FITTED_DECAY: f64 = 0.5;
 const LEAST_PIVOT: f64 = 1e-3;
@@ -309,7 +309,7 @@ fn points(random: &mut Random) -> Case<Curve> {
 /// One point is its own level; two leave a pivot of nothing, and so zeros; 120 are the most; three whose first is at the least time told from 0.
 fn point_edges() -> Vec<Case<Curve>> {
     let three = |first| plain(Curve { times: vec![first, 0.0625, 8.0], rates: vec![1.0, -1.0, 1.0] });
-    [1, 2, 119, 120].map(|count| plain(uneven(count))).into_iter().chain(around(1e-10).map(three)).chain([three(0.0)]).collect()
+    [1, 2, MOST_KNOTS - 1, MOST_KNOTS].map(|count| plain(uneven(count))).into_iter().chain(around(1e-10).map(three)).chain([three(0.0)]).collect()
 }
 
 pub fn fit(curve: &Curve) -> Answer {

@@ -2,7 +2,7 @@
 // docs/DIFFERENCES.md has these rows; a difference on no list is a fault.
 use crate::curves::{self, At, Between, Curve, Model};
 use crate::harness::Answer;
-use crate::loans::{self, InHand, Loan, Refinancing};
+use crate::loans::{self, Loan};
 use crate::pools::{Flows as PoolFlows, Month, Pool};
 use crate::published::bond;
 use crate::published::mortgage::{monthly_smm, MortgageCalculator};
@@ -10,8 +10,10 @@ use crate::published::opened_swaps::opened_rate;
 use crate::published::spread_analytics::{bond_cash_flows, z_spread};
 use crate::published::swaps::{fixed_leg_pv, DiscountCurve};
 use crate::published::yield_curve::YieldCurve;
+use crate::rows::{self, InHand, WIDTH};
 use crate::spreads::Flows;
 use crate::swaps::{Swap, Valued};
+use crate::totals::{self, Refinancing};
 use crate::{bonds, elementary, pools, spreads, swaps};
 use std::fmt::Debug;
 use std::panic::{catch_unwind, AssertUnwindSafe};
@@ -81,7 +83,7 @@ fn rust_payment(loan: &Loan) -> f64 {
 }
 
 fn rust_rows(loan: &Loan) -> Vec<f64> {
-    MortgageCalculator::amortization_schedule(&loan.terms()).iter().flat_map(loans::numbers_of).collect()
+    MortgageCalculator::amortization_schedule(&loan.terms()).iter().flat_map(rows::numbers_of).collect()
 }
 
 fn elementary_functions() -> Vec<Difference> {
@@ -103,26 +105,26 @@ fn of_loans() -> Vec<Difference> {
     let loan = |principal, rate, term| Loan { principal, rate, term };
     let payment = |what, input| differ(what, TABLE, input, loans::payment, rust_payment);
     let refinancing = |what, old, cost, elapsed| {
-        differ(what, TABLE, Refinancing { old, new: loan(1.0, 0.0, 1), cost, elapsed }, loans::breakeven, |input| {
+        differ(what, TABLE, Refinancing { old, new: loan(1.0, 0.0, 1), cost, elapsed }, totals::breakeven, |input| {
             MortgageCalculator::refinance_breakeven(&input.old.terms(), &input.new.terms(), input.cost, input.elapsed).map(f64::from)
         })
     };
     let made_up = |loan: &Loan| {
-        let mut hand = InHand { term: loan.term, rate: loan.rate, payment: rust_payment(loan), done: 0, balance: loan.principal };
-        loans::draw(&mut hand, 5).map(|drawn| drawn[2..].to_vec())
+        let mut hand = InHand { counts: [loan.term, 0], amounts: [loan.rate, rust_payment(loan), loan.principal] };
+        rows::draw(&mut hand, WIDTH).map(|drawn| drawn[2..].to_vec())
     };
     vec![
         payment("a principal below zero", loan(-1.0, 0.0, 1)),
         payment("a principal that is not finite", loan(f64::NAN, 0.0, 1)),
         payment("a term above 1,200", loan(1.0, 0.0, 1201)),
         payment("the payment of a term of 0", loan(1.0, 0.0, 0)),
-        differ("the rows of a term of 0", TABLE, loan(1.0, 0.0, 0), loans::own_rows, rust_rows),
+        differ("the rows of a term of 0", TABLE, loan(1.0, 0.0, 0), rows::own_rows, rust_rows),
         differ(
             "a NaN balance in a made-up state: the first row",
             "lowering to a NaN gives the NaN; no opening gives such a state",
             loan(f64::NAN, 0.0, 2),
             made_up,
-            |loan| rust_rows(loan)[..5].to_vec(),
+            |loan| rust_rows(loan)[..WIDTH as usize].to_vec(),
         ),
         differ(
             "a payment in its last digits",

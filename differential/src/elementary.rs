@@ -1,6 +1,7 @@
 // exp, ln and powers beside the standard library's, which asks the machine's C library: document 01 allows 1e-12 relative.
 use crate::harness::{plain, relative, Answer, Case, Compared, Family, Unanswered};
-use crate::library::{asked, senyolanda_exp, senyolanda_exp_each, senyolanda_ln, senyolanda_power};
+use crate::asking::asked;
+use crate::library::{senyolanda_exp, senyolanda_exp_each, senyolanda_ln, senyolanda_power};
 use crate::random::{around, Random, TURNS};
 use crate::{called, input};
 use std::f64::consts::{LN_2, SQRT_2};

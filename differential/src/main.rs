@@ -1,20 +1,24 @@
 // Compares the library with the Rust's published files, family by family: `compare [COUNT | --list FOLDER | --differences]`.
 // Each family prints a line, `FAMILY cases N refused R worst W allowed T`; the last line is `N passed, 0 failed`.
+mod asking;
 mod bonds;
 mod books;
 mod curves;
 mod differences;
 mod elementary;
 mod harness;
+#[path = "../../test/library.rs"]
 mod library;
 mod listed;
 mod loans;
 mod pools;
 mod published;
 mod random;
+mod rows;
 mod runner;
 mod spreads;
 mod swaps;
+mod totals;
 
 use harness::Compared;
 use runner::{Asked, Tally};
@@ -29,6 +33,8 @@ fn families() -> Vec<Compared> {
     let modules = [
         elementary::families,
         loans::families,
+        rows::families,
+        totals::families,
         books::families,
         pools::families,
         bonds::families,

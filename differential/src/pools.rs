@@ -1,4 +1,5 @@
 // Prepayment speeds and pools beside mortgage.rs.
+use crate::asking::*;
 use crate::harness::{bits, part_of, plain, refused, relative, Allowed, Answer, Case, Compared, Family};
 use crate::library::*;
 use crate::loans::{plain_loan, Loan, ODD_RATES};
@@ -9,8 +10,6 @@ use crate::{called, input};
 pub const CPR: u32 = 0;
 pub const PSA: u32 = 1;
 const HISTORY: u32 = 2;
-/// Numbers of a pool's month.
-const WIDTH: usize = 3;
 const MOST_LOANS: usize = 64;
 /// How far duration and convexity move the discount rate.
 const BUMP: f64 = 0.0001;
@@ -154,7 +153,7 @@ fn edges() -> Vec<Case<Pool>> {
 }
 
 fn roomy(case: Case<Pool>) -> Case<Flows> {
-    case.map(|pool| Flows { places: WIDTH as u32 * pool.months().min(1200), pool })
+    case.map(|pool| Flows { places: POOL_MONTH_PLACES as u32 * pool.months().min(1200), pool })
 }
 
 /// Every room for a pool of four months, from none to more than is due.

@@ -1,4 +1,5 @@
 // Rate curves, cash flows and spreads beside spread_analytics.rs; flows as two lists, and as one list of dated amounts.
+use crate::asking::*;
 use crate::curves::{between, discounting, interpolation, or_refused, over, over_two, plain_at, plain_curve, At, Between, Curve};
 use crate::harness::{bits, part_of, plain, refused, Answer, Case, Compared, Family};
 use crate::library::*;

@@ -1,4 +1,5 @@
 // Day counts, discount curves, bootstraps and swaps beside swaps.rs.
+use crate::asking::*;
 use crate::curves::{discounting, interpolation, or_refused, over, plain_curve, At, Curve};
 use crate::harness::{absolute, bits, part_of, plain, refused, relative, Answer, Case, Compared, Family, Unanswered};
 use crate::library::*;
@@ -24,8 +25,8 @@ fn day_count(code: u32) -> DayCount {
 }
 
 impl Swap {
-    fn record(&self) -> [u8; 30] {
-        let mut record = [4; 30];
+    fn record(&self) -> [u8; SWAP_BYTES] {
+        let mut record = [4; SWAP_BYTES];
         record[1..9].copy_from_slice(&self.notional.to_le_bytes());
         record[9..17].copy_from_slice(&self.rate.to_le_bytes());
         record[17..25].copy_from_slice(&self.tenor.to_le_bytes());

@@ -7,6 +7,9 @@
 
 #include "harness.h"
 
+/* Numbers of a row. */
+enum { WIDTH = SENYOLANDA_ROW_PLACES };
+
 /* One more than the most that is taken, and one more again. */
 enum { LOANS = 258, KNOTS = 122, FLOWS = 1202, MONTHS = 4, ASKED = 20 };
 

@@ -86,8 +86,8 @@ double *lend_numbers_in_hand(const double *numbers, size_t count) {
     return lend_filled(AS_ROOM, numbers, count * sizeof *numbers);
 }
 
-uint32_t *lend_count_in_hand(uint32_t count) {
-    return lend_filled(AS_ROOM, &count, sizeof count);
+uint32_t *lend_counts_in_hand(const uint32_t *counts, size_t count) {
+    return lend_filled(AS_ROOM, counts, count * sizeof *counts);
 }
 
 int lent_something_empty(void) {
@@ -136,8 +136,12 @@ const double *answered_numbers(size_t k) {
     return (const double *)(const void *)answered_bytes(k);
 }
 
+const uint32_t *answered_counts(size_t k) {
+    return (const uint32_t *)(const void *)answered_bytes(k);
+}
+
 uint32_t answered_count(size_t k) {
-    return *(const uint32_t *)(const void *)answered_bytes(k);
+    return answered_counts(k)[0];
 }
 
 int answered_bytes_stay(size_t k, size_t from) {

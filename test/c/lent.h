@@ -42,7 +42,7 @@ double *lend_places(size_t count);
 
 /* Places that go in with numbers and come back with others. */
 double *lend_numbers_in_hand(const double *numbers, size_t count);
-uint32_t *lend_count_in_hand(uint32_t count);
+uint32_t *lend_counts_in_hand(const uint32_t *counts, size_t count);
 
 /* Whether an empty piece was lent since the last time that all was taken back. */
 int lent_something_empty(void);
@@ -57,6 +57,7 @@ const char *wrong_with_lent(int accepted);
 /* What stands in the piece k, from 0, of those that were lent to be written. */
 const double *answered_numbers(size_t k);
 const uint8_t *answered_bytes(size_t k);
+const uint32_t *answered_counts(size_t k);
 uint32_t answered_count(size_t k);
 
 /* Whether such a piece is as it was lent: all of it, or its bytes or its numbers from an index on. */

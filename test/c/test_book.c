@@ -37,11 +37,11 @@ static const struct cause book_causes[] = {
     CAUSE(3, WHOLE(answers_count, 2)),
     CAUSE(3, WHOLE(answers_count, 0)),
     TAKEN(WHOLE(answers_count, 4)),
-    CAUSE(3, WHOLE(places, 4)),
+    CAUSE(3, WHOLE(places, WIDTH - 1)),
     CAUSE(3, WHOLE(places, 0)),
-    CAUSE(3, WHOLE(places, 4), WHOLE(loans[0].term, 0), WHOLE(loans[1].kind, 2)),
-    TAKEN(WHOLE(places, 5)),
-    TAKEN(WHOLE(places, 59)),
+    CAUSE(3, WHOLE(places, WIDTH - 1), WHOLE(loans[0].term, 0), WHOLE(loans[1].kind, 2)),
+    TAKEN(WHOLE(places, WIDTH)),
+    TAKEN(WHOLE(places, 12 * WIDTH - 1)),
     TAKEN(WHOLE(places, 0), WHOLE(loans_count, 0)),
     TAKEN(WHOLE(places, 0), WHOLE(loans_count, 1), WHOLE(loans[0].term, 1201)),
     TAKEN(WHOLE(loans[0].kind, 3)),
@@ -77,7 +77,7 @@ static int drawn_alone(const struct loan_parts *parts, uint32_t *answer) {
         if (senyolanda_number(result) == 3) return 0;
     }
     *answer = senyolanda_number(result);
-    wanted.filled += written * SENYOLANDA_ROW_PLACES;
+    wanted.filled += written * WIDTH;
     wanted.cut = owed == 0 ? 0 : written;
     return owed == 0;
 }
@@ -125,7 +125,7 @@ static void random_books(void) {
     for (int i = 0; i < 20000; i++) {
         desk.loans_count = random_below(10);
         desk.answers_count = desk.loans_count + random_below(3);
-        desk.places = 5 + random_below(PLACES - 5);
+        desk.places = WIDTH + random_below(PLACES - WIDTH);
         for (size_t k = 0; k < desk.loans_count; k++) desk.loans[k] = random_loan();
         is_as_one_by_one();
     }
@@ -134,7 +134,7 @@ static void random_books(void) {
 
 /* Loans of the longest terms beside short ones, and room for a row less, as many, and one more. */
 static void ends_of_the_room(void) {
-    for (size_t places = 5; places <= 65; places++) {
+    for (size_t places = WIDTH; places <= 13 * WIDTH; places++) {
         desk.places = places;
         is_as_one_by_one();
     }

@@ -75,14 +75,14 @@ static void is_row(const double *room, uint32_t month, double principal, double 
 static void loans(void) {
     struct record record = loan_record();
     struct senyolanda_loan loan;
-    double room[SENYOLANDA_ROW_PLACES];
+    double room[WIDTH];
     uint32_t written, owed;
     CHECK(senyolanda_loan_open(record.bytes, record.length, &loan) == 0);
     is_loan(&loan, 0, 900, 1000);
-    CHECK(senyolanda_loan_draw(&loan, room, SENYOLANDA_ROW_PLACES, &written, &owed) == 0);
+    CHECK(senyolanda_loan_draw(&loan, room, WIDTH, &written, &owed) == 0);
     CHECK(written == 1 && owed == 1);
     is_row(room, 1, 400, 500, 600);
-    CHECK(senyolanda_loan_draw(&loan, room, SENYOLANDA_ROW_PLACES, &written, &owed) == 0);
+    CHECK(senyolanda_loan_draw(&loan, room, WIDTH, &written, &owed) == 0);
     CHECK(written == 1 && owed == 0);
     is_row(room, 2, 600, 300, 0);
     is_loan(&loan, 2, 900, 0);
@@ -103,15 +103,15 @@ static void next_row(void) {
 
 /* Rows of a full room stand one after the other. */
 static void rows(void) {
-    double room[3 * SENYOLANDA_ROW_PLACES];
-    for (size_t i = 0; i < 3 * SENYOLANDA_ROW_PLACES; i++) room[i] = (double)i;
+    double room[3 * WIDTH];
+    for (size_t i = 0; i < 3 * WIDTH; i++) room[i] = (double)i;
     for (size_t i = 0; i < 3; i++) {
         struct senyolanda_row row = senyolanda_row_at(room, i);
-        CHECK(row.month == 5 * i);
-        IS(row.payment, room[5 * i + 1]);
-        IS(row.principal, room[5 * i + 2]);
-        IS(row.interest, room[5 * i + 3]);
-        IS(row.balance, room[5 * i + 4]);
+        CHECK(row.month == WIDTH * i);
+        IS(row.payment, room[WIDTH * i + 1]);
+        IS(row.principal, room[WIDTH * i + 2]);
+        IS(row.interest, room[WIDTH * i + 3]);
+        IS(row.balance, room[WIDTH * i + 4]);
     }
 }
 
@@ -137,14 +137,14 @@ static void flows(void) {
 static void payments(void) {
     struct record record = loan_record();
     struct senyolanda_loan loan;
-    double room[2 * SENYOLANDA_ROW_PLACES];
+    double room[2 * WIDTH];
     uint32_t written, owed;
     CHECK(senyolanda_loan_open_with_payment(record.bytes, record.length, 4000, &loan) == 0);
-    CHECK(senyolanda_loan_draw(&loan, room, 2 * SENYOLANDA_ROW_PLACES, &written, &owed) == 0);
+    CHECK(senyolanda_loan_draw(&loan, room, 2 * WIDTH, &written, &owed) == 0);
     IS(senyolanda_row_at(room, 0).payment, 4000);
     IS(senyolanda_row_at(room, 0).principal, 1000);
     CHECK(senyolanda_loan_open_with_payment(record.bytes, record.length, 100, &loan) == 0);
-    CHECK(senyolanda_loan_draw(&loan, room, 2 * SENYOLANDA_ROW_PLACES, &written, &owed) == 0);
+    CHECK(senyolanda_loan_draw(&loan, room, 2 * WIDTH, &written, &owed) == 0);
     IS(senyolanda_row_at(room, 0).interest, 500);
     IS(senyolanda_row_at(room, 0).balance, 1000);
 }
@@ -152,16 +152,16 @@ static void payments(void) {
 /* A loan that was cut is the one at index finished, and starts again when the book goes on from there. */
 static void book(void) {
     uint8_t records[2 * SENYOLANDA_LOAN_BYTES];
-    double room[3 * SENYOLANDA_ROW_PLACES], rest[2 * SENYOLANDA_ROW_PLACES];
+    double room[3 * WIDTH], rest[2 * WIDTH];
     uint32_t answers[2], finished = 9, cut = 9, waiting = 9;
     senyolanda_write_loan(1000, 6, 2, records);
     senyolanda_write_loan(1000, 0, 2, records + SENYOLANDA_LOAN_BYTES);
-    CHECK(senyolanda_draw_book(records, sizeof records, answers, 2, room, 15, &finished, &cut, &waiting) == 0);
+    CHECK(senyolanda_draw_book(records, sizeof records, answers, 2, room, 3 * WIDTH, &finished, &cut, &waiting) == 0);
     CHECK(finished == 1 && cut == 1 && waiting == 0);
     CHECK(senyolanda_draw_book(records + finished * SENYOLANDA_LOAN_BYTES, sizeof records - finished * SENYOLANDA_LOAN_BYTES,
-        answers, 1, rest, 10, &finished, &cut, &waiting) == 0);
+        answers, 1, rest, 2 * WIDTH, &finished, &cut, &waiting) == 0);
     CHECK(finished == 1 && cut == 0 && waiting == 0);
-    CHECK(memcmp(rest, room + 2 * SENYOLANDA_ROW_PLACES, sizeof *rest * SENYOLANDA_ROW_PLACES) == 0);
+    CHECK(memcmp(rest, room + 2 * WIDTH, sizeof *rest * WIDTH) == 0);
 }
 
 /* The worked-out payment at a rate of 0, at one that 1 does not feel, and at one whose power overflows. */

@@ -3,13 +3,13 @@
  * 01's row rule to the bit; for ordinary, wild and NaN loans, and for states that nobody opened.
  */
 #include "damaged.h"
-#include "draws.h"
+#include "loans.h"
 
 #include <float.h>
 #include <math.h>
 #include <stdio.h>
 
-enum { WIDTH = SENYOLANDA_ROW_PLACES, MOST_ROWS = SENYOLANDA_MOST_MONTHS };
+enum { MOST_ROWS = SENYOLANDA_MOST_MONTHS };
 
 /* The loan before its first draw, and its rows by document 01's rule, that of month k at the index k - 1. */
 static struct desk untouched;
@@ -55,9 +55,12 @@ static void work_rows_out(void) {
 static uint32_t move_on(void) {
     uint32_t written = answered_count(WRITTEN);
     CHECK(written + answered_count(OWED) == desk.loan.term - desk.done);
-    CHECK(answered_count(DONE) == desk.done + written);
-    desk.done = answered_count(DONE);
-    desk.balance = answered_numbers(BALANCE)[0];
+    struct senyolanda_loan loan = answered_loan();
+    CHECK(loan.done == desk.done + written);
+    CHECK(loan.term == desk.loan.term);
+    CHECK(same_number(loan.rate, desk.loan.rate) && same_number(loan.payment, desk.payment));
+    desk.done = loan.done;
+    desk.balance = loan.balance;
     return written;
 }
 
@@ -101,7 +104,7 @@ static void draw_finished(void) {
     for (desk.places = 0; desk.places <= 2 * WIDTH; desk.places++) {
         ACCEPTED(call_draw);
         CHECK(answered_count(WRITTEN) == 0 && answered_count(OWED) == 0);
-        CHECK(answered_stays(DONE) && answered_stays(BALANCE) && answered_stays(ROOM));
+        CHECK(answered_stays(COUNTS) && answered_stays(AMOUNTS) && answered_stays(ROOM));
     }
 }
 

@@ -1,13 +1,24 @@
-// The library's exported functions that have a counterpart in the Rust, as the host's header declares them, and how an answer is asked for.
-// What reads and writes records has none: records are handed in as bytes made here, and a drawn row's record is taken apart here.
-use crate::harness::{Answer, Unanswered};
+//! The library's functions for Rust programs, as include/senyolanda.h declares them; test/header.py holds them to it.
 
-/// What stands in lent memory before a call: far from every answer, so that no scale hides a stray write.
-pub const UNTOUCHED: f64 = 1.234567890123456e300;
-pub const UNTOUCHED_COUNT: u32 = 0xa5a5_a5a5;
+/// 0 where a call was accepted, else a refusal.
+pub type Outcome = u64;
+
+pub const LOAN_BYTES: usize = 21;
+pub const BOND_BYTES: usize = 26;
+pub const ROW_BYTES: usize = 37;
+pub const SWAP_BYTES: usize = 30;
+pub const LISTING_BYTES: usize = 96000;
+pub const ROW_PLACES: usize = 5;
+pub const POOL_MONTH_PLACES: usize = 3;
+pub const LOAN_COUNTS: usize = 2;
+pub const LOAN_AMOUNTS: usize = 3;
+pub const MOST_BOOK_LOANS: usize = 256;
+pub const MOST_KNOTS: usize = 120;
 
 type Number<'a> = &'a mut f64;
 type Count<'a> = &'a mut u32;
+type Counts<'a> = &'a mut [u32; LOAN_COUNTS];
+type Amounts<'a> = &'a mut [f64; LOAN_AMOUNTS];
 
 /// Declares exported functions: a list in brackets crosses as its pointer and its count, room as `[mut room: f64]` likewise.
 macro_rules! exported {
@@ -16,7 +27,7 @@ macro_rules! exported {
     };
     (@ $name:ident ($($done:tt)*)) => {
         extern "C" {
-            pub fn $name($($done)*) -> u64;
+            pub fn $name($($done)*) -> Outcome;
         }
     };
     (@ $name:ident ($($done:tt)*) [mut $room:ident: $item:ty] $(, $($rest:tt)*)?) => {
@@ -37,17 +48,17 @@ exported! {
     senyolanda_power(x: f64, y: f64, answer: Number);
 
     senyolanda_monthly_payment([record: u8], payment: Number);
-    senyolanda_open([record: u8], term: Count, rate: Number, payment: Number, done: Count, balance: Number);
-    senyolanda_open_with_payment([record: u8], given: f64, term: Count, rate: Number, payment: Number, done: Count, balance: Number);
-    senyolanda_draw(term: u32, rate: f64, payment: f64, done: Count, balance: Number, [mut room: f64], written: Count, owed: Count);
-    senyolanda_next_row(term: u32, rate: f64, payment: f64, done: Count, balance: Number, record: &mut [u8; 37], written: Count, owed: Count);
+    senyolanda_open([record: u8], counts: Counts, amounts: Amounts);
+    senyolanda_open_with_payment([record: u8], given: f64, counts: Counts, amounts: Amounts);
+    senyolanda_draw(counts: Counts, amounts: Amounts, [mut room: f64], written: Count, owed: Count);
+    senyolanda_next_row(counts: Counts, amounts: Amounts, record: &mut [u8; ROW_BYTES], written: Count, owed: Count);
     senyolanda_draw_book([records: u8], [mut answers: u32], [mut room: f64], finished: Count, cut: Count, waiting: Count);
     senyolanda_total_interest([record: u8], interest: Number);
     senyolanda_remaining_balance([record: u8], months: u32, balance: Number);
     senyolanda_ltv([record: u8], value: f64, ratio: Number);
     senyolanda_prepayment_savings([record: u8], extra: f64, months: Count, interest: Number);
-    senyolanda_refinance_breakeven([old: u8], [new: u8], cost: f64, elapsed: u32, month: Count);
-    senyolanda_listing([record: u8], text: &mut [u8; 96000], size: Count);
+    senyolanda_refinance_breakeven([old_record: u8], [new_record: u8], cost: f64, elapsed: u32, month: Count);
+    senyolanda_listing([record: u8], text: &mut [u8; LISTING_BYTES], size: Count);
 
     senyolanda_monthly_smm(speed: u32, number: f64, [history: f64], month: u32, smm: Number);
     senyolanda_pool_cash_flows([records: u8], speed: u32, number: f64, [history: f64], [mut room: f64], months: Count);
@@ -78,13 +89,13 @@ exported! {
     senyolanda_yield_curve_forward_rate([times: f64], [rates: f64], t1: f64, t2: f64, rate: Number);
     senyolanda_par_yield([times: f64], [rates: f64], t: f64, par: Number);
     senyolanda_nelson_siegel_fit([times: f64], [rates: f64], model: &mut [f64; 4]);
-    senyolanda_nelson_siegel_yield(model: &[f64; 4], t: f64, answer: Number);
+    senyolanda_nelson_siegel_yield(model: &[f64; 4], t: f64, rate: Number);
     senyolanda_nelson_siegel_forward_rate(model: &[f64; 4], t: f64, rate: Number);
     senyolanda_nelson_siegel_instantaneous_forward(model: &[f64; 4], rate: Number);
     senyolanda_nelson_siegel_metrics(model: &[f64; 4], metrics: &mut [f64; 3]);
 
     senyolanda_day_count_fraction(day_count: u32, days: u32, fraction: Number);
-    senyolanda_bootstrap([tenors: f64], [par_rates: f64], zero_rates: &mut [f64; 120]);
+    senyolanda_bootstrap([tenors: f64], [par_rates: f64], zero_rates: &mut [f64; MOST_KNOTS]);
     senyolanda_discount_curve_rate([tenors: f64], [zeros: f64], t: f64, rate: Number);
     senyolanda_discount_curve_rate_each([tenors: f64], [zeros: f64], [mut asked: f64]);
     senyolanda_discount_curve_factor([tenors: f64], [zeros: f64], t: f64, factor: Number);
@@ -114,6 +125,23 @@ exported! {
     senyolanda_points_to_decimal(points: f64, rate: Number);
 }
 
+/// The readers and writers of records.
+#[allow(dead_code)]
+pub mod records {
+    use super::*;
+
+    exported! {
+        senyolanda_read_loan([record: u8], principal: Number, rate: Number, term: Count);
+        senyolanda_write_loan(principal: f64, rate: f64, term: u32, record: &mut [u8; LOAN_BYTES]);
+        senyolanda_read_bond([record: u8], face: Number, coupon: Number, maturity: Number, frequency: Count);
+        senyolanda_write_bond(face: f64, coupon: f64, maturity: f64, frequency: u32, record: &mut [u8; BOND_BYTES]);
+        senyolanda_read_row([record: u8], month: Count, payment: Number, principal: Number, interest: Number, balance: Number);
+        senyolanda_write_row(month: u32, payment: f64, principal: f64, interest: f64, balance: f64, record: &mut [u8; ROW_BYTES]);
+        senyolanda_read_swap([record: u8], notional: Number, rate: Number, tenor: Number, frequency: Count, day_count: Count);
+        senyolanda_write_swap(notional: f64, rate: f64, tenor: f64, frequency: u32, day_count: u32, record: &mut [u8; SWAP_BYTES]);
+    }
+}
+
 /// Calls an exported function, with lists in brackets as it is declared.
 #[macro_export]
 macro_rules! called {
@@ -132,35 +160,4 @@ macro_rules! called {
     ($function:ident, $($arguments:tt)*) => {
         $crate::called!(@ $function () $($arguments)*)
     };
-}
-
-/// What a call answered in the numbers lent to it; a refusal must leave them as they were.
-pub fn settled(result: u64, lent: Vec<f64>, counts: &[u32]) -> Answer {
-    let untouched = lent.iter().all(|x| x.to_bits() == UNTOUCHED.to_bits()) && counts.iter().all(|c| *c == UNTOUCHED_COUNT);
-    match result {
-        0 => Ok(counts.iter().map(|c| f64::from(*c)).chain(lent).collect()),
-        _ if untouched => Err(Unanswered::Refused(result)),
-        _ => Err(Unanswered::Broken("a refusal touched lent memory")),
-    }
-}
-
-/// Asks for one number.
-pub fn asked(call: impl FnOnce(&mut f64) -> u64) -> Answer {
-    let mut answer = UNTOUCHED;
-    let result = call(&mut answer);
-    settled(result, vec![answer], &[])
-}
-
-/// Asks for an array of numbers.
-pub fn asked_for<const N: usize>(call: impl FnOnce(&mut [f64; N]) -> u64) -> Answer {
-    let mut answers = [UNTOUCHED; N];
-    let result = call(&mut answers);
-    settled(result, answers.to_vec(), &[])
-}
-
-/// Asks for a count and a number, the count first.
-pub fn asked_with_count(call: impl FnOnce(&mut u32, &mut f64) -> u64) -> Answer {
-    let (mut count, mut answer) = (UNTOUCHED_COUNT, UNTOUCHED);
-    let result = call(&mut count, &mut answer);
-    settled(result, vec![answer], &[count])
 }

@@ -1,0 +1,96 @@
+#include "loans.h"
+
+#include "damaged.h"
+
+#include <float.h>
+#include <math.h>
+
+const struct cause loan_causes[] = {
+    LOAN_AT(0, loan),
+    AMOUNT_TAKEN(loan.principal),
+    TAKEN(WHOLE(loan.term, 1)),
+    TAKEN(WHOLE(loan.term, 1200)),
+    TAKEN(NUMBER(loan.rate, NAN)),
+    TAKEN(NUMBER(loan.rate, -INFINITY)),
+    FINITE_TAKEN(loan.rate),
+    END_OF_CAUSES,
+};
+
+/* What no line names is taken as it stands. */
+const struct cause beside_loan_causes[] = {
+    TAKEN(NUMBER(payment, NAN)),
+    TAKEN(NUMBER(payment, -INFINITY)),
+    TAKEN(NUMBER(value, 0.0)),
+    TAKEN(NUMBER(value, NAN)),
+    TAKEN(NUMBER(extra, NAN)),
+    TAKEN(NUMBER(extra, -INFINITY)),
+    TAKEN(WHOLE(months, 0)),
+    TAKEN(WHOLE(months, UINT32_MAX)),
+    END_OF_CAUSES,
+};
+
+senyolanda_result loan_deserved(const struct record *record) {
+    if (record->length != SENYOLANDA_LOAN_BYTES || record->bytes[0] != 1) return refusal(11, 0);
+    if (is_bad_amount(number_in(record->bytes + 1))) return refusal(1, 0);
+    return is_bad_term(count_in(record->bytes + 17)) ? refusal(2, 0) : 0;
+}
+
+void set_loan(double principal, double rate, uint32_t term) {
+    struct loan_parts loan = { 1, principal, rate, term, SENYOLANDA_LOAN_BYTES };
+    desk.loan = loan;
+}
+
+/* ---- a loan in hand ---- */
+
+/* Its counts and amounts, and where a call says of its rows. */
+struct lent_loan {
+    uint32_t *counts;
+    double *amounts;
+    uint32_t *written, *owed;
+};
+
+static senyolanda_result opened(struct lent_bytes record, const double *given) {
+    uint32_t *counts = lend(FOR_ANSWER, SENYOLANDA_LOAN_COUNTS * sizeof *counts);
+    double *amounts = lend_places(SENYOLANDA_LOAN_AMOUNTS);
+    return given == NULL ? CALL(senyolanda_open(record.bytes, record.length, counts, amounts))
+                         : CALL(senyolanda_open_with_payment(record.bytes, record.length, *given, counts, amounts));
+}
+
+senyolanda_result call_open(void) {
+    return opened(lend_loan(), NULL);
+}
+
+senyolanda_result call_open_with_payment(void) {
+    return opened(lend_loan(), &desk.payment);
+}
+
+static struct lent_loan lend_loan_in_hand(void) {
+    struct senyolanda_loan hand = { desk.loan.term, desk.done, desk.loan.rate, desk.payment, desk.balance };
+    uint32_t counts[SENYOLANDA_LOAN_COUNTS];
+    double amounts[SENYOLANDA_LOAN_AMOUNTS];
+    struct lent_loan loan;
+    senyolanda_loan_taken_apart(&hand, counts, amounts);
+    loan.counts = lend_counts_in_hand(counts, SENYOLANDA_LOAN_COUNTS);
+    loan.amounts = lend_numbers_in_hand(amounts, SENYOLANDA_LOAN_AMOUNTS);
+    loan.written = lend_count();
+    loan.owed = lend_count();
+    return loan;
+}
+
+senyolanda_result call_draw(void) {
+    struct lent_loan loan = lend_loan_in_hand();
+    double *room = lend(AS_ROOM, desk.places * sizeof *room);
+    return CALL(senyolanda_draw(loan.counts, loan.amounts, room, desk.places, loan.written, loan.owed));
+}
+
+senyolanda_result call_next_row(void) {
+    struct lent_loan loan = lend_loan_in_hand();
+    uint8_t *record = lend(AS_ROOM, SENYOLANDA_ROW_BYTES);
+    return CALL(senyolanda_next_row(loan.counts, loan.amounts, record, loan.written, loan.owed));
+}
+
+struct senyolanda_loan answered_loan(void) {
+    struct senyolanda_loan loan;
+    senyolanda_loan_put_together(&loan, answered_counts(COUNTS), answered_numbers(AMOUNTS));
+    return loan;
+}

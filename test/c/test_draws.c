@@ -1,0 +1,210 @@
+/* Loans in hand: openings, draws into every room, and the next row alone. */
+#include "damaged.h"
+#include "loans.h"
+
+#include <float.h>
+#include <math.h>
+#include <string.h>
+
+static const struct claim matrix[] = {
+    /*                          1 2 3 4 5 6 7 8 9 10 11 12 13 */
+    CLAIM(open,                "1 2 . . . . . . . .. 11 .. .."),
+    CLAIM(open_with_payment,   "1 2 . . . . . . . .. 11 .. .."),
+    CLAIM(draw,                ". 2 3 . . . . . . 10 .. .. .."),
+    CLAIM(next_row,            ". 2 . . . . . . . 10 .. .. .."),
+    END_OF_MATRIX,
+};
+
+/* ---- causes ---- */
+
+/* A loan in hand; at rest 12 months, none of them done. */
+static const struct cause state_causes[] = {
+    CAUSE(2, WHOLE(loan.term, 0)),
+    CAUSE(2, WHOLE(loan.term, 1201)),
+    CAUSE(2, WHOLE(loan.term, UINT32_MAX)),
+    CAUSE(10, WHOLE(done, 13)),
+    CAUSE(10, WHOLE(done, UINT32_MAX)),
+    CAUSE(10, WHOLE(done, 2), WHOLE(loan.term, 1)),
+    CAUSE(10, WHOLE(done, 1201), WHOLE(loan.term, 1200)),
+    CAUSE(2, WHOLE(done, 1), WHOLE(loan.term, 0)),
+    CAUSE(2, WHOLE(done, 1202), WHOLE(loan.term, 1201)),
+    TAKEN(WHOLE(loan.term, 1)),
+    TAKEN(WHOLE(loan.term, 1200)),
+    TAKEN(WHOLE(done, 11)),
+    TAKEN(WHOLE(done, 12)),
+    TAKEN(NUMBER(balance, NAN)),
+    TAKEN(NUMBER(balance, -1)),
+    TAKEN(NUMBER(payment, NAN)),
+    TAKEN(NUMBER(loan.rate, INFINITY)),
+    END_OF_CAUSES,
+};
+
+/* No rows are due where more months are done than the term, so that 3 has no cause. */
+static const struct cause room_causes[] = {
+    CAUSE_UNLESS(10, 3, WHOLE(places, 0)),
+    CAUSE_UNLESS(10, 3, WHOLE(places, 1)),
+    CAUSE_UNLESS(10, 3, WHOLE(places, WIDTH - 1)),
+    TAKEN(WHOLE(places, WIDTH)),
+    TAKEN(WHOLE(places, 2 * WIDTH - 1)),
+    TAKEN(WHOLE(places, 12 * WIDTH - 1)),
+    TAKEN(WHOLE(places, 12 * WIDTH + 1)),
+    TAKEN(WHOLE(done, 12), WHOLE(places, 0)),
+    TAKEN(WHOLE(done, 12), WHOLE(places, WIDTH - 1)),
+    CAUSE(3, WHOLE(done, 11), WHOLE(places, WIDTH - 1)),
+    END_OF_CAUSES,
+};
+
+/* ---- what each function can meet ---- */
+
+static const struct function functions[] = {
+    { FUNCTION(open), { loan_causes }, loan_deserved },
+    { FUNCTION(open_with_payment), { loan_causes, beside_loan_causes }, loan_deserved },
+    { FUNCTION(draw), { state_causes, room_causes }, NULL },
+    { FUNCTION(next_row), { state_causes }, NULL },
+    END_OF_FUNCTIONS,
+};
+
+/* ---- figures ---- */
+
+static void is_open(double payment) {
+    struct senyolanda_loan loan = answered_loan();
+    CHECK(loan.term == desk.loan.term);
+    CHECK(loan.done == 0);
+    IS(loan.rate, desk.loan.rate);
+    IS(loan.payment, payment);
+    IS(loan.balance, desk.loan.principal);
+}
+
+static void openings(void) {
+    set_loan(1000, 6, 2);
+    ACCEPTED(call_open);
+    is_open(900);
+    desk.payment = 123.5;
+    ACCEPTED(call_open_with_payment);
+    is_open(123.5);
+    desk.payment = NAN;
+    ACCEPTED(call_open_with_payment);
+    is_open(NAN);
+}
+
+static void set_state(double payment) {
+    desk.payment = payment;
+    desk.done = 0;
+    desk.balance = desk.loan.principal;
+    desk.places = WIDTH * desk.loan.term;
+}
+
+/* A row of the last draw: month, payment, principal, interest, balance. */
+static void is_row(size_t index, double payment, double principal, double interest, double balance) {
+    const double *row = answered_numbers(ROOM) + WIDTH * index;
+    IS(row[0], (double)index + 1);
+    IS(row[1], payment);
+    IS(row[2], principal);
+    IS(row[3], interest);
+    IS(row[4], balance);
+}
+
+/* The desk's loan opened, then drawn whole. */
+static void draw_whole(double payment) {
+    set_state(payment);
+    ACCEPTED(call_draw);
+    CHECK(answered_count(WRITTEN) == desk.loan.term);
+    CHECK(answered_count(OWED) == 0);
+    CHECK(answered_loan().done == desk.loan.term);
+}
+
+static void document_01(void) {
+    set_loan(1200, 0, 3);
+    draw_whole(400);
+    is_row(0, 400, 400, 0, 800);
+    is_row(1, 400, 400, 0, 400);
+    is_row(2, 400, 400, 0, 0);
+    set_loan(1000, 6, 2);
+    draw_whole(900);
+    is_row(0, 900, 400, 500, 600);
+    is_row(1, 900, 600, 300, 0);
+    draw_whole(100);
+    is_row(0, 100, 0, 500, 1000);
+    is_row(1, 1500, 1000, 500, 0);
+    set_loan(1000, NAN, 2);
+    draw_whole(NAN);
+    is_row(0, NAN, 0, NAN, 1000);
+    is_row(1, NAN, 1000, NAN, 0);
+    set_loan(1000, 0, 3);
+    draw_whole(2000);
+    is_row(0, 2000, 1000, 0, 0);
+    is_row(1, 2000, 0, 0, 0);
+    is_row(2, 0, 0, 0, 0);
+}
+
+/* ---- room: exactly full, one short, one more, none ---- */
+
+static void draws(size_t places, uint32_t rows) {
+    desk.places = places;
+    ACCEPTED(call_draw);
+    CHECK(answered_count(WRITTEN) == rows);
+    CHECK(answered_count(OWED) == desk.loan.term - desk.done - rows);
+    CHECK(answered_loan().done == desk.done + rows);
+    CHECK(answered_numbers_stay(ROOM, WIDTH * (size_t)rows));
+}
+
+static void rooms(void) {
+    set_loan(1200, 0.06, 12);
+    set_state(100);
+    draws(12 * WIDTH, 12);
+    draws(12 * WIDTH - 1, 11);
+    draws(12 * WIDTH + 1, 12);
+    draws(13 * WIDTH - 1, 12);
+    draws(13 * WIDTH, 12);
+    draws(WIDTH, 1);
+    draws(2 * WIDTH - 1, 1);
+    draws(2 * WIDTH, 2);
+    desk.done = 11;
+    draws(WIDTH, 1);
+    draws(12 * WIDTH, 1);
+    desk.places = WIDTH - 1;
+    REFUSED(call_draw, 3, 0);
+    desk.done = 12;
+    draws(0, 0);
+    draws(WIDTH - 1, 0);
+    draws(12 * WIDTH, 0);
+    CHECK(answered_stays(COUNTS) && answered_stays(AMOUNTS));
+    set_loan(1200, 0.06, 1200);
+    set_state(100);
+    draws(1200 * WIDTH, 1200);
+    draws(1200 * WIDTH - 1, 1199);
+}
+
+/* ---- the next row alone ---- */
+
+static void gives_row(uint32_t written, uint32_t owed, uint32_t done) {
+    ACCEPTED(call_next_row);
+    CHECK(answered_count(WRITTEN) == written);
+    CHECK(answered_count(OWED) == owed);
+    CHECK(answered_loan().done == done);
+}
+
+static void next_rows(void) {
+    set_loan(1000, 6, 2);
+    set_state(900);
+    struct row_parts first = { 3, 1, 900, 400, 500, 600, SENYOLANDA_ROW_BYTES };
+    struct record record = record_of_row(&first);
+    gives_row(1, 1, 1);
+    IS(answered_loan().balance, 600);
+    CHECK(memcmp(answered_bytes(ROOM), record.bytes, record.length) == 0);
+    desk.done = 2;
+    gives_row(0, 0, 2);
+    CHECK(answered_stays(COUNTS) && answered_stays(AMOUNTS) && answered_stays(ROOM));
+}
+
+int main(int arguments, char **words) {
+    open_tests("test_draws", matrix, arguments, words);
+    try_functions(functions);
+    openings();
+    document_01();
+    rooms();
+    next_rows();
+    tidy_desk();
+    try_records(functions, damaged_record, 1000000);
+    return close_checks();
+}
