@@ -26,7 +26,8 @@
  * at time t is worth exp(-rate * t) today.
  *
  * SCHEDULES. A loan is opened once and drawn in portions, through as little room as one row. Written plus owed is always what
- * was owed before; draw until nothing is. The loan is yours to keep between draws, in a struct or in an archive:
+ * was owed before; draw until nothing is. A draw with lines, senyolanda_loan_draw_with_years, keeps year-end totals beside the
+ * rows, the same ones for any portions. The loan is yours to keep between draws, in a struct or in an archive:
  *
  *     double room[12 * SENYOLANDA_ROW_PLACES];
  *     uint8_t record[SENYOLANDA_LOAN_BYTES];
@@ -54,11 +55,11 @@
 
 /* The version of the header and of the library beside it. */
 #define SENYOLANDA_VERSION_MAJOR 0
-#define SENYOLANDA_VERSION_MINOR 3
+#define SENYOLANDA_VERSION_MINOR 4
 #define SENYOLANDA_VERSION_PATCH 0
 
 /* The same as a string, "major.minor.patch", and as a number that rises with it, for a program to compare:
-   #if SENYOLANDA_VERSION_NUMBER >= SENYOLANDA_VERSION_OF(0, 3, 0) */
+   #if SENYOLANDA_VERSION_NUMBER >= SENYOLANDA_VERSION_OF(0, 4, 0) */
 #define SENYOLANDA_VERSION SENYOLANDA_DOTTED(SENYOLANDA_VERSION_MAJOR, SENYOLANDA_VERSION_MINOR, SENYOLANDA_VERSION_PATCH)
 #define SENYOLANDA_VERSION_NUMBER \
     SENYOLANDA_VERSION_OF(SENYOLANDA_VERSION_MAJOR, SENYOLANDA_VERSION_MINOR, SENYOLANDA_VERSION_PATCH)
@@ -94,27 +95,32 @@ extern "C" {
 /* Bytes enough for the listing of any loan. */
 #define SENYOLANDA_LISTING_BYTES 96000
 
-/* Places of a row in a draw's room, and of a month in a pool's. */
+/* Places of a row in a draw's room, of a year's line among its lines, and of a month in a pool's room. */
 #define SENYOLANDA_ROW_PLACES 5
+#define SENYOLANDA_YEAR_PLACES 4
 #define SENYOLANDA_POOL_MONTH_PLACES 3
 
 /* Numbers of a loan in hand: counts, its term and the months done, and amounts, its rate, payment and balance. */
 #define SENYOLANDA_LOAN_COUNTS 2
 #define SENYOLANDA_LOAN_AMOUNTS 3
 
-/* The most months of a loan, loans of a pool and of a book, knots of a curve, and flows or periods. */
+/* The most months of a loan, years that they start, loans of a pool and of a book, knots of a curve, and flows or periods. */
 #define SENYOLANDA_MOST_MONTHS 1200
+#define SENYOLANDA_MOST_YEARS 100
 #define SENYOLANDA_MOST_LOANS 64
 #define SENYOLANDA_MOST_BOOK_LOANS 256
 #define SENYOLANDA_MOST_KNOTS 120
 #define SENYOLANDA_MOST_FLOWS 1200
 
+/* The years that so many months start, the last of them cut short or not: as many lines as a loan of that term wants. */
+#define SENYOLANDA_STARTED_YEARS(months) (((months) + 11) / 12)
+
 enum senyolanda_refusal {
     SENYOLANDA_ACCEPTED = 0,
     SENYOLANDA_BAD_AMOUNT = 1,       /* a principal, face or notional that is negative, infinite or NaN */
     SENYOLANDA_BAD_TERM = 2,         /* a loan of no months, or of more than 1,200 */
-    SENYOLANDA_NO_ROOM = 3,          /* rows are due and not one fits; a pool's months, a bond's flows, or a book's answers, do
-                                        not all fit */
+    SENYOLANDA_NO_ROOM = 3,          /* rows are due and not one fits; the lines of a term's years, a pool's months, a bond's
+                                        flows, or a book's answers, do not all fit */
     SENYOLANDA_UNEQUAL_LISTS = 4,    /* two lists that belong together are not equally long */
     SENYOLANDA_BAD_KNOT_COUNT = 5,   /* a curve without a knot, or with more than 120 */
     SENYOLANDA_BAD_KNOT = 6,         /* a knot's time or rate infinite or NaN, its time before 0 or not after the knot before
@@ -128,7 +134,8 @@ enum senyolanda_refusal {
                                         256 records */
     SENYOLANDA_NO_YIELD = 12,        /* the prices at both ends of both searched ranges, yields of 0.001 to 0.999 and of 0.000001
                                         to 50, lie on one side of the market price: no yield of 0 or below is found */
-    SENYOLANDA_NO_BREAK_EVEN = 13    /* the new loan saves nothing a month, or pays its cost back only after its term */
+    SENYOLANDA_NO_BREAK_EVEN = 13,   /* the new loan saves nothing a month, or pays its cost back only after its term */
+    SENYOLANDA_NO_ROW_DRAWN = 14     /* a year, from 1, of which no row is drawn */
 };
 
 /* How often a bond pays. (A swap's frequency is no code: it is the number of payments a year.) */
@@ -186,6 +193,7 @@ static inline const char *senyolanda_refusal_text(uint32_t number) {
     case SENYOLANDA_BAD_RECORD: return "the record is of another kind or length, or has an unknown code";
     case SENYOLANDA_NO_YIELD: return "no yield from 0.000001 to 50 was found for the market price";
     case SENYOLANDA_NO_BREAK_EVEN: return "the new loan does not pay its cost back within its term";
+    case SENYOLANDA_NO_ROW_DRAWN: return "no row of the year is drawn";
     default: return "no such refusal";
     }
 }
@@ -302,6 +310,26 @@ senyolanda_result senyolanda_draw(
     double *SENYOLANDA_RESTRICT room, size_t places,
     uint32_t *SENYOLANDA_RESTRICT written, uint32_t *SENYOLANDA_RESTRICT owed) SENYOLANDA_CHECKED;
 
+/* Draws as senyolanda_draw does, and enters each row, in order, into the line of its year; months 1 to 12 are year 1. A line is
+   four numbers: months covered, interest, principal, and the balance after the last of these months. Lend a line for each started
+   year of the term, year 1 first; year_places counts numbers. Hand the same lines, as they were left, to every draw of the loan.
+   They need not be cleared: the row that begins a year starts its line at 0, whatever stands there, and any other row adds to what
+   its line holds; all other places stay. Fewer lines than started years are 3, whether rows are due or not. Refuses 2, 3, 10. */
+senyolanda_result senyolanda_draw_with_years(
+    uint32_t counts[SENYOLANDA_FILLED SENYOLANDA_LOAN_COUNTS],
+    double amounts[SENYOLANDA_FILLED SENYOLANDA_LOAN_AMOUNTS],
+    double *SENYOLANDA_RESTRICT room, size_t places,
+    double *SENYOLANDA_RESTRICT years, size_t year_places,
+    uint32_t *SENYOLANDA_RESTRICT written, uint32_t *SENYOLANDA_RESTRICT owed) SENYOLANDA_CHECKED;
+
+/* The line of a year, from 1, as it stands among the lines that a loan's draws left. Year 0, and a year that the months done have
+   not begun, are 14. Refuses 2, 3, 10, 14. */
+senyolanda_result senyolanda_look_up_year(
+    const uint32_t counts[SENYOLANDA_READ SENYOLANDA_LOAN_COUNTS],
+    const double amounts[SENYOLANDA_READ SENYOLANDA_LOAN_AMOUNTS],
+    const double *years, size_t year_places, uint32_t year,
+    double line[SENYOLANDA_FILLED SENYOLANDA_YEAR_PLACES]) SENYOLANDA_CHECKED;
+
 /* The next row alone, as a row's record: written is 1. A finished loan writes 0, owes 0 and leaves the record. Refuses 2, 10. */
 senyolanda_result senyolanda_next_row(
     uint32_t counts[SENYOLANDA_FILLED SENYOLANDA_LOAN_COUNTS],
@@ -417,6 +445,21 @@ static inline SENYOLANDA_CHECKED senyolanda_result senyolanda_loan_draw(
     return result;
 }
 
+/* The same, with each row entered into the line of its year: years has SENYOLANDA_STARTED_YEARS(loan->term) *
+   SENYOLANDA_YEAR_PLACES numbers; SENYOLANDA_MOST_YEARS * SENYOLANDA_YEAR_PLACES are enough for any loan. Refuses 2, 3, 10. */
+static inline SENYOLANDA_CHECKED senyolanda_result senyolanda_loan_draw_with_years(
+    struct senyolanda_loan *SENYOLANDA_RESTRICT loan, double *SENYOLANDA_RESTRICT room, size_t places,
+    double *SENYOLANDA_RESTRICT years, size_t year_places,
+    uint32_t *SENYOLANDA_RESTRICT written, uint32_t *SENYOLANDA_RESTRICT owed) {
+    uint32_t counts[SENYOLANDA_LOAN_COUNTS];
+    double amounts[SENYOLANDA_LOAN_AMOUNTS];
+    senyolanda_result result;
+    senyolanda_loan_taken_apart(loan, counts, amounts);
+    result = senyolanda_draw_with_years(counts, amounts, room, places, years, year_places, written, owed);
+    if (result == 0) senyolanda_loan_put_together(loan, counts, amounts);
+    return result;
+}
+
 /* The next row alone, as a row's record. Refuses 2, 10. */
 static inline SENYOLANDA_CHECKED senyolanda_result senyolanda_loan_next_row(
     struct senyolanda_loan *SENYOLANDA_RESTRICT loan, uint8_t record[SENYOLANDA_FILLED SENYOLANDA_ROW_BYTES],
@@ -447,6 +490,37 @@ static inline struct senyolanda_row senyolanda_row_at(const double *room, size_t
     row.interest = place[3];
     row.balance = place[4];
     return row;
+}
+
+/* A year's line. Its months are whole numbers from 1 to 12, unless a draw went on with a line that its caller made up. */
+struct senyolanda_year {
+    double months;     /* covered so far */
+    double interest, principal;
+    double balance;    /* after the last of these months */
+};
+
+/* The line at an index, from 0, of the lines that draws left: year 1 stands at 0. */
+static inline struct senyolanda_year senyolanda_year_at(const double *years, size_t index) {
+    const double *place = years + index * SENYOLANDA_YEAR_PLACES;
+    struct senyolanda_year year;
+    year.months = place[0];
+    year.interest = place[1];
+    year.principal = place[2];
+    year.balance = place[3];
+    return year;
+}
+
+/* The line of a year, from 1, of which the loan has drawn a row. A refusal leaves the line as it was. Refuses 2, 3, 10, 14. */
+static inline SENYOLANDA_CHECKED senyolanda_result senyolanda_loan_year(
+    const struct senyolanda_loan *loan, const double *years, size_t year_places, uint32_t year,
+    struct senyolanda_year *SENYOLANDA_RESTRICT line) {
+    uint32_t counts[SENYOLANDA_LOAN_COUNTS];
+    double amounts[SENYOLANDA_LOAN_AMOUNTS], found[SENYOLANDA_YEAR_PLACES];
+    senyolanda_result result;
+    senyolanda_loan_taken_apart(loan, counts, amounts);
+    result = senyolanda_look_up_year(counts, amounts, years, year_places, year, found);
+    if (result == 0) *line = senyolanda_year_at(found, 0);
+    return result;
 }
 
 /* ---- pools: the loans come as their records end to end; the speed is an enum senyolanda_speed, its number and list beside it.

@@ -15,6 +15,9 @@ static const struct desk at_rest = {
     .payment = 100,
     .balance = 1200,
     .places = 12 * WIDTH,
+    .year_places = SENYOLANDA_MOST_YEARS * YEAR_WIDTH,
+    .drawn = 12,
+    .year = 1,
     .value = 2400,
     .extra = 100,
     .cost = 100,
@@ -51,6 +54,7 @@ static struct desk in_good_order(void) {
         struct loan_parts loan = { 1, 1000 + (double)i, 0.06, 3 + (uint32_t)(i % 3), SENYOLANDA_LOAN_BYTES };
         order.loans[i] = loan;
     }
+    for (size_t i = 0; i < LINES * YEAR_WIDTH; i++) order.years[i] = 0.5 + (double)i;
     for (size_t i = 0; i < KNOTS; i++) {
         order.times[i] = 0.5 * (double)(i + 1);
         order.rates[i] = 0.03 + 0.0001 * (double)i;

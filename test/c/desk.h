@@ -7,11 +7,11 @@
 
 #include "harness.h"
 
-/* Numbers of a row. */
-enum { WIDTH = SENYOLANDA_ROW_PLACES };
+/* Numbers of a row, and of a year's line. */
+enum { WIDTH = SENYOLANDA_ROW_PLACES, YEAR_WIDTH = SENYOLANDA_YEAR_PLACES };
 
 /* One more than the most that is taken, and one more again. */
-enum { LOANS = 258, KNOTS = 122, FLOWS = 1202, MONTHS = 4, ASKED = 20 };
+enum { LOANS = 258, LINES = 102, KNOTS = 122, FLOWS = 1202, MONTHS = 4, ASKED = 20 };
 
 /* Records in their parts. The length is that of the bytes lent, whatever the kind; the bytes past the parts are 0. */
 struct loan_parts {
@@ -51,6 +51,10 @@ struct desk {
     double payment, balance;
     uint32_t done;
     size_t places;
+    /* its years' lines, with how many places of them are lent; a lookup's months done and its year */
+    double years[LINES * YEAR_WIDTH];
+    size_t year_places;
+    uint32_t drawn, year;
     /* what goes with a loan */
     double value, extra, cost;
     uint32_t months;

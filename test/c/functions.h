@@ -8,7 +8,7 @@
 
 #include "desk.h"
 
-/* A row of the matrix: CLAIM(draw, ". 2 3 . . . . . . 10 .. .. .."). */
+/* A row of the matrix: CLAIM(draw, ". 2 3 . . . . . . 10 .. .. .. .."). */
 struct claim {
     const char *function, *refusals;
 };

@@ -70,6 +70,10 @@ struct lent_numbers lend_numbers(const double *numbers, size_t count) {
     return list;
 }
 
+const uint32_t *lend_counts(const uint32_t *counts, size_t count) {
+    return lend_filled(TO_READ, counts, count * sizeof *counts);
+}
+
 double *lend_number(void) {
     return lend_places(1);
 }

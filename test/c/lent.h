@@ -23,7 +23,7 @@ void lend_afresh(enum placement placement);
 /* A piece of so many bytes, filled with a pattern; an empty one has no byte that may be touched. */
 void *lend(enum purpose purpose, size_t size);
 
-/* Copies of bytes and of numbers, lent to be read. */
+/* Copies of bytes, of numbers and of counts, lent to be read. */
 struct lent_bytes {
     const uint8_t *bytes;
     size_t length;
@@ -34,6 +34,7 @@ struct lent_numbers {
 };
 struct lent_bytes lend_bytes(const uint8_t *bytes, size_t length);
 struct lent_numbers lend_numbers(const double *numbers, size_t count);
+const uint32_t *lend_counts(const uint32_t *counts, size_t count);
 
 /* Places for answers. */
 double *lend_number(void);

@@ -29,6 +29,43 @@ const struct cause beside_loan_causes[] = {
     END_OF_CAUSES,
 };
 
+/* A loan in hand; at rest 12 months, none of them done. */
+const struct cause state_causes[] = {
+    CAUSE(2, WHOLE(loan.term, 0)),
+    CAUSE(2, WHOLE(loan.term, 1201)),
+    CAUSE(2, WHOLE(loan.term, UINT32_MAX)),
+    CAUSE(10, WHOLE(done, 13)),
+    CAUSE(10, WHOLE(done, UINT32_MAX)),
+    CAUSE(10, WHOLE(done, 2), WHOLE(loan.term, 1)),
+    CAUSE(10, WHOLE(done, 1201), WHOLE(loan.term, 1200)),
+    CAUSE(2, WHOLE(done, 1), WHOLE(loan.term, 0)),
+    CAUSE(2, WHOLE(done, 1202), WHOLE(loan.term, 1201)),
+    TAKEN(WHOLE(loan.term, 1)),
+    TAKEN(WHOLE(loan.term, 1200)),
+    TAKEN(WHOLE(done, 11)),
+    TAKEN(WHOLE(done, 12)),
+    TAKEN(NUMBER(balance, NAN)),
+    TAKEN(NUMBER(balance, -1)),
+    TAKEN(NUMBER(payment, NAN)),
+    TAKEN(NUMBER(loan.rate, INFINITY)),
+    END_OF_CAUSES,
+};
+
+/* No rows are due where more months are done than the term, so that the room is no cause of 3. */
+const struct cause room_causes[] = {
+    CAUSE_UNLESS(10, 3, WHOLE(places, 0)),
+    CAUSE_UNLESS(10, 3, WHOLE(places, 1)),
+    CAUSE_UNLESS(10, 3, WHOLE(places, WIDTH - 1)),
+    TAKEN(WHOLE(places, WIDTH)),
+    TAKEN(WHOLE(places, 2 * WIDTH - 1)),
+    TAKEN(WHOLE(places, 12 * WIDTH - 1)),
+    TAKEN(WHOLE(places, 12 * WIDTH + 1)),
+    TAKEN(WHOLE(done, 12), WHOLE(places, 0)),
+    TAKEN(WHOLE(done, 12), WHOLE(places, WIDTH - 1)),
+    CAUSE(3, WHOLE(done, 11), WHOLE(places, WIDTH - 1)),
+    END_OF_CAUSES,
+};
+
 senyolanda_result loan_deserved(const struct record *record) {
     if (record->length != SENYOLANDA_LOAN_BYTES || record->bytes[0] != 1) return refusal(11, 0);
     if (is_bad_amount(number_in(record->bytes + 1))) return refusal(1, 0);
@@ -64,12 +101,16 @@ senyolanda_result call_open_with_payment(void) {
     return opened(lend_loan(), &desk.payment);
 }
 
+static void take_hand_apart(uint32_t done, uint32_t counts[SENYOLANDA_LOAN_COUNTS], double amounts[SENYOLANDA_LOAN_AMOUNTS]) {
+    struct senyolanda_loan hand = { desk.loan.term, done, desk.loan.rate, desk.payment, desk.balance };
+    senyolanda_loan_taken_apart(&hand, counts, amounts);
+}
+
 static struct lent_loan lend_loan_in_hand(void) {
-    struct senyolanda_loan hand = { desk.loan.term, desk.done, desk.loan.rate, desk.payment, desk.balance };
     uint32_t counts[SENYOLANDA_LOAN_COUNTS];
     double amounts[SENYOLANDA_LOAN_AMOUNTS];
     struct lent_loan loan;
-    senyolanda_loan_taken_apart(&hand, counts, amounts);
+    take_hand_apart(desk.done, counts, amounts);
     loan.counts = lend_counts_in_hand(counts, SENYOLANDA_LOAN_COUNTS);
     loan.amounts = lend_numbers_in_hand(amounts, SENYOLANDA_LOAN_AMOUNTS);
     loan.written = lend_count();
@@ -83,6 +124,14 @@ senyolanda_result call_draw(void) {
     return CALL(senyolanda_draw(loan.counts, loan.amounts, room, desk.places, loan.written, loan.owed));
 }
 
+senyolanda_result call_draw_with_years(void) {
+    struct lent_loan loan = lend_loan_in_hand();
+    double *room = lend(AS_ROOM, desk.places * sizeof *room);
+    double *years = lend_numbers_in_hand(desk.years, desk.year_places);
+    return CALL(senyolanda_draw_with_years(
+        loan.counts, loan.amounts, room, desk.places, years, desk.year_places, loan.written, loan.owed));
+}
+
 senyolanda_result call_next_row(void) {
     struct lent_loan loan = lend_loan_in_hand();
     uint8_t *record = lend(AS_ROOM, SENYOLANDA_ROW_BYTES);
@@ -93,4 +142,15 @@ struct senyolanda_loan answered_loan(void) {
     struct senyolanda_loan loan;
     senyolanda_loan_put_together(&loan, answered_counts(COUNTS), answered_numbers(AMOUNTS));
     return loan;
+}
+
+senyolanda_result call_look_up_year(void) {
+    uint32_t counts[SENYOLANDA_LOAN_COUNTS];
+    double amounts[SENYOLANDA_LOAN_AMOUNTS];
+    take_hand_apart(desk.drawn, counts, amounts);
+    const uint32_t *lent_counts = lend_counts(counts, SENYOLANDA_LOAN_COUNTS);
+    struct lent_numbers lent_amounts = lend_numbers(amounts, SENYOLANDA_LOAN_AMOUNTS);
+    struct lent_numbers years = lend_numbers(desk.years, desk.year_places);
+    double *line = lend_places(YEAR_WIDTH);
+    return CALL(senyolanda_look_up_year(lent_counts, lent_amounts.numbers, years.numbers, years.count, desk.year, line));
 }

@@ -16,8 +16,8 @@
     CAUSE_AT(place, 2, WHOLE(loan.term, 1201)),                                    \
     CAUSE_AT(place, 2, WHOLE(loan.term, UINT32_MAX))
 
-/* The desk's loan, and numbers beside it that no line names. */
-extern const struct cause loan_causes[], beside_loan_causes[];
+/* The desk's loan, and numbers beside it that no line names; a loan in hand, and the room for its rows. */
+extern const struct cause loan_causes[], beside_loan_causes[], state_causes[], room_causes[];
 
 /* What a record deserves of a function that reads a loan. */
 senyolanda_result loan_deserved(const struct record *record);
@@ -25,15 +25,19 @@ senyolanda_result loan_deserved(const struct record *record);
 void set_loan(double principal, double rate, uint32_t term);
 
 /* The loan in hand is the desk's: its loan's term and rate, payment, months done and balance. An opening gives one, a draw or a next
-   row moves it on. The answers, in this order: its counts and its amounts; of the last two calls also rows written, rows owed, and
-   the desk's places of room or a row's record. */
-enum { COUNTS, AMOUNTS, WRITTEN, OWED, ROOM };
+   row moves it on. The answers, in this order: its counts and its amounts; of draws and next rows also rows written, rows owed, and
+   the desk's places of room or a row's record; of a draw with lines also the desk's places of lines. */
+enum { COUNTS, AMOUNTS, WRITTEN, OWED, ROOM, YEARS };
 senyolanda_result call_open(void);
 senyolanda_result call_open_with_payment(void);
 senyolanda_result call_draw(void);
+senyolanda_result call_draw_with_years(void);
 senyolanda_result call_next_row(void);
 
 /* The loan that the last of these calls gave. */
 struct senyolanda_loan answered_loan(void);
+
+/* Looks the desk's year up among the desk's lines, for its loan with the desk's months drawn; the answer is the year's line. */
+senyolanda_result call_look_up_year(void);
 
 #endif

@@ -7,51 +7,12 @@
 #include <string.h>
 
 static const struct claim matrix[] = {
-    /*                          1 2 3 4 5 6 7 8 9 10 11 12 13 */
-    CLAIM(open,                "1 2 . . . . . . . .. 11 .. .."),
-    CLAIM(open_with_payment,   "1 2 . . . . . . . .. 11 .. .."),
-    CLAIM(draw,                ". 2 3 . . . . . . 10 .. .. .."),
-    CLAIM(next_row,            ". 2 . . . . . . . 10 .. .. .."),
+    /*                          1 2 3 4 5 6 7 8 9 10 11 12 13 14 */
+    CLAIM(open,                "1 2 . . . . . . . .. 11 .. .. .."),
+    CLAIM(open_with_payment,   "1 2 . . . . . . . .. 11 .. .. .."),
+    CLAIM(draw,                ". 2 3 . . . . . . 10 .. .. .. .."),
+    CLAIM(next_row,            ". 2 . . . . . . . 10 .. .. .. .."),
     END_OF_MATRIX,
-};
-
-/* ---- causes ---- */
-
-/* A loan in hand; at rest 12 months, none of them done. */
-static const struct cause state_causes[] = {
-    CAUSE(2, WHOLE(loan.term, 0)),
-    CAUSE(2, WHOLE(loan.term, 1201)),
-    CAUSE(2, WHOLE(loan.term, UINT32_MAX)),
-    CAUSE(10, WHOLE(done, 13)),
-    CAUSE(10, WHOLE(done, UINT32_MAX)),
-    CAUSE(10, WHOLE(done, 2), WHOLE(loan.term, 1)),
-    CAUSE(10, WHOLE(done, 1201), WHOLE(loan.term, 1200)),
-    CAUSE(2, WHOLE(done, 1), WHOLE(loan.term, 0)),
-    CAUSE(2, WHOLE(done, 1202), WHOLE(loan.term, 1201)),
-    TAKEN(WHOLE(loan.term, 1)),
-    TAKEN(WHOLE(loan.term, 1200)),
-    TAKEN(WHOLE(done, 11)),
-    TAKEN(WHOLE(done, 12)),
-    TAKEN(NUMBER(balance, NAN)),
-    TAKEN(NUMBER(balance, -1)),
-    TAKEN(NUMBER(payment, NAN)),
-    TAKEN(NUMBER(loan.rate, INFINITY)),
-    END_OF_CAUSES,
-};
-
-/* No rows are due where more months are done than the term, so that 3 has no cause. */
-static const struct cause room_causes[] = {
-    CAUSE_UNLESS(10, 3, WHOLE(places, 0)),
-    CAUSE_UNLESS(10, 3, WHOLE(places, 1)),
-    CAUSE_UNLESS(10, 3, WHOLE(places, WIDTH - 1)),
-    TAKEN(WHOLE(places, WIDTH)),
-    TAKEN(WHOLE(places, 2 * WIDTH - 1)),
-    TAKEN(WHOLE(places, 12 * WIDTH - 1)),
-    TAKEN(WHOLE(places, 12 * WIDTH + 1)),
-    TAKEN(WHOLE(done, 12), WHOLE(places, 0)),
-    TAKEN(WHOLE(done, 12), WHOLE(places, WIDTH - 1)),
-    CAUSE(3, WHOLE(done, 11), WHOLE(places, WIDTH - 1)),
-    END_OF_CAUSES,
 };
 
 /* ---- what each function can meet ---- */

@@ -5,11 +5,11 @@
 #include <math.h>
 
 static const struct claim matrix[] = {
-    /*               1 2 3 4 5 6 7 8 9 10 11 12 13 */
-    CLAIM(exp,      ". . . . . . . . . .. .. .. .."),
-    CLAIM(exp_each, ". . . . . . . . . .. .. .. .."),
-    CLAIM(ln,       ". . . . . . . . . .. .. .. .."),
-    CLAIM(power,    ". . . . . . . . . .. .. .. .."),
+    /*               1 2 3 4 5 6 7 8 9 10 11 12 13 14 */
+    CLAIM(exp,      ". . . . . . . . . .. .. .. .. .."),
+    CLAIM(exp_each, ". . . . . . . . . .. .. .. .. .."),
+    CLAIM(ln,       ". . . . . . . . . .. .. .. .. .."),
+    CLAIM(power,    ". . . . . . . . . .. .. .. .. .."),
     END_OF_MATRIX,
 };
 

@@ -6,15 +6,15 @@
 #include <string.h>
 
 static const struct claim matrix[] = {
-    /*                 1 2 3 4 5 6 7 8 9 10 11 12 13 */
-    CLAIM(read_loan,  ". . . . . . . . . .. 11 .. .."),
-    CLAIM(write_loan, ". . . . . . . . . .. .. .. .."),
-    CLAIM(read_bond,  ". . . . . . . . . .. 11 .. .."),
-    CLAIM(write_bond, ". . . . . . . . . .. 11 .. .."),
-    CLAIM(read_row,   ". . . . . . . . . .. 11 .. .."),
-    CLAIM(write_row,  ". . . . . . . . . .. .. .. .."),
-    CLAIM(read_swap,  ". . . . . . . . . .. 11 .. .."),
-    CLAIM(write_swap, ". . . . . . . . . .. 11 .. .."),
+    /*                 1 2 3 4 5 6 7 8 9 10 11 12 13 14 */
+    CLAIM(read_loan,  ". . . . . . . . . .. 11 .. .. .."),
+    CLAIM(write_loan, ". . . . . . . . . .. .. .. .. .."),
+    CLAIM(read_bond,  ". . . . . . . . . .. 11 .. .. .."),
+    CLAIM(write_bond, ". . . . . . . . . .. 11 .. .. .."),
+    CLAIM(read_row,   ". . . . . . . . . .. 11 .. .. .."),
+    CLAIM(write_row,  ". . . . . . . . . .. .. .. .. .."),
+    CLAIM(read_swap,  ". . . . . . . . . .. 11 .. .. .."),
+    CLAIM(write_swap, ". . . . . . . . . .. 11 .. .. .."),
     END_OF_MATRIX,
 };
 

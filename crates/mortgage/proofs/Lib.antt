@@ -3,6 +3,8 @@ pub mod RowLaws
 pub mod RowFits
 pub mod DrawCases
 pub mod PlaceLaws
+pub mod YearLaws
+pub mod YearCases
 pub mod DrawLaws
 pub mod Sequences
 pub mod RowsRepay

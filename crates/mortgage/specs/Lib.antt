@@ -7,6 +7,10 @@ pub mod Rows
 pub mod Draws
 pub mod Places
 pub mod Demand3
+pub mod Years
+pub mod YearDraws
+pub mod Summary
 pub mod Totals
 pub mod Savings
 pub mod BreakEven
+pub mod inner

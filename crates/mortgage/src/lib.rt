@@ -1,4 +1,4 @@
-// Mortgages: a loan's payment, its opening, its rows, and draws of them into lent room.
+// Mortgages: a loan's payment, its opening, its rows, and draws of them into lent room, with year-end totals beside them.
 pub mod breakeven;
 pub mod draws;
 pub mod opening;
@@ -8,6 +8,7 @@ pub mod rows;
 pub mod savings;
 pub mod terms;
 pub mod totals;
+pub mod years;
 
 // A loan in hand: passed into each draw by value and handed back.
 pub struct Loan {

@@ -1,4 +1,4 @@
--- Document 01's table of refusals: each line's sentence in full, and for each thing that it names whether its cause is there, over plain numbers. Definitions only. Assumes nothing.
+-- The table of refusals, document 01's and what document 02 adds to it: each line's sentence in full, and for each thing that it names whether its cause is there, over plain numbers. Definitions only. Assumes nothing.
 use Prim.Native.Nat.{ℕ, _*_, _/_, _%_}
 use mathlib.Core.Bool.{Bool, not, _&&_, _||_}
 use mathlib.Core.List.{List, [], _∷_}
@@ -31,6 +31,10 @@ noRoomForAll months room width = ltb room (months * width)
 -- of two lists of so many places one is shorter than so many flows
 unfoldable pub noRoomInEither : ℕ → ℕ → ℕ → Bool
 noRoomInEither flows times amounts = ltb times flows || ltb amounts flows
+
+-- of year-end lines, "fewer line places than started years in the term" (document 02, K1)
+unfoldable pub tooFewLines : ℕ → ℕ → Bool
+tooFewLines years lines = ltb lines years
 
 -- ---- 4: "the two lists of a curve or of cash flows differ in length"
 unfoldable pub unequal : ℕ → ℕ → Bool
@@ -108,3 +112,7 @@ oneSided low high = lt plusZero (mul binary64 low high)
 -- ---- 13: "no break-even: saving at or below zero, or later than the new term"
 unfoldable pub noBreakEven : Float → ℕ → ℕ → Bool
 noBreakEven saving month term = le saving plusZero || ltb term month
+
+-- ---- 14: "a year (from 1) with no row drawn" (document 02, K1): the year, and how many years the rows drawn have begun
+unfoldable pub noRowDrawn : ℕ → ℕ → Bool
+noRowDrawn year begun = eqb year 0 || ltb begun year

@@ -1,11 +1,13 @@
--- Stores of lists at places of a room, for any values: behind a list that stands at its front, one list behind another as one list, and lists apart in any order. Assumes nothing.
+-- Stores of lists at places of a room, for any values: behind a list that stands at its front, one list behind another as one list, lists apart in any order, and what
+-- stands where a list was stored. Assumes nothing.
 use mathlib.Core.Path.{_≡_, refl, sym, ap, _∙_}
 use mathlib.Core.List.{List, [], _∷_, _++_, append-assoc, append-nil}
-use Prim.Native.Nat.{ℕ, suc, _+_, _-_, _≤_}
+use Prim.Native.Nat.{ℕ, suc, _+_, _-_, _≤_, _<_}
 use native.Mathlib.Nat.{add-zero}
 use native.Mathlib.Omega.{arith}
-use lib.ListN.{length, take, drop, set, length-append, length-drop, take-append-drop, drop-of-length-le}
-use lib.Seq.{sets, sets-eq, set-comm, length-take-le, take-append-seam, drop-append-add, drop-drop, take-at, drop-at, take-all}
+use mathlib.Core.Logic.{_⊎_, inl, inr}
+use lib.ListN.{length, getD, take, drop, set, length-append, length-drop, take-append-drop, drop-of-length-le, List·getD-append}
+use lib.Seq.{sets, sets-eq, set-comm, length-sets, length-take-le, take-append-seam, drop-append-add, drop-drop, take-at, drop-at, take-all, getD-append-add, getD-set-other}
 
 -- stores behind a list that stands at the front of a room
 pub behind : {A : Type 0} (p vs o : List A) → length p + length vs ≤ length o
@@ -62,3 +64,37 @@ module _ {A : Type 0} where
       let g : i + length vs ≤ length l = rw e h in
       let b = beyond (take i l) vs l l i n (length-take-le i l (omega arith)) h (sym (take-append-drop i l)) in
       b ∙ ap (λ (k : ℕ). take i l ++ vs ++ drop (i + k) l) (sym e) ∙ sym (sets-eq vs l i g)
+
+  -- ---- what stands where a list was stored, and elsewhere; and a list stored over another
+  pub getD-sets : (vs l : List A) (i j : ℕ) (d : A) → i + length vs ≤ length l → j < length vs → getD (sets l i vs) (i + j) d ≡ getD vs j d
+  getD-sets vs l i j d h k =
+      let n : length (take i l) ≡ i = length-take-le i l (omega arith) in
+      let m : i + j < length (take i l ++ vs) = rw (length-append (take i l) vs) (omega arith) in
+      ap (λ (o : List A). getD o (i + j) d) (sets-eq vs l i h)
+      ∙ List·getD-append (take i l ++ vs) (drop (i + length vs) l) d (i + j) m
+      ∙ ap (λ (p : ℕ). getD (take i l ++ vs) (p + j) d) (sym n)
+      ∙ getD-append-add (take i l) vs j d
+
+  pub getD-sets-other : (vs l : List A) (i k : ℕ) (d : A) → (k < i) ⊎ (i + length vs ≤ k) → getD (sets l i vs) k d ≡ getD l k d
+  getD-sets-other [] l i k d h = refl
+  getD-sets-other (v ∷ vs) l i k d h =
+      getD-sets-other vs (set l i v) (suc i) k d (later h) ∙ getD-set-other l i k v d (λ (e : k ≡ i). apart h e)
+    where
+      later : (k < i) ⊎ (i + suc (length vs) ≤ k) → (k < suc i) ⊎ (suc i + length vs ≤ k)
+      later (inl b) = inl (omega arith)
+      later (inr b) = inr (omega arith)
+
+      apart : (k < i) ⊎ (i + suc (length vs) ≤ k) → k ≡ i → ⊥
+      apart (inl b) e = omega arith
+      apart (inr b) e = omega arith
+
+  pub sets-over : (xs ys l : List A) (i : ℕ) → length xs ≡ length ys → i + length xs ≤ length l → sets (sets l i xs) i ys ≡ sets l i ys
+  sets-over xs ys l i e h =
+      let rest = drop (i + length xs) l in
+      let n : length (take i l) ≡ i = length-take-le i l (omega arith) in
+      let m : length (take i l ++ xs) ≡ i + length ys = length-append (take i l) xs ∙ omega arith in
+      let s : sets l i xs ≡ take i l ++ xs ++ rest = sets-eq xs l i h in
+      let t : take i (sets l i xs) ≡ take i l = ap (take i) (s ∙ append-assoc (take i l) xs rest) ∙ take-at (take i l) (xs ++ rest) i n in
+      let u : drop (i + length ys) (sets l i xs) ≡ rest = ap (drop (i + length ys)) s ∙ drop-at (take i l ++ xs) rest (i + length ys) m in
+      let k : i + length ys ≤ length l = omega arith in
+      sets-eq ys (sets l i xs) i (rw (length-sets l i xs) k) ∙ rw (t, u, e) (sym (sets-eq ys l i k))
