@@ -1,12 +1,13 @@
 #!/usr/bin/env python3
-"""from_python.py LIBRARY: the shared library as a Python program calls it, by ctypes. Loans are opened, drawn in portions, listed and held
-to document 01's figures; refusals give number and place and leave lent memory alone."""
+"""from_python.py LIBRARY: the shared library as a Python program calls it, by ctypes. Loans are opened, drawn in portions, with year-end
+totals too, listed and held to document 01's figures; refusals give number and place and leave lent memory alone."""
 import ctypes
 import struct
 import sys
 from ctypes import POINTER, byref, c_double, c_size_t, c_uint8, c_uint32, c_uint64
 
 ROW = 5
+YEAR = 4
 LOAN_BYTES = 21
 LISTING_BYTES = 96000
 COUNTS = c_uint32 * 2
@@ -39,6 +40,8 @@ write_loan = function("senyolanda_write_loan", c_double, c_double, c_uint32, POI
 open_ = function("senyolanda_open", *BYTES, COUNT, NUMBER)
 open_with_payment = function("senyolanda_open_with_payment", *BYTES, c_double, COUNT, NUMBER)
 draw = function("senyolanda_draw", COUNT, NUMBER, *NUMBERS, COUNT, COUNT)
+draw_with_years = function("senyolanda_draw_with_years", COUNT, NUMBER, *NUMBERS, *NUMBERS, COUNT, COUNT)
+look_up_year = function("senyolanda_look_up_year", COUNT, NUMBER, *NUMBERS, c_uint32, NUMBER)
 pool_totals = function("senyolanda_pool_totals", *BYTES, NUMBER)
 listing = function("senyolanda_listing", *BYTES, POINTER(c_uint8), COUNT)
 
@@ -59,6 +62,18 @@ class Loan:
         written, owed = c_uint32(), c_uint32()
         draw(*self.state, room, len(room), byref(written), byref(owed))
         return written.value, owed.value
+
+    def draw_with_years(self, room, years):
+        """The same, with the rows entered into their years' lines."""
+        written, owed = c_uint32(), c_uint32()
+        draw_with_years(*self.state, room, len(room), years, len(years), byref(written), byref(owed))
+        return written.value, owed.value
+
+    def year(self, years, year):
+        """The line of a year."""
+        line = (c_double * YEAR)()
+        look_up_year(*self.state, years, len(years), year, line)
+        return line[:]
 
     def rows(self, places):
         """All rows that are left, through room for so many numbers."""
@@ -128,6 +143,23 @@ same(refusal(Loan, 1200.0, 0.0, 0), (2, 0))
 same(refusal(Loan, -1.0, 0.0, 3), (1, 0))
 same(refusal(open_, None, 0, *loan.state), (11, 0))
 
+# Thirty months in any portions have the same lines, whatever these held before.
+for places in range(ROW, 31 * ROW + 1):
+    loan, room, years, owed = Loan(1200.0, 0.0, 30), (c_double * places)(), (c_double * (3 * YEAR))(*[1.5] * (3 * YEAR)), 30
+    while owed > 0:
+        written, owed = loan.draw_with_years(room, years)
+    same([loan.year(years, year) for year in (1, 2, 3)], [[12, 0, 480, 720], [12, 0, 480, 240], [6, 0, 240, 0]])
+
+# Only a year with a row that was drawn has a line to look up; a draw that is refused leaves the lines as they were.
+loan, years = Loan(1200.0, 0.0, 30), (c_double * (3 * YEAR))(*[1.5] * (3 * YEAR))
+same(refusal(loan.year, years, 1), (14, 0))
+same(loan.draw_with_years((c_double * (12 * ROW))(), years), (12, 18))
+for room, lines in ((short, years), ((c_double * ROW)(), (c_double * (3 * YEAR - 1))(*years[:-1]))):
+    same(refusal(loan.draw_with_years, room, lines), (3, 0))
+    same(lines[:3 * YEAR - 1], [12, 0, 480, 720] + [1.5] * (2 * YEAR - 1))
+same(loan.year(years, 1), [12, 0, 480, 720])
+same([refusal(loan.year, years, year) for year in (0, 2, 3, 4)], [(14, 0)] * 4)
+
 # A listing is the same rows between its header and its footer; the bytes behind it stay, and a refusal leaves all of them.
 text, size = (c_uint8 * LISTING_BYTES)(*[7] * LISTING_BYTES), c_uint32()
 same(refusal(listed, 1200.0, 0.0, 1201, text, size), (2, 0))
@@ -142,4 +174,4 @@ totals = (c_double * 3)(1.5, 1.5, 1.5)
 same(refusal(pool_totals, (c_uint8 * len(pool))(*pool), len(pool), totals), (1, 2))
 same(totals[:], [1.5] * 3)
 
-print("from Python: loans drawn in portions and listed, and refusals that touch nothing")
+print("from Python: loans drawn in portions, with their years' lines, and listed, and refusals that touch nothing")

@@ -1,5 +1,5 @@
-// The library as a Rust program calls it: a loan opened, drawn in portions and held to document 01's figures, and refusals that
-// give number and place and leave lent memory alone.
+// The library as a Rust program calls it: a loan opened, drawn in portions, with year-end totals too, and held to document 01's
+// figures, and refusals that give number and place and leave lent memory alone.
 #[allow(dead_code)]
 mod library;
 
@@ -48,6 +48,20 @@ fn draw(loan: &mut Loan, room: &mut [f64]) -> Result<(u32, u32), Refusal> {
     }
 }
 
+// Rows still owed after a draw that enters its rows into their years' lines.
+fn draw_with_years(loan: &mut Loan, room: &mut [f64], years: &mut [f64]) -> Result<u32, Refusal> {
+    let (mut written, mut owed) = (7, 7);
+    let Loan { counts, amounts } = loan;
+    read(called!(senyolanda_draw_with_years, counts, amounts, [mut room], [mut years], &mut written, &mut owed))?;
+    Ok(owed)
+}
+
+fn look_up_year(loan: &Loan, years: &[f64], year: u32) -> Result<[f64; YEAR_PLACES], Refusal> {
+    let mut line = [7.0; YEAR_PLACES];
+    read(called!(senyolanda_look_up_year, &loan.counts, &loan.amounts, [years], year, &mut line))?;
+    Ok(line)
+}
+
 // All rows of a loan, drawn through room for so many numbers, as bit patterns.
 fn drawn_whole(mut loan: Loan, places: usize) -> Vec<[u64; ROW_PLACES]> {
     let mut rows = Vec::new();
@@ -85,6 +99,18 @@ fn main() {
     assert_eq!(draw(&mut loan, &mut short), Err(Refusal { number: 3, place: 0 }));
     assert_eq!((loan, short), (before, [1.5; ROW_PLACES - 1]));
 
+    // thirteen months, drawn up to the year's end and then the rest: a line for each year, and none before its first row
+    let mut year_loan = Loan::default();
+    open(&record(1300.0, 0.0, 13), &mut year_loan).unwrap();
+    let (mut room, mut years) = ([0.0; 12 * ROW_PLACES], [1.5; 2 * YEAR_PLACES]);
+    assert_eq!(draw_with_years(&mut year_loan, &mut room, &mut years[1..]), Err(Refusal { number: 3, place: 0 }));
+    assert_eq!(years, [1.5; 2 * YEAR_PLACES]);
+    assert_eq!(draw_with_years(&mut year_loan, &mut room, &mut years), Ok(1));
+    assert_eq!(look_up_year(&year_loan, &years, 1), Ok([12.0, 0.0, 1200.0, 100.0]));
+    assert_eq!(look_up_year(&year_loan, &years, 2), Err(Refusal { number: 14, place: 0 }));
+    assert_eq!(draw_with_years(&mut year_loan, &mut room, &mut years), Ok(0));
+    assert_eq!(look_up_year(&year_loan, &years, 2), Ok([1.0, 0.0, 100.0, 0.0]));
+
     // a term of 0, a record of no bytes: the loan stays
     assert_eq!(open(&record(1200.0, 0.0, 0), &mut loan), Err(Refusal { number: 2, place: 0 }));
     assert_eq!(open(&[], &mut loan), Err(Refusal { number: 11, place: 0 }));
@@ -96,5 +122,5 @@ fn main() {
     assert_eq!(read(called!(senyolanda_pool_totals, [pool], &mut totals)), Err(Refusal { number: 1, place: 2 }));
     assert_eq!(totals, [1.5; 3]);
 
-    println!("from Rust: a loan drawn in portions, and refusals that touch nothing");
+    println!("from Rust: a loan drawn in portions, another with its years' lines, and refusals that touch nothing");
 }

@@ -39,6 +39,11 @@ ALTERED = [
     ("double totals[SENYOLANDA_FILLED 3]", "double totals[SENYOLANDA_FILLED 4]"),
     ("const double model[SENYOLANDA_READ 4]", "double model[SENYOLANDA_FILLED 4]"),
     ("#define SENYOLANDA_ROW_BYTES 37", "#define SENYOLANDA_ROW_BYTES 36"),
+    ("#define SENYOLANDA_YEAR_PLACES 4", "#define SENYOLANDA_YEAR_PLACES 5"),
+    ("const double *years, size_t year_places, uint32_t year,", "const double *years, uint32_t year,"),
+    ("double *SENYOLANDA_RESTRICT years, size_t year_places,", "double *SENYOLANDA_RESTRICT lines, size_t year_places,"),
+    ("const uint32_t counts[SENYOLANDA_READ SENYOLANDA_LOAN_COUNTS]", "uint32_t counts[SENYOLANDA_FILLED SENYOLANDA_LOAN_COUNTS]"),
+    ("not begun, are 14. Refuses 2, 3, 10, 14. */", "not begun, are 14. Never refused. */"),
     ("#define SENYOLANDA_LOAN_COUNTS 2", "#define SENYOLANDA_LOAN_COUNTS 3"),
     ("#define SENYOLANDA_LOAN_AMOUNTS 3", "#define SENYOLANDA_LOAN_AMOUNTS 2"),
     ("double amounts[SENYOLANDA_FILLED SENYOLANDA_LOAN_AMOUNTS],\n    double *SENYOLANDA_RESTRICT room",
@@ -64,8 +69,11 @@ ALTERED_FOR_RUST = [
     ("[mut answers: u32]", "[mut answers: f64]"),
     ("totals: &mut [f64; 3]", "totals: &[f64; 3]"),
     ("&'a mut [u32; LOAN_COUNTS]", "&'a mut [u32; LOAN_AMOUNTS]"),
+    ("&'a [f64; LOAN_AMOUNTS]", "&'a mut [f64; LOAN_AMOUNTS]"),
+    ("[years: f64], year: u32,", "year: u32, [years: f64],"),
     ("pub const ROW_BYTES: usize = 37", "pub const ROW_BYTES: usize = 36"),
     ("pub const ROW_PLACES: usize = 5", "pub const ROW_PLACES: usize = 6"),
+    ("pub const YEAR_PLACES: usize = 4", "pub const YEAR_PLACES: usize = 5"),
 ]
 
 

@@ -9,6 +9,7 @@ pub const ROW_BYTES: usize = 37;
 pub const SWAP_BYTES: usize = 30;
 pub const LISTING_BYTES: usize = 96000;
 pub const ROW_PLACES: usize = 5;
+pub const YEAR_PLACES: usize = 4;
 pub const POOL_MONTH_PLACES: usize = 3;
 pub const LOAN_COUNTS: usize = 2;
 pub const LOAN_AMOUNTS: usize = 3;
@@ -19,6 +20,8 @@ type Number<'a> = &'a mut f64;
 type Count<'a> = &'a mut u32;
 type Counts<'a> = &'a mut [u32; LOAN_COUNTS];
 type Amounts<'a> = &'a mut [f64; LOAN_AMOUNTS];
+type CountsToRead<'a> = &'a [u32; LOAN_COUNTS];
+type AmountsToRead<'a> = &'a [f64; LOAN_AMOUNTS];
 
 /// Declares exported functions: a list in brackets crosses as its pointer and its count, room as `[mut room: f64]` likewise.
 macro_rules! exported {
@@ -51,6 +54,8 @@ exported! {
     senyolanda_open([record: u8], counts: Counts, amounts: Amounts);
     senyolanda_open_with_payment([record: u8], given: f64, counts: Counts, amounts: Amounts);
     senyolanda_draw(counts: Counts, amounts: Amounts, [mut room: f64], written: Count, owed: Count);
+    senyolanda_draw_with_years(counts: Counts, amounts: Amounts, [mut room: f64], [mut years: f64], written: Count, owed: Count);
+    senyolanda_look_up_year(counts: CountsToRead, amounts: AmountsToRead, [years: f64], year: u32, line: &mut [f64; YEAR_PLACES]);
     senyolanda_next_row(counts: Counts, amounts: Amounts, record: &mut [u8; ROW_BYTES], written: Count, owed: Count);
     senyolanda_draw_book([records: u8], [mut answers: u32], [mut room: f64], finished: Count, cut: Count, waiting: Count);
     senyolanda_total_interest([record: u8], interest: Number);

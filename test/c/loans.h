@@ -24,9 +24,9 @@ senyolanda_result loan_deserved(const struct record *record);
 
 void set_loan(double principal, double rate, uint32_t term);
 
-/* The loan in hand is the desk's: its loan's term and rate, payment, months done and balance. An opening gives one, a draw or a next
-   row moves it on. The answers, in this order: its counts and its amounts; of draws and next rows also rows written, rows owed, and
-   the desk's places of room or a row's record; of a draw with lines also the desk's places of lines. */
+/* The loan in hand is the desk's: its loan's term and rate, payment, months done and balance. An opening gives one, a draw or a
+   next row moves it on. The answers, in this order: its counts and its amounts; of draws and next rows also rows written, rows
+   owed, and the desk's places of room or a row's record; of a draw with lines also the desk's places of them. */
 enum { COUNTS, AMOUNTS, WRITTEN, OWED, ROOM, YEARS };
 senyolanda_result call_open(void);
 senyolanda_result call_open_with_payment(void);

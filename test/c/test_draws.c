@@ -2,7 +2,6 @@
 #include "damaged.h"
 #include "loans.h"
 
-#include <float.h>
 #include <math.h>
 #include <string.h>
 

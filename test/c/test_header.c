@@ -29,18 +29,18 @@ static void results(void) {
     CHECK(senyolanda_number(0) == SENYOLANDA_ACCEPTED);
 }
 
-/* Document 01's numbers, in its order, each with words of its own. */
+/* The numbers of documents 01 and 02, in their order, each with words of its own. */
 static void refusals(void) {
     static const enum senyolanda_refusal numbers[] = { SENYOLANDA_ACCEPTED, SENYOLANDA_BAD_AMOUNT, SENYOLANDA_BAD_TERM,
         SENYOLANDA_NO_ROOM, SENYOLANDA_UNEQUAL_LISTS, SENYOLANDA_BAD_KNOT_COUNT, SENYOLANDA_BAD_KNOT, SENYOLANDA_BAD_TIME,
         SENYOLANDA_BAD_FREQUENCY, SENYOLANDA_BAD_NUMBER, SENYOLANDA_PAST_THE_TERM, SENYOLANDA_BAD_RECORD, SENYOLANDA_NO_YIELD,
-        SENYOLANDA_NO_BREAK_EVEN };
-    for (uint32_t i = 0; i < 14; i++) {
+        SENYOLANDA_NO_BREAK_EVEN, SENYOLANDA_NO_ROW_DRAWN };
+    for (uint32_t i = 0; i < 15; i++) {
         CHECK((uint32_t)numbers[i] == i);
-        for (uint32_t j = 0; j <= 14; j++)
+        for (uint32_t j = 0; j <= 15; j++)
             CHECK((strcmp(senyolanda_refusal_text(i), senyolanda_refusal_text(j)) == 0) == (i == j));
     }
-    CHECK(strcmp(senyolanda_refusal_text(14), senyolanda_refusal_text(UINT32_MAX)) == 0);
+    CHECK(strcmp(senyolanda_refusal_text(15), senyolanda_refusal_text(UINT32_MAX)) == 0);
 }
 
 static void numbers(void) {
@@ -113,6 +113,43 @@ static void rows(void) {
         IS(row.interest, room[WIDTH * i + 3]);
         IS(row.balance, room[WIDTH * i + 4]);
     }
+}
+
+/* The years that so many months start; the longest term has lines enough where any loan has. */
+static void started_years(void) {
+    static const uint32_t months[] = { 0, 1, 11, 12, 13, 24, 25 }, wanted[] = { 0, 1, 1, 1, 2, 2, 3 };
+    for (size_t i = 0; i < 7; i++) CHECK(SENYOLANDA_STARTED_YEARS(months[i]) == wanted[i]);
+    CHECK(SENYOLANDA_STARTED_YEARS(5 + 8) == 2);
+    CHECK(SENYOLANDA_STARTED_YEARS(SENYOLANDA_MOST_MONTHS) == SENYOLANDA_MOST_YEARS);
+}
+
+static void is_year(struct senyolanda_year year, double months, double interest, double principal, double balance) {
+    IS(year.months, months);
+    IS(year.interest, interest);
+    IS(year.principal, principal);
+    IS(year.balance, balance);
+}
+
+/* 13 months whose payments just cover the interest, an eighth of 800: drawn up to the first year's end, then the rest. */
+static void years(void) {
+    double room[12 * WIDTH], years[SENYOLANDA_STARTED_YEARS(13) * YEAR_WIDTH];
+    struct senyolanda_loan loan = { 13, 0, 1.5, 100, 800 }, before = loan;
+    struct senyolanda_year line = { 1, 2, 3, 4 };
+    uint32_t written = 9, owed = 9;
+    CHECK(senyolanda_loan_draw_with_years(&loan, room, 12 * WIDTH, years, 2 * YEAR_WIDTH - 1, &written, &owed) == refusal(3, 0));
+    CHECK(memcmp(&loan, &before, sizeof loan) == 0 && written == 9 && owed == 9);
+    CHECK(senyolanda_loan_draw_with_years(&loan, room, 12 * WIDTH, years, 2 * YEAR_WIDTH, &written, &owed) == 0);
+    CHECK(loan.done == 12 && written == 12 && owed == 1);
+    CHECK(senyolanda_loan_year(&loan, years, 2 * YEAR_WIDTH, 2, &line) == refusal(SENYOLANDA_NO_ROW_DRAWN, 0));
+    is_year(line, 1, 2, 3, 4);
+    CHECK(senyolanda_loan_draw_with_years(&loan, room, 12 * WIDTH, years, 2 * YEAR_WIDTH, &written, &owed) == 0);
+    CHECK(loan.done == 13 && written == 1 && owed == 0);
+    CHECK(senyolanda_loan_year(&loan, years, 2 * YEAR_WIDTH, 1, &line) == 0);
+    is_year(line, 12, 1200, 0, 800);
+    CHECK(senyolanda_loan_year(&loan, years, 2 * YEAR_WIDTH, 2, &line) == 0);
+    is_year(line, 1, 100, 800, 0);
+    is_year(senyolanda_year_at(years, 0), 12, 1200, 0, 800);
+    is_year(senyolanda_year_at(years, 1), 1, 100, 800, 0);
 }
 
 /* 200 undiscounted; the count is in flows. */
@@ -289,6 +326,8 @@ int main(int arguments, char **words) {
     loans();
     next_row();
     rows();
+    started_years();
+    years();
     flows();
     payments();
     book();

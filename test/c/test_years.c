@@ -1,6 +1,6 @@
 /*
- * Year-end totals: a draw with lines gives what the plain draw gives and enters its rows into their years' lines, for every
- * portion as for one draw; lines that were made up are gone on with, all others stay, and every year is looked up after every draw.
+ * Year-end totals: a draw with lines gives what the plain draw gives and enters its rows into their years' lines, in portions as
+ * in one draw. Lines that were made up are gone on with, all others stay, and after every draw every year is looked up.
  */
 #include "damaged.h"
 #include "loans.h"
@@ -381,7 +381,7 @@ static void are_too_few(size_t year_places) {
     REFUSED(call_look_up_year, 3, 0);
 }
 
-/* The lines that the term wants are enough for a state with rows due, a finished one, and one past its term; a place fewer is not. */
+/* The lines that the term wants are enough with rows due, for a finished loan and past the term; a place fewer is not. */
 static void wants_lines(uint32_t term, uint32_t done) {
     set_hand(1000, 0.06, 100, term, done);
     desk.drawn = done;

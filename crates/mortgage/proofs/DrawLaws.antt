@@ -36,7 +36,7 @@ module _ (l : Loan) (room : List Float) (d : Portion) (e : drawn l room ≡ acce
   unfolding drawn
   portion-is = accepted-value (drawLines l (length room)) (portion l (length room)) d e
 
-  written-is : d .written ≡ count l (length room)
+  pub written-is : d .written ≡ count l (length room)
   unfolding portion
   written-is = ap (λ (p : Portion). p .written) portion-is
 
@@ -44,7 +44,7 @@ module _ (l : Loan) (room : List Float) (d : Portion) (e : drawn l room ≡ acce
   unfolding portion
   owed-is = ap (λ (p : Portion). p .owed) portion-is
 
-  filled-is : filled l room ≡ laid width (d .written) (rows (d .written) l) room
+  pub filled-is : filled l room ≡ laid width (d .written) (rows (d .written) l) room
   unfolding filled
   filled-is = ap (λ (o : Outcome Portion). filledBy o l room) e
 

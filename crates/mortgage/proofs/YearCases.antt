@@ -2,7 +2,7 @@
 use mathlib.Core.Path.{_≡_, refl, sym, ap, _∙_}
 use mathlib.Core.Logic.{_⊎_, inl, inr}
 use mathlib.Core.Bool.{Bool, true, false, _||_}
-use mathlib.Core.List.{List, _++_}
+use mathlib.Core.List.{List, [], _∷_}
 use Prim.Native.Nat.{ℕ, zero, suc, _+_, _-_, _*_, _/_, _%_, _<_, _≤_, min}
 use native.Mathlib.Numerals.{add-one}
 use native.Mathlib.Nat.{zero-add}
@@ -11,9 +11,12 @@ use lib.ListN.{length, getD, drop}
 use lib.Ieee.{Float, nan, binary64, add}
 use borrow.Author.Tests.{lt-ltb, le-ltb, ltb-false, eq-eqb, ne-eqb}
 use Rattle.numbers.specs.Literals.{one}
-use Rattle.refusals.specs.Outcome.{Outcome, refused, accepted, firstOr, judged}
+use Rattle.refusals.specs.declared.Refusal.{Refusal}
+use Rattle.refusals.specs.Outcome.{Outcome, refused, accepted, line, firstOr, judged}
 use Rattle.refusals.specs.Table.{badTerm, noRoom, tooFewLines, pastEnd, noRowDrawn}
 use Rattle.refusals.proofs.Causes.{term-within}
+use Rattle.refusals.proofs.Judging.{none-is, passed}
+use Rattle.refusals.proofs.Verdicts.{refused-as}
 use Rattle.records.specs.declared.Row.{Row}
 use Rattle.steps.specs.Steps.{stepped, laid}
 use Rattle.steps.proofs.Columns.{column-in-room}
@@ -30,7 +33,7 @@ use Rattle.mortgage.specs.YearDraws.{fewerThanStarted, drawnWithYears, f
 use Rattle.mortgage.specs.inner.RoomRows.{rowsFrom, withRows}
 use Rattle.mortgage.proofs.RowLaws.{done-after}
 use Rattle.mortgage.proofs.DrawCases.{rowPlaces, wide}
-use Rattle.mortgage.proofs.DrawLaws.{length-rows, written-within}
+use Rattle.mortgage.proofs.DrawLaws.{written-is, filled-is, written-within}
 use Rattle.mortgage.proofs.YearLaws.{begins, entered-sum, entered-same, year-at-once}
 
 -- ---- the lookup
@@ -68,42 +71,6 @@ enough-lines l years f = omega (arith, ltb-false (years / yearWidth) (startedYea
 pub enough-for-begun : (l : Loan) (years : ℕ) (n : ℕ) → fewerThanStarted l years ≡ false → n ≤ endMonth l → startedYears n * yearWidth ≤ years
 unfolding endMonth
 enough-for-begun l years n f h = omega (arith, enough-lines l years f)
-
--- ---- the draw
-no-second : (b : Bool) → (b || false) ≡ b
-no-second true = refl
-no-second false = refl
-
-second : (b : Bool) → (b || true) ≡ true
-second true = refl
-second false = refl
-
-module _ (l : Loan) (room years : List Float) where
-  pub years-bad-term : badTerm (l .term) ≡ true → refused 2 0 ≡ drawnWithYears l room years
-  unfolding drawnWithYears judged firstOr
-  years-bad-term t = rw t
-
-  pub years-too-few : badTerm (l .term) ≡ false → fewerThanStarted l (length years) ≡ true → refused 3 0 ≡ drawnWithYears l room years
-  unfolding drawnWithYears judged firstOr
-  years-too-few t f = rw (t, f, second (noRoom (due l) (length room) width))
-
-  -- with lines enough it answers what the plain draw does
-  pub as-drawn : badTerm (l .term) ≡ false → fewerThanStarted l (length years) ≡ false → drawn l room ≡ drawnWithYears l room years
-  unfolding drawn drawnWithYears judged firstOr
-  as-drawn t f = rw (f, no-second (noRoom (due l) (length room) width))
-
-  -- a refusal leaves the room and the lines as they were
-  pub refused-years : (k p : ℕ) → refused k p ≡ drawnWithYears l room years → (room ≡ filledWithYears l room years) × (years ≡ summed l room years)
-  unfolding filledWithYears summed
-  refused-years k p e = (ap (λ (o : Outcome Portion). filledBy o l room) e, ap (λ (o : Outcome Portion). yearsBy o l years) e)
-
-  pub filled-as-drawn : drawn l room ≡ drawnWithYears l room years → filled l room ≡ filledWithYears l room years
-  unfolding filled filledWithYears
-  filled-as-drawn e = ap (λ (o : Outcome Portion). filledBy o l room) e
-
-  pub summed-rows : (d : Portion) → accepted d ≡ drawnWithYears l room years → yearsAfter (d .written) l years ≡ summed l room years
-  unfolding summed
-  summed-rows d e = ap (λ (o : Outcome Portion). yearsBy o l years) e
 
 -- ---- rows read back from a room
 -- a line does not ask which months its rows are of
@@ -178,3 +145,82 @@ of-one-year d k count n e h = (omega arith, omega arith, omega arith)
 
 pub line-lent : (d k count years : ℕ) → k < count → startedYears (d + count) * yearWidth ≤ years → lineBehind (d + k) * yearWidth + yearWidth ≤ years
 line-lent d k count years h f = omega arith
+
+-- ---- the draw
+no-second : (b : Bool) → (b || false) ≡ b
+no-second true = refl
+no-second false = refl
+
+second : (b : Bool) → (b || true) ≡ true
+second true = refl
+second false = refl
+
+module _ (l : Loan) (room years : List Float) where
+  pub years-bad-term : badTerm (l .term) ≡ true → refused 2 0 ≡ drawnWithYears l room years
+  unfolding drawnWithYears judged firstOr
+  years-bad-term t = rw t
+
+  pub years-too-few : badTerm (l .term) ≡ false → fewerThanStarted l (length years) ≡ true → refused 3 0 ≡ drawnWithYears l room years
+  unfolding drawnWithYears judged firstOr
+  years-too-few t f = rw (t, f, second (noRoom (due l) (length room) width))
+
+  -- with lines enough it answers what the plain draw does
+  pub as-drawn : badTerm (l .term) ≡ false → fewerThanStarted l (length years) ≡ false → drawn l room ≡ drawnWithYears l room years
+  unfolding drawn drawnWithYears judged firstOr
+  as-drawn t f = rw (f, no-second (noRoom (due l) (length room) width))
+
+  pub filled-as-drawn : drawn l room ≡ drawnWithYears l room years → filled l room ≡ filledWithYears l room years
+  unfolding filled filledWithYears
+  filled-as-drawn e = ap (λ (o : Outcome Portion). filledBy o l room) e
+
+  -- ---- the ways out of the code: the answer, the room and the lines
+  -- refused before anything is drawn
+  pub refused-at-once : (k : ℕ) (r : Refusal) → (r .number ≡ k) × (r .place ≡ 0) → refused k 0 ≡ drawnWithYears l room years
+      → (refused (r .number) (r .place) ≡ drawnWithYears l room years) × ((room ≡ filledWithYears l room years) × (years ≡ summed l room years))
+  unfolding filledWithYears summed
+  refused-at-once k r h e =
+      (refused-as k r (drawnWithYears l room years) h e, (ap (λ (o : Outcome Portion). filledBy o l room) e, ap (λ (o : Outcome Portion). yearsBy o l years) e))
+
+  module _ (t : badTerm (l .term) ≡ false) (f : fewerThanStarted l (length years) ≡ false) where
+    -- refused by the plain draw
+    pub refused-by-draw : (k p : ℕ) (room′ : List Float) → refused k p ≡ drawn l room → room′ ≡ filled l room
+        → (refused k p ≡ drawnWithYears l room years) × ((room′ ≡ filledWithYears l room years) × (years ≡ summed l room years))
+    unfolding summed
+    refused-by-draw k p room′ e er =
+        let s = as-drawn t f in
+        (e ∙ s, (er ∙ filled-as-drawn s, ap (λ (o : Outcome Portion). yearsBy o l years) (e ∙ s)))
+
+    module _ (d : Portion) (room′ : List Float) (e : accepted d ≡ drawn l room) (er : room′ ≡ filled l room) where
+      -- drawn: the months done and the rows written are within the loan, and so are the lines
+      done-within : l .done ≤ endMonth l
+      unfolding drawn pastEnd
+      done-within =
+          let v = portion l (length room) in
+          let first = passed v d (line 2 (badTerm (l .term))) (line 3 (noRoom (due l) (length room) width) ∷ line 10 (pastEnd (endMonth l) (l .done)) ∷ []) e .1 in
+          let second = passed v d (line 3 (noRoom (due l) (length room) width)) (line 10 (pastEnd (endMonth l) (l .done)) ∷ []) first .1 in
+          ltb-false (endMonth l) (l .done) (none-is (passed v d (line 10 (pastEnd (endMonth l) (l .done))) [] second .0) 0)
+
+      months-within : l .done + d .written ≤ endMonth l
+      unfolding due
+      months-within = omega (arith, done-within, written-within l room d (sym e))
+
+      pub enters-within : length room′ ≡ length room
+          → (d .written * width ≤ length room′) × (l .done + d .written ≤ 1200) × (startedYears (l .done + d .written) * yearWidth ≤ length years)
+      unfolding endMonth
+      enters-within n =
+          (omega (arith, written-is l room d (sym e)), omega (arith, months-within, term-within (l .term) t), enough-for-begun l (length years) (l .done + d .written) f months-within)
+
+      -- and the rows written are entered
+      pub drawn-and-entered : (years′ : List Float) → years′ ≡ enteredUpTo (rowsFrom room′ 0 (l .done)) (d .written) years
+          → (accepted d ≡ drawnWithYears l room years) × ((room′ ≡ filledWithYears l room years) × (years′ ≡ summed l room years))
+      unfolding summed
+      drawn-and-entered years′ ey =
+          let s = as-drawn t f in
+          let stands : room′ ≡ laid width (d .written) (rows (d .written) l) room = er ∙ filled-is l room d (sym e) in
+          let entered =
+              ey
+              ∙ ap (λ (o : List Float). enteredUpTo (rowsFrom o 0 (l .done)) (d .written) years) stands
+              ∙ entered-from-room l (d .written) room years
+              ∙ ap (λ (o : Outcome Portion). yearsBy o l years) (e ∙ s)
+          in
+          (e ∙ s, (er ∙ filled-as-drawn s, entered))

@@ -1,73 +1,82 @@
+-- `mortgage::years::draw_with_years` meets its contract: each way out is a case of the definition, and what was written is entered. Assumes nothing.
+use mathlib.Core.Path.{sym, ap, _∙_}
+use denote.Ref.{now}
+use Rattle.mortgage.specs.Draws.{drawingOutcome}
+use Rattle.mortgage.proofs.YearCases.{years-bad-term, years-too-few, refused-at-once, refused-by-draw, enters-within, drawn-and-entered}
 use borrow.Author.Needs.{needs}
 use Rattle.mortgage.proofs.years.draw_with_years.Statement.{statement}
 use Rattle.mortgage.proofs.years.draw_with_years.Tie as tie
-use Rattle.mortgage.proofs.years.draw_with_years.Reads as reads
-use Rattle.mortgage.proofs.years.draw_with_years.Lts as lts
-use Rattle.mortgage.proofs.draws.draw.Reads as draw-reads
-use Rattle.mortgage.proofs.years.enter_rows.Reads as enter-rows-reads
-use Rattle.mortgage.proofs.years.too_few.Reads as too-few-reads
-use Rattle.refusals.proofs.bad_term.Reads as bad-term-reads
-use Rattle.refusals.proofs.refuse.Reads as refuse-reads
 
--- src/years.rt:168:8
 bad-term-requires : tie.Need-bad-term-requires
 bad-term-requires c κs = search needs
 
--- src/years.rt:169:33
 refuse-requires : tie.Need-refuse-requires
 refuse-requires c κs = search needs
 
--- src/years.rt:169:9
 returns : tie.Need-returns
-returns c = ?
+returns c = 
+    let b = c .before .before in
+    let a = b .before .before .before .args in
+    refused-at-once (a .loan) (now (a .room)) (now (a .years)) 2 _ (c .refuse .ensures) (years-bad-term (a .loan) (now (a .room)) (now (a .years)) (sym (b .bad-term .ensures) ∙ c .before .if1 .taken))
 
--- src/years.rt:171:8
 too-few-requires : tie.Need-too-few-requires
 too-few-requires c κs = search needs
 
--- src/years.rt:172:33
 refuse-requires-2 : tie.Need-refuse-requires-2
 refuse-requires-2 c κs = search needs
 
--- src/years.rt:172:9
 returns-2 : tie.Need-returns-2
-returns-2 c = ?
+returns-2 c = 
+    let few = c .before .before in
+    let b = few .before .before in
+    let a = b .before .before .before .args in
+    refused-at-once (a .loan) (now (a .room)) (now (a .years)) 3 _ (c .refuse2 .ensures)
+    (years-too-few (a .loan) (now (a .room)) (now (a .years)) (sym (b .bad-term .ensures) ∙ few .before .if1 .left) (sym (few .too-few .ensures) ∙ c .before .if2 .taken))
 
--- src/years.rt:174:11
 draw-requires : tie.Need-draw-requires
 draw-requires c κs = search needs
 
--- src/years.rt:175:26
 enum-known-refusal : tie.Need-enum-known-refusal
 enum-known-refusal c = search needs
 
--- src/years.rt:176:24
 enum-known-portion : tie.Need-enum-known-portion
 enum-known-portion c = search needs
 
--- src/years.rt:177:13
 enter-rows-requires : tie.Need-enter-rows-requires
-enter-rows-requires c κs = ?
+enter-rows-requires c κs = 
+    let d = c .before .before .before .before .before .before .before in
+    let few = d .before .before .before in
+    let b = few .before .before in
+    let a = b .before .before .before .args in
+    enters-within (a .loan) (now (a .room)) (now (a .years)) (sym (b .bad-term .ensures) ∙ few .before .if1 .left) (sym (few .too-few .ensures) ∙ d .before .before .if2 .left) _ (d .draw .last .1 .0)
+    (sym (ap drawingOutcome (c .before .before .before .portion .given .1)) ∙ d .draw .ensures .0) (d .draw .ensures .1) (d .draw .kept .1 .0)
 
--- src/years.rt:163:1
 same-length : tie.Need-same-length
 same-length c = search needs
 
--- src/years.rt:163:1
 returns-3 : tie.Need-returns-3
-returns-3 c = ?
+returns-3 c = 
+    let d = c .before .before .before .before .before in
+    let few = d .before .before .before in
+    let b = few .before .before in
+    let a = b .before .before .before .args in
+    refused-by-draw (a .loan) (now (a .room)) (now (a .years)) (sym (b .bad-term .ensures) ∙ few .before .if1 .left) (sym (few .too-few .ensures) ∙ d .before .before .if2 .left) _ _ (d .draw .last .1 .0)
+    (sym (ap drawingOutcome (c .before .refusal .given .1)) ∙ d .draw .ensures .0) (d .draw .ensures .1)
 
--- src/years.rt:163:1
 same-length-2 : tie.Need-same-length-2
 same-length-2 c = search needs
 
--- src/years.rt:163:1
 same-length-3 : tie.Need-same-length-3
 same-length-3 c = search needs
 
--- src/years.rt:163:1
 returns-4 : tie.Need-returns-4
-returns-4 c = ?
+returns-4 c = 
+    let d = c .before .before .before .before .before .before .before .before .before .before in
+    let few = d .before .before .before in
+    let b = few .before .before in
+    let a = b .before .before .before .args in
+    drawn-and-entered (a .loan) (now (a .room)) (now (a .years)) (sym (b .bad-term .ensures) ∙ few .before .if1 .left) (sym (few .too-few .ensures) ∙ d .before .before .if2 .left) _ (d .draw .last .1 .0)
+    (sym (ap drawingOutcome (c .before .before .before .before .before .before .portion .given .1)) ∙ d .draw .ensures .0) (d .draw .ensures .1) _ (c .before .before .enter-rows .ensures)
 
 pub draw-with-years-spec : {M : Type 1} → statement M
 draw-with-years-spec =
