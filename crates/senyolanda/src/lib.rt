@@ -14,3 +14,4 @@ mod record_bytes;
 mod results;
 mod spreads;
 mod swap_values;
+mod years;

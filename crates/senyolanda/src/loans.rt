@@ -39,7 +39,7 @@ pub const COUNTS: usize = 2;
 // Amounts of it: rate, payment, balance.
 pub const AMOUNTS: usize = 3;
 
-fn loan_in(counts: &[u32; COUNTS], amounts: &[f64; AMOUNTS]) -> Loan
+pub(crate) fn loan_in(counts: &[u32; COUNTS], amounts: &[f64; AMOUNTS]) -> Loan
     ensures { λ r. ⌜ r ≡ loanIn (now (counts .entry)) (now (amounts .entry)) ⌝ }
 {
     Loan {
@@ -106,7 +106,7 @@ pub extern "C" fn senyolanda_open_with_payment(
 }
 
 // What a draw hands back.
-fn put_portion(
+pub(crate) fn put_portion(
     drawing: Drawing,
     counts: &mut [u32; COUNTS],
     amounts: &mut [f64; AMOUNTS],
