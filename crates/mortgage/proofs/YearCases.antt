@@ -218,9 +218,9 @@ module _ (l : Loan) (room years : List Float) where
           let s = as-drawn t f in
           let stands : room′ ≡ laid width (d .written) (rows (d .written) l) room = er ∙ filled-is l room d (sym e) in
           let entered =
-              ey
-              ∙ ap (λ (o : List Float). enteredUpTo (rowsFrom o 0 (l .done)) (d .written) years) stands
-              ∙ entered-from-room l (d .written) room years
-              ∙ ap (λ (o : Outcome Portion). yearsBy o l years) (e ∙ s)
+          ey
+          ∙ ap (λ (o : List Float). enteredUpTo (rowsFrom o 0 (l .done)) (d .written) years) stands
+          ∙ entered-from-room l (d .written) room years
+          ∙ ap (λ (o : Outcome Portion). yearsBy o l years) (e ∙ s)
           in
           (e ∙ s, (er ∙ filled-as-drawn s, entered))

@@ -18,7 +18,9 @@ pub const YEAR_WIDTH: usize = 4;
 
 // Where a row has its principal, its interest and its balance.
 const PRINCIPAL: usize = 2;
+
 const INTEREST: usize = 3;
+
 const BALANCE: usize = 4;
 
 // A year's line: months covered, their interest, their principal, and the balance after the last of them.

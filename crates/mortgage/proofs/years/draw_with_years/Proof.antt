@@ -14,7 +14,7 @@ refuse-requires : tie.Need-refuse-requires
 refuse-requires c κs = search needs
 
 returns : tie.Need-returns
-returns c = 
+returns c =
     let b = c .before .before in
     let a = b .before .before .before .args in
     refused-at-once (a .loan) (now (a .room)) (now (a .years)) 2 _ (c .refuse .ensures) (years-bad-term (a .loan) (now (a .room)) (now (a .years)) (sym (b .bad-term .ensures) ∙ c .before .if1 .taken))
@@ -26,7 +26,7 @@ refuse-requires-2 : tie.Need-refuse-requires-2
 refuse-requires-2 c κs = search needs
 
 returns-2 : tie.Need-returns-2
-returns-2 c = 
+returns-2 c =
     let few = c .before .before in
     let b = few .before .before in
     let a = b .before .before .before .args in
@@ -43,7 +43,7 @@ enum-known-portion : tie.Need-enum-known-portion
 enum-known-portion c = search needs
 
 enter-rows-requires : tie.Need-enter-rows-requires
-enter-rows-requires c κs = 
+enter-rows-requires c κs =
     let d = c .before .before .before .before .before .before .before in
     let few = d .before .before .before in
     let b = few .before .before in
@@ -55,7 +55,7 @@ same-length : tie.Need-same-length
 same-length c = search needs
 
 returns-3 : tie.Need-returns-3
-returns-3 c = 
+returns-3 c =
     let d = c .before .before .before .before .before in
     let few = d .before .before .before in
     let b = few .before .before in
@@ -70,7 +70,7 @@ same-length-3 : tie.Need-same-length-3
 same-length-3 c = search needs
 
 returns-4 : tie.Need-returns-4
-returns-4 c = 
+returns-4 c =
     let d = c .before .before .before .before .before .before .before .before .before .before in
     let few = d .before .before .before in
     let b = few .before .before in

@@ -41,7 +41,7 @@ mul-enter-year : tie.Need-mul-enter-year Inv-loop μ-loop
 mul-enter-year c = omega arith
 
 enter-year-requires : tie.Need-enter-year-requires Inv-loop μ-loop
-enter-year-requires c κs = 
+enter-year-requires c κs =
     let h = c .before .before .before in
     let s = h .before .before .before in
     let taken = c .before .before .loop-test .taken in
@@ -49,18 +49,18 @@ enter-year-requires c κs =
     ((o .0, o .1, omega (arith, o .2)), line-lent (s .args .done) (h .loop .k) (s .args .count) (length (h .loop .years)) taken (rw (h .loop .inv .2) (s .pre .2)))
 
 add-k : tie.Need-add-k Inv-loop μ-loop
-add-k c = 
+add-k c =
     omega (arith, c .before .before .before .before .smaller .ensures)
 
 loop-less : tie.Need-loop-less Inv-loop μ-loop
-loop-less c = 
+loop-less c =
     let h = c .before .before .before .before .before .before in
     let s = h .before .before .before in
     let o = of-one-year (s .args .done) (h .loop .k) (s .args .count) (c .before .before .before .before .smaller .result) (c .before .before .before .before .smaller .ensures) (c .before .before .before .before .before .loop-test .taken) in
     omega (arith, o .0, o .2)
 
 loop-again : tie.Need-loop-again Inv-loop μ-loop
-loop-again c = 
+loop-again c =
     let n = c .before .before .before .before .smaller in
     let h = c .before .before .before .before .before .before in
     let s = h .before .before .before in
@@ -72,7 +72,7 @@ same-length : tie.Need-same-length Inv-loop μ-loop
 same-length c = c .before .loop .inv .2
 
 returns : tie.Need-returns Inv-loop μ-loop
-returns c = 
+returns c =
     let h = c .before in
     let e : h .loop .k ≡ h .before .before .before .args .count = omega arith in
     rw (← e) (h .loop .inv .0)

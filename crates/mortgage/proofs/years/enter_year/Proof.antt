@@ -38,7 +38,7 @@ same-length : tie.Need-same-length
 same-length c = search needs
 
 returns : tie.Need-returns
-returns c = 
+returns c =
     let put = c .before .before .put-line in
     let w = c .before .before .before .before in
     let s = w .before .before .before .before .before in
@@ -52,7 +52,7 @@ same-length-2 : tie.Need-same-length-2
 same-length-2 c = search needs
 
 returns-2 : tie.Need-returns-2
-returns-2 c = 
+returns-2 c =
     let put = c .before .before .put-line2 in
     let w = c .before .before .before .before in
     let s = w .before .before .before .before .before .before in

@@ -18,7 +18,7 @@ refuse-requires : tie.Need-refuse-requires
 refuse-requires c κs = search needs
 
 returns : tie.Need-returns
-returns c = 
+returns c =
     let b = c .before .before in
     let a = b .before .before .args in
     refused-as 2 _ _ (c .refuse .ensures) (lookup-bad-term (a .loan) (now (a .years)) (a .year) (sym (b .bad-term .ensures) ∙ c .before .if1 .taken))
@@ -30,7 +30,7 @@ refuse-requires-2 : tie.Need-refuse-requires-2
 refuse-requires-2 c κs = search needs
 
 returns-2 : tie.Need-returns-2
-returns-2 c = 
+returns-2 c =
     let b = c .before .before .before .before in
     let a = b .before .before .args in
     let t = sym (b .bad-term .ensures) ∙ c .before .before .before .if1 .left in
@@ -44,7 +44,7 @@ refuse-requires-3 : tie.Need-refuse-requires-3
 refuse-requires-3 c κs = search needs
 
 returns-3 : tie.Need-returns-3
-returns-3 c = 
+returns-3 c =
     let b = c .before .before .before .before .before .before .before in
     let a = b .before .before .args in
     let t = sym (b .bad-term .ensures) ∙ c .before .before .before .before .before .before .if1 .left in
@@ -55,7 +55,7 @@ refuse-requires-4 : tie.Need-refuse-requires-4
 refuse-requires-4 c κs = search needs
 
 returns-4 : tie.Need-returns-4
-returns-4 c = 
+returns-4 c =
     let b = c .before .before .before .before .before .before .before .before in
     let a = b .before .before .args in
     let t = sym (b .bad-term .ensures) ∙ c .before .before .before .before .before .before .before .if1 .left in
@@ -69,7 +69,7 @@ refuse-requires-5 : tie.Need-refuse-requires-5
 refuse-requires-5 c κs = search needs
 
 returns-5 : tie.Need-returns-5
-returns-5 c = 
+returns-5 c =
     let b = c .before .before .before .before .before .before .before .before .before .before in
     let a = b .before .before .args in
     let t = sym (b .bad-term .ensures) ∙ c .before .before .before .before .before .before .before .before .before .if1 .left in
@@ -86,13 +86,13 @@ mul-place : tie.Need-mul-place
 mul-place c = search needs
 
 line-from-requires : tie.Need-line-from-requires
-line-from-requires c κs = 
+line-from-requires c κs =
     let a = c .before .before .before .before .before .before .before .before .before .before .before .args in
     let f = sym (c .before .before .before .before .before .before .before .too-few .ensures) ∙ c .before .before .before .before .before .before .if2 .left in
     omega (arith, enough-for-begun (a .loan) (length (now (a .years))) (a .loan .done) f (omega arith), c .before .before .if4 .left)
 
 returns-6 : tie.Need-returns-6
-returns-6 c = 
+returns-6 c =
     let b = c .before .before .before .before .before .before .before .before .before .before in
     let a = b .before .before .args in
     let t = sym (b .bad-term .ensures) ∙ c .before .before .before .before .before .before .before .before .before .if1 .left in

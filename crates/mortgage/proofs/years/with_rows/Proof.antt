@@ -57,13 +57,13 @@ loop-less : tie.Need-loop-less Inv-loop μ-loop
 loop-less c = omega arith
 
 loop-again : tie.Need-loop-again Inv-loop μ-loop
-loop-again c = 
+loop-again c =
     let h = c .before .before .before .before .before .before .before in
     let a = h .before .args in
     (row-added (now (a .room)) (a .at) (h .loop .k) (h .loop .place) (a .year) (h .loop .line) (h .loop .inv .0) (h .loop .inv .1), omega arith, omega arith)
 
 returns : tie.Need-returns Inv-loop μ-loop
-returns c = 
+returns c =
     let h = c .before in
     let e : h .loop .k ≡ h .before .args .count = omega arith in
     rw (← e) (h .loop .inv .0)
