@@ -3,12 +3,14 @@ pub mod RowLaws
 pub mod RowFits
 pub mod DrawCases
 pub mod PlaceLaws
-pub mod YearLaws
-pub mod YearCases
 pub mod DrawLaws
 pub mod Sequences
 pub mod RowsRepay
 pub mod Demand3
+pub mod YearLaws
+pub mod YearCases
+pub mod YearDrawLaws
+pub mod Summing
 pub mod Worked
 pub mod RowColumns
 pub mod PayingDown

@@ -51,6 +51,12 @@ module _ {S A : Type 0} (next : S → S) (writes : S → List A) (due : S → �
         let e : f .many ≡ due s = omega (arith, moved-is-no-longer-due s numbers s′ f) in
         f .by-the-rule ∙ ap (λ (k : ℕ). written next writes k s) e
 
+    -- whatever calls moved on a state, as many steps file the same and leave the same
+    pub moved-alike : (s t u : S) (a b : List A) → Moves s a t → Moves s b u → due t ≡ due u → (t ≡ u) × (a ≡ b)
+    moved-alike s t u a b f g e =
+        let m : f .many ≡ g .many = omega (arith, moved-is-no-longer-due s a t f, moved-is-no-longer-due s b u g) in
+        (f .state ∙ ap (λ (k : ℕ). stepped next k s) m ∙ sym (g .state), f .by-the-rule ∙ ap (λ (k : ℕ). written next writes k s) m ∙ sym (g .by-the-rule))
+
     -- ---- calls that keep K, with a state in hand; what is `Good` stays so from call to call
     module _ {K C : Type 0} (hand : K → S) (files : K → C → List A) (handsBack : K → C → K) (Good : K → Type 0) where
       module _ (a-call : (k : K) (c : C) → Good k → Moves (hand k) (files k c) (hand (handsBack k c)) × Good (handsBack k c)) where
