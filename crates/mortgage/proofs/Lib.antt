@@ -12,6 +12,7 @@ pub mod YearCases
 pub mod YearDrawLaws
 pub mod Summing
 pub mod Worked
+pub mod YearsWorked
 pub mod RowColumns
 pub mod PayingDown
 pub mod BreakEvens

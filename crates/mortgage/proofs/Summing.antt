@@ -1,49 +1,49 @@
 -- Draws with year-end lines one after the other, each handed the loan and the lines that the one before left, by the laws of calls: whatever the portions, refused draws among them, they leave
 -- the lines that one draw leaves; and from an opening the line of each year with a row is the definition's, over the rows filed alone, a lookup gives it, and any other year is refused with 14.
 -- Assumes nothing.
-use mathlib.Core.Path.{_≡_, refl, sym, ap, _∙_, subst}
-use mathlib.Core.Logic.{_⊎_, inl, inr}
-use mathlib.Core.Bool.{Bool, true, false}
+use mathlib.Core.Path.{_≡_, refl, sym, ap, _∙_}
+use mathlib.Core.Logic.{inl, inr}
+use mathlib.Core.Bool.{false}
 use mathlib.Core.List.{List, _∷_}
 use Prim.Native.Nat.{ℕ, zero, suc, _+_, _-_, _*_, _/_, _<_, _≤_, min}
 use native.Mathlib.Omega.{arith}
 use lib.IntN.{pos}
 use lib.ListN.{length, getD, take, drop}
 use lib.Seq.{take-at}
-use lib.Ieee.{Float, nan, binary64, ofInt}
+use lib.Dec.{T}
+use lib.Ieee.{Float, nan, binary64, fits, ofInt}
 use borrow.Author.Tests.{le-ltb}
-use Rattle.numbers.specs.Sums.{addedUp}
 use Rattle.numbers.proofs.Sums.{same-added}
 use Rattle.refusals.specs.Outcome.{Outcome, refused, accepted}
 use Rattle.refusals.specs.Table.{badTerm, tooFewLines}
 use Rattle.refusals.proofs.Verdicts.{accepted-value}
 use Rattle.records.specs.declared.Row.{Row}
 use Rattle.records.specs.declared.Terms.{Terms}
-use Rattle.steps.specs.Steps.{pieces, stepped, written, laid}
+use Rattle.steps.specs.Steps.{stepped, written}
 use Rattle.steps.proofs.Portions.{pieces-same}
 use Rattle.steps.proofs.Columns.{column}
 use Rattle.steps.proofs.Calls as calls
 use Rattle.mortgage.specs.declared.Loan.{Loan}
 use Rattle.mortgage.specs.declared.draws.Portion.{Portion}
-use Rattle.mortgage.specs.declared.years.Year.{Year}
 use Rattle.mortgage.specs.Row.{width, principalPlace, interestPlace, balancePlace}
 use Rattle.mortgage.specs.Terms.{termsLines}
 use Rattle.mortgage.specs.Payment.{payment, loanOf, openedWith, opened}
 use Rattle.mortgage.specs.Month.{endMonth, due, rowOf, nextOf}
 use Rattle.mortgage.specs.Rows.{after, rows}
-use Rattle.mortgage.specs.Draws.{drawn, filledBy, filled}
-use Rattle.mortgage.specs.Demand3.{rowsIn, handedBack}
-use Rattle.mortgage.specs.Years.{startedYears, monthsIn, yearLine, yearWidth, yearAt, unbegun, entered, enteredUpTo}
+use Rattle.mortgage.specs.Draws.{filledBy}
+use Rattle.mortgage.specs.Demand3.{rowsIn, handedBack, Repaid}
+use Rattle.mortgage.specs.Years.{startedYears, yearLine, yearWidth, yearAt, unbegun, entered, enteredUpTo}
 use Rattle.mortgage.specs.YearDraws.{fewerThanStarted, drawnWithYears, filledWithYears, yearsAfter, yearsBy, summed, lookedUp}
 use Rattle.mortgage.specs.inner.RoomRows.{withRows}
 use Rattle.mortgage.specs.Summary.{Kept, wroteWithYears, keptAfter, filedWithYears, kept, yearsBegun, SumsUp}
-use Rattle.mortgage.proofs.RowLaws.{end-after, term-after, done-after, due-after}
+use Rattle.mortgage.proofs.RowLaws.{term-after, done-after, due-after}
 use Rattle.mortgage.proofs.DrawCases.{rowPlaces, wide}
-use Rattle.mortgage.proofs.DrawLaws.{length-rows, filled-is, written-within, hands-on}
+use Rattle.mortgage.proofs.DrawLaws.{length-rows, written-within, hands-on}
 use Rattle.mortgage.proofs.Sequences.{term-accepted}
+use Rattle.mortgage.proofs.Demand3.{as-opened}
 use Rattle.mortgage.proofs.YearLaws.{year-by, length-entered, line-of-its-rows, interest-added, principal-added, last-balance, months-counted}
 use Rattle.mortgage.proofs.YearCases.{lookup-year-0, lookup-no-row, lookup-found}
-use Rattle.mortgage.proofs.YearDrawLaws.{month-of-row, as-the-plain-draw, as-the-plain-room, summed-is}
+use Rattle.mortgage.proofs.YearDrawLaws.{month-of-row, as-the-plain-draw}
 
 -- ---- loan and lines step together
 abbrev onward : Kept → Kept
@@ -102,8 +102,19 @@ pub refused-changes-nothing : (k : Kept) (room : List Float) (rooms : List (List
 unfolding wroteWithYears filledWithYears summed
 refused-changes-nothing k room rooms j p e = calls.idle-call wroteWithYears keptAfter k room rooms (rw e) (rw e)
 
+-- draws to the end file the loan's rows, and from an opening these repay it
+pub filed-to-the-end : (k : Kept) (rooms : List (List Float)) → due (kept k rooms .0) ≡ 0 → filedWithYears k rooms ≡ rows (due (k .0)) (k .0)
+filed-to-the-end k rooms z = calls.moved-to-the-end onward shows dueOf due-onward k _ _ (all-move rooms k) z ∙ written-are (due (k .0)) k
+
+pub repaid-beside-lines : (t : Terms) (pay : Float) (l : Loan) → T (fits binary64 (t .principal)) → openedWith t pay ≡ accepted l → (years : List Float) (rooms : List (List Float))
+    → due (kept (l, years) rooms .0) ≡ 0 → (filedWithYears (l, years) rooms ≡ rows (t .term) l) × Repaid (t .principal) (t .term) (filedWithYears (l, years) rooms)
+repaid-beside-lines t pay l fit e years rooms z =
+    let own = as-opened t pay l fit e in
+    let all : filedWithYears (l, years) rooms ≡ rows (t .term) l = filed-to-the-end (l, years) rooms z ∙ ap (λ (n : ℕ). rows n l) (own .whole) in
+    (all, rw all (own .repaid-by-rows))
+
 -- ---- n rows of a loan that no month is done of
-module _ (l : Loan) (none : l .done ≡ 0) (years : List Float) (n : ℕ) (fits : startedYears n * yearWidth ≤ length years) where
+module _ (l : Loan) (none : l .done ≡ 0) (years : List Float) (n : ℕ) (lent : startedYears n * yearWidth ≤ length years) where
   abbrev numbers : List Float
   numbers = rows n l
 
@@ -128,7 +139,7 @@ module _ (l : Loan) (none : l .done ≡ 0) (years : List Float) (n : ℕ) (fits 
     in-place i j h b = sym (column nextOf rowPlaces width wide n l (before + i) j nan (within i h) b)
 
     of-its-rows : yearAt (yearsAfter n l years) (year - 1) ≡ withRows rowOfYear months unbegun
-    of-its-rows = line-of-its-rows (λ (i : ℕ). rowOf (after i l)) (λ (i : ℕ). month-of-row l i ∙ rw none (omega arith)) years n (year - 1) (omega arith) fits
+    of-its-rows = line-of-its-rows (λ (i : ℕ). rowOf (after i l)) (λ (i : ℕ). month-of-row l i ∙ rw none (omega arith)) years n (year - 1) (omega arith) lent
 
     definition-is : withRows rowOfYear months unbegun ≡ yearLine numbers year
     unfolding yearLine

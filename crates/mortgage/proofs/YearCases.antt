@@ -1,6 +1,5 @@
 -- The cases of a draw with year-end lines and of the lookup of a year, in the order in which the code tests; and rows that are entered from the room that a draw filled. Assumes nothing.
 use mathlib.Core.Path.{_≡_, refl, sym, ap, _∙_}
-use mathlib.Core.Logic.{_⊎_, inl, inr}
 use mathlib.Core.Bool.{Bool, true, false, _||_}
 use mathlib.Core.List.{List, [], _∷_}
 use Prim.Native.Nat.{ℕ, zero, suc, _+_, _-_, _*_, _/_, _%_, _<_, _≤_, min}
@@ -17,8 +16,7 @@ use Rattle.refusals.specs.Table.{badTerm, noRoom, tooFewLines, pastEnd, noRowDr
 use Rattle.refusals.proofs.Causes.{term-within}
 use Rattle.refusals.proofs.Judging.{none-is, passed}
 use Rattle.refusals.proofs.Verdicts.{refused-as}
-use Rattle.records.specs.declared.Row.{Row}
-use Rattle.steps.specs.Steps.{stepped, laid}
+use Rattle.steps.specs.Steps.{laid}
 use Rattle.steps.proofs.Columns.{column-in-room}
 use Rattle.mortgage.specs.declared.Loan.{Loan}
 use Rattle.mortgage.specs.declared.draws.Portion.{Portion}

@@ -2,19 +2,18 @@
 -- on the line of each year with a row is that of its rows alone. Assumes nothing.
 use mathlib.Core.Path.{_≡_, refl, sym, ap, _∙_}
 use mathlib.Core.Logic.{_⊎_, inl, inr}
-use mathlib.Core.Bool.{Bool, true, false, cond}
+use mathlib.Core.Bool.{Bool, true, false}
 use mathlib.Core.List.{List, [], append-nil}
-use Prim.Native.Nat.{ℕ, zero, suc, _+_, _-_, _*_, _/_, _%_, _<_, _≤_, min}
+use Prim.Native.Nat.{ℕ, zero, suc, _+_, _-_, _*_, _%_, _<_, _≤_, min}
 use native.Mathlib.Nat.{suc-add, zero-add, add-zero}
 use native.Mathlib.Omega.{arith}
 use lib.Dec.{eqb}
-use lib.ListN.{length, getD, take, drop}
+use lib.ListN.{length, getD}
 use lib.Seq.{sets, length-sets}
 use lib.IntN.{pos}
 use lib.Ieee.{Float, nan, binary64, add, ofInt, ofBits}
 use borrow.Author.Tests.{eqb-true, eqb-false, eq-eqb, ne-eqb}
 use Rattle.numbers.specs.Literals.{one}
-use Rattle.numbers.specs.Clamps.{plusZero}
 use Rattle.numbers.specs.Sums.{addedUp}
 use Rattle.records.specs.declared.Row.{Row}
 use Rattle.steps.specs.Steps.{pieces, singles}

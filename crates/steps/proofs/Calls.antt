@@ -1,9 +1,9 @@
 -- Calls one after the other, whatever state they move on and whatever they keep of it: what they file is what the next steps write, a call that does nothing may stand anywhere, calls to the
--- end file all that was due, and as many rooms with a whole piece as pieces are due reach the end. Assumes nothing.
+-- end file all that was due, calls that do the same leave the same, and as many rooms with a whole piece as pieces are due reach the end. Assumes nothing.
 use mathlib.Core.Path.{_≡_, refl, sym, ap, _∙_}
 use mathlib.Core.Logic.{inl, inr}
 use mathlib.Core.Bool.{Bool, true, false, cond}
-use mathlib.Core.List.{List, [], _∷_, _++_}
+use mathlib.Core.List.{List, [], _∷_, _++_, map}
 use Prim.Native.Nat.{ℕ, _+_, _-_, _*_, _/_, _≤_, _<_, suc}
 use native.Mathlib.Nat.{eq-zero-or-pos, le-div-iff-mul-le}
 use native.Mathlib.Omega.{arith}
@@ -77,6 +77,19 @@ module _ {K C A : Type 0} (files : K → C → List A) (handsBack : K → C → 
       → (filed files handsBack k (c ∷ calls) ≡ filed files handsBack k calls) × (left handsBack k (c ∷ calls) ≡ left handsBack k calls)
   unfolding filed left
   idle-call k c calls e f = (rw (e, f), rw f)
+
+-- ---- calls that do to what they keep what other calls do to what is in hand file the same, and leave the same in hand
+module _ {K K′ C C′ A : Type 0} (files : K → C → List A) (handsBack : K → C → K) (files′ : K′ → C′ → List A) (handsBack′ : K′ → C′ → K′) (hand : K → K′) (call : C → C′)
+    (same-filed : (k : K) (c : C) → files k c ≡ files′ (hand k) (call c)) (same-back : (k : K) (c : C) → hand (handsBack k c) ≡ handsBack′ (hand k) (call c)) where
+  pub left-alike : (calls : List C) (k : K) → hand (left handsBack k calls) ≡ left handsBack′ (hand k) (map call calls)
+  unfolding left
+  left-alike [] k = refl
+  left-alike (c ∷ calls) k = left-alike calls (handsBack k c) ∙ ap (λ (h : K′). left handsBack′ h (map call calls)) (same-back k c)
+
+  pub filed-alike : (calls : List C) (k : K) → filed files handsBack k calls ≡ filed files′ handsBack′ (hand k) (map call calls)
+  unfolding filed
+  filed-alike [] k = refl
+  filed-alike (c ∷ calls) k = rw (same-filed k c, filed-alike calls (handsBack k c), same-back k c)
 
 -- ---- how many rooms are enough, for calls that take as many as are due and fit
 at-least-one : (due room w : ℕ) → 0 < w → w ≤ room → 0 < due → 0 < fitting due room w

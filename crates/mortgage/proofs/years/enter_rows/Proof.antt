@@ -1,11 +1,10 @@
 -- `mortgage::years::enter_rows` meets its contract: after k rows, whole years or parts of them, the lines are those of k rows entered one by one. Assumes nothing.
 use mathlib.Core.Path.{_≡_, refl, _∙_}
-use Prim.Native.Nat.{_+_, _-_, _*_, _≤_}
+use Prim.Native.Nat.{_-_, _≤_}
 use native.Mathlib.Omega.{arith}
 use lib.ListN.{length}
 use denote.Ref.{now}
 use borrow.Author.Needs.{needs}
-use Rattle.mortgage.specs.Row.{width}
 use Rattle.mortgage.specs.Years.{enteredUpTo}
 use Rattle.mortgage.specs.inner.RoomRows.{rowsFrom}
 use Rattle.mortgage.proofs.YearCases.{rows-more, of-one-year, line-lent}

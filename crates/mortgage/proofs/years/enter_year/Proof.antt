@@ -2,7 +2,6 @@
 use Prim.Native.Nat.{ℕ}
 use Rattle.mortgage.specs.Years.{goesOnFrom}
 use mathlib.Core.Path.{sym, ap, _∙_}
-use native.Mathlib.Omega.{arith}
 use denote.Ref.{now}
 use Rattle.mortgage.specs.inner.RoomRows.{rowsFrom, withRows}
 use Rattle.mortgage.proofs.YearCases.{year-entered, whole-year-begins}

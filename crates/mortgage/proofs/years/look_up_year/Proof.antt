@@ -5,7 +5,6 @@ use lib.ListN.{length}
 use denote.Ref.{now}
 use Rattle.refusals.specs.Outcome.{accepted}
 use Rattle.refusals.proofs.Verdicts.{refused-as}
-use Rattle.mortgage.specs.declared.years.Year.{Year}
 use Rattle.mortgage.proofs.YearCases.{lookup-bad-term, lookup-too-few, lookup-past, lookup-year-0, lookup-no-row, lookup-found, enough-for-begun}
 use borrow.Author.Needs.{needs}
 use Rattle.mortgage.proofs.years.look_up_year.Statement.{statement}

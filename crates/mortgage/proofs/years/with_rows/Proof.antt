@@ -3,7 +3,6 @@ use Rattle.mortgage.proofs.YearCases.{row-added}
 use mathlib.Core.Path.{_≡_, refl}
 use Prim.Native.Nat.{_+_, _-_, _*_, _≤_}
 use native.Mathlib.Omega.{arith}
-use borrow.Author.Needs.{needs}
 use denote.Ref.{now}
 use Rattle.mortgage.specs.Row.{width}
 use Rattle.mortgage.specs.inner.RoomRows.{rowsFrom, withRows}
