@@ -54,7 +54,7 @@ use Rattle.senyolanda.proofs.loans.senyolanda_next_row.Kinds as next-ro
 use Rattle.senyolanda.proofs.loans.senyolanda_next_row.Reads as next-row-reads
 
 -- ---- a refused call says no rows
-none-said : (k p written : ℕ) → 0 < k → rowsSaid (refusalResult k p) written ≡ 0
+pub none-said : (k p written : ℕ) → 0 < k → rowsSaid (refusalResult k p) written ≡ 0
 none-said k p written h = rw (ne-eqb (refusalResult k p) 0 (never-0 k p h))
 
 refused-draw-number : (l : Loan) (room : List Float) (k p : ℕ) → drawn l room ≡ refused k p → 0 < k
@@ -177,7 +177,7 @@ once-open t pay before (accepted l) pays fit number opens z calls ended =
     (e, rw e (own .repaid-by-rows))
 
 -- what a record's opening is refused with, and what it is where it is accepted
-opening-number : (bytes : List ℕ) (pay : Terms → Float) (k p : ℕ) → andThen (readTerms bytes) (λ (t : Terms). openedWith t (pay t)) ≡ refused k p → 0 < k
+pub opening-number : (bytes : List ℕ) (pay : Terms → Float) (k p : ℕ) → andThen (readTerms bytes) (λ (t : Terms). openedWith t (pay t)) ≡ refused k p → 0 < k
 unfolding between
 opening-number bytes pay k p = go (readTerms bytes) refl
   where
@@ -185,7 +185,7 @@ opening-number bytes pay k p = go (readTerms bytes) refl
     go (refused j q) read e = let n : j ≡ k = cc in let h = within 0 0x1_0000_0000 (line 11 (badRecord termsKind termsSize bytes) ∷ []) j q tt (read-terms-exactly bytes j q .0 read .applies) .0 in omega arith
     go (accepted t) read e = within 0 0x1_0000_0000 (termsLines t) k p tt (opening-with-payment-refused-exactly t (pay t) k p .0 e .applies) .0
 
-opening-terms : (bytes : List ℕ) (pay : Terms → Float) (l : Loan) → andThen (readTerms bytes) (λ (t : Terms). openedWith t (pay t)) ≡ accepted l
+pub opening-terms : (bytes : List ℕ) (pay : Terms → Float) (l : Loan) → andThen (readTerms bytes) (λ (t : Terms). openedWith t (pay t)) ≡ accepted l
     → openedWith (termsIn bytes) (pay (termsIn bytes)) ≡ accepted l
 unfolding readTerms
 opening-terms bytes pay l = go (readTerms bytes) refl
@@ -194,7 +194,7 @@ opening-terms bytes pay l = go (readTerms bytes) refl
     go (refused j q) read e = let z : _≡_ {A = ℕ} 0 1 = cc in absurd (omega arith)
     go (accepted t) read e = let is : t ≡ termsIn bytes = accepted-value _ (termsIn bytes) t read in subst (λ (u : Terms). openedWith u (pay u) ≡ accepted l) is e
 
-principal-held-in : (bytes : List ℕ) → T (fits binary64 (termsIn bytes .principal))
+pub principal-held-in : (bytes : List ℕ) → T (fits binary64 (termsIn bytes .principal))
 unfolding termsIn floatAt
 principal-held-in bytes = ofBits-fits binary64 _
 

@@ -11,4 +11,5 @@ pub mod PoolFigures
 pub mod ResultSays
 pub mod SpeedCodes
 pub mod Worked
+pub mod YearsAtTheDoor
 pub mod tight

@@ -1,6 +1,7 @@
 pub mod Told
 pub mod Loans
 pub mod Calls
+pub mod YearCalls
 pub mod Bonds
 pub mod Models
 pub mod Swaps
