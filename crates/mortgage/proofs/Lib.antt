@@ -8,6 +8,7 @@ pub mod Sequences
 pub mod RowsRepay
 pub mod Demand3
 pub mod YearLaws
+pub mod EnteringRows
 pub mod YearCases
 pub mod YearDrawLaws
 pub mod Summing

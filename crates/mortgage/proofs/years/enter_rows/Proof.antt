@@ -7,7 +7,7 @@ use denote.Ref.{now}
 use borrow.Author.Needs.{needs}
 use Rattle.mortgage.specs.Years.{enteredUpTo}
 use Rattle.mortgage.specs.inner.RoomRows.{rowsFrom}
-use Rattle.mortgage.proofs.YearCases.{rows-more, of-one-year, line-lent}
+use Rattle.mortgage.proofs.EnteringRows.{rows-more, of-one-year, line-lent}
 use Rattle.mortgage.proofs.years.enter_rows.Statement.{statement}
 use Rattle.mortgage.proofs.years.enter_rows.Tie as tie
 

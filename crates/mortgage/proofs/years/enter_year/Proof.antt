@@ -4,7 +4,7 @@ use Rattle.mortgage.specs.Years.{goesOnFrom}
 use mathlib.Core.Path.{sym, ap, _∙_}
 use denote.Ref.{now}
 use Rattle.mortgage.specs.inner.RoomRows.{rowsFrom, withRows}
-use Rattle.mortgage.proofs.YearCases.{year-entered, whole-year-begins}
+use Rattle.mortgage.proofs.EnteringRows.{year-entered, whole-year-begins}
 use borrow.Author.Needs.{needs}
 use Rattle.mortgage.proofs.years.enter_year.Statement.{statement}
 use Rattle.mortgage.proofs.years.enter_year.Tie as tie

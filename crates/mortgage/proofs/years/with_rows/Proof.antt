@@ -1,5 +1,5 @@
 -- `mortgage::years::with_rows` meets its contract: after k turns the line has k rows added. Assumes nothing.
-use Rattle.mortgage.proofs.YearCases.{row-added}
+use Rattle.mortgage.proofs.EnteringRows.{row-added}
 use mathlib.Core.Path.{_≡_, refl}
 use Prim.Native.Nat.{_+_, _-_, _*_, _≤_}
 use native.Mathlib.Omega.{arith}
