@@ -13,6 +13,7 @@
 enum { STACK = 1 << 20, PAINT = 0xa5 };
 enum {
     MONTHS = SENYOLANDA_MOST_MONTHS,
+    YEARS = SENYOLANDA_MOST_YEARS,
     LOANS = SENYOLANDA_MOST_LOANS,
     BOOK = SENYOLANDA_MOST_BOOK_LOANS,
     KNOTS = SENYOLANDA_MOST_KNOTS,
@@ -28,13 +29,15 @@ static double flow_times[FLOWS], amounts[FLOWS], dated[2 * FLOWS], history[MONTH
 static double room[MONTHS * SENYOLANDA_ROW_PLACES], asked[MONTHS], numbers[8], x, rate, payment, balance;
 static uint32_t counts[SENYOLANDA_LOAN_COUNTS], term, written, owed, count, code;
 static double loan_amounts[SENYOLANDA_LOAN_AMOUNTS];
+static uint32_t year_counts[SENYOLANDA_LOAN_COUNTS];
+static double year_amounts[SENYOLANDA_LOAN_AMOUNTS], years[YEARS * SENYOLANDA_YEAR_PLACES], line[SENYOLANDA_YEAR_PLACES];
 static uint8_t book[BOOK * SENYOLANDA_LOAN_BYTES];
 static double book_room[BOOK * MONTHS * SENYOLANDA_ROW_PLACES];
 static uint32_t answers[BOOK];
 
 #define OF(array) (array), sizeof(array) / sizeof *(array)
 
-/* Whether every record could be written. */
+/* Whether every record could be written, and the loan opened that is drawn with lines. */
 static int set_out(void) {
     senyolanda_write_loan(250000.0, 0.06, MONTHS, loan);
     senyolanda_write_loan(250000.0, 0.05, MONTHS, new_loan);
@@ -52,13 +55,15 @@ static int set_out(void) {
     }
     for (int i = 0; i < MONTHS; i++) history[i] = 0.005;
     return senyolanda_write_bond(1000.0, 0.05, 100.0, SENYOLANDA_MONTHLY, bond) == 0
-        && senyolanda_write_swap(1e6, 0.04, 100.0, 12, SENYOLANDA_ACTUAL_360, swap) == 0;
+        && senyolanda_write_swap(1e6, 0.04, 100.0, 12, SENYOLANDA_ACTUAL_360, swap) == 0
+        && senyolanda_open(loan, sizeof loan, year_counts, year_amounts) == 0;
 }
 
 /* ---- every function, with its arguments ---- */
 
 #define LOAN OF(loan)
 #define HAND counts, loan_amounts
+#define YEAR_HAND year_counts, year_amounts
 #define POOL OF(pool), SENYOLANDA_PSA, 1.5, OF(history)
 #define BOND OF(bond)
 #define CURVE OF(times), OF(rates)
@@ -83,6 +88,8 @@ static int set_out(void) {
     CALL(open_with_payment, (LOAN, 1500.0, HAND))                                                       \
     CALL(next_row, (HAND, row, &written, &owed))                                                        \
     CALL(draw, (HAND, OF(room), &written, &owed))                                                       \
+    CALL(draw_with_years, (YEAR_HAND, OF(room), OF(years), &written, &owed))                            \
+    CALL(look_up_year, (YEAR_HAND, OF(years), YEARS, line))                                             \
     CALL(draw_book, (OF(book), OF(answers), OF(book_room), &count, &written, &owed))                    \
     CALL(total_interest, (LOAN, &x))                                                                    \
     CALL(remaining_balance, (LOAN, MONTHS, &x))                                                         \

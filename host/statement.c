@@ -1,22 +1,22 @@
-/* statement: loans in, their schedules out, as aligned tables or as CSV. */
-#include "amounts.h"
+/* statement: loans in, their schedules and year-end totals out, as aligned tables or as CSV. */
 #include "command.h"
-#include "senyolanda.h"
+#include "lines.h"
 
 #include <inttypes.h>
-#include <string.h>
 
 static const char help[] =
     "usage: senyolanda statement [OPTION..] PRINCIPAL RATE MONTHS\n"
     "       senyolanda statement [OPTION..] --records FILE\n"
     "\n"
-    "Writes a loan's schedule: each month's payment, the principal and the interest in it, and the balance after it.\n"
+    "Writes a loan's schedule: each month's payment, the principal and the interest in it, and the balance after it; behind every\n"
+    "twelfth month and behind the last a line for the year, with the principal and the interest of its months; then the total.\n"
     "PRINCIPAL and RATE are decimals, the rate a year (0.06 is six per cent); MONTHS is a whole number.\n"
     "\n"
     "  --records FILE    take the loans from FILE, records of 21 bytes end to end; - is standard input\n"
     "  --payment AMOUNT  pay AMOUNT each month and the rest in the last; else the payment is worked out\n"
-    "  --csv             write comma-separated rows, each with its loan's number, from 1\n"
-    "  --total           end each loan's comma-separated rows with their total, as a table ends\n"
+    "  --years           write the years' lines alone: the months of each, their interest and principal, and the balance after them\n"
+    "  --csv             write comma-separated rows, or years' lines with --years, each with its loan's number, from 1\n"
+    "  --total           write among comma-separated rows what a table has: a line behind each year, and the total at the end\n"
     "  --separators      write a comma between thousands; not with --csv, where a comma parts the cells, nor with --bits\n"
     "  --bits            write each amount as the 16 hexadecimal digits of its binary64\n"
     "  --all             list every refused record, and read on however many there are\n"
@@ -25,9 +25,9 @@ static const char help[] =
     "\n"
     "A value may stand behind its option or in it, as in --records=FILE. A minus in front of a number makes no option of it.\n"
     "\n"
-    "Amounts are rounded for print alone, to the nearest cent and an exact half to the even one. A total adds the unrounded\n"
-    "amounts from the top down, so that it can differ by some cents from the sum of what is printed above it; a table in which\n"
-    "it does says so at its foot. A rate above 1, which is 100 per cent a year, is taken, with a warning.\n"
+    "Amounts are rounded for print alone, to the nearest cent and an exact half to the even one. A total, and a year's line, add\n"
+    "the unrounded amounts from the top down, so that they can differ by some cents from the sum of what is printed above them; a\n"
+    "table in which one does says so at its foot. A rate above 1, which is 100 per cent a year, is taken, with a warning.\n"
     "\n"
     "Loans are counted from 1. A refused loan gets a line on standard error, such as `loan 3: refused 2 at 2`: the loan's number,\n"
     "the refusal's number and the loan's place, which is counted from 0, and the cause in words; the loans after it get their\n"
@@ -40,7 +40,7 @@ enum { REFUSALS_LISTED = 20, REFUSALS_AT_THE_START = 10 };
 
 /* ---- the command line ---- */
 
-enum { ALL, AS_BITS, AS_CSV, GIVEN_PAYMENT, RECORDS, SEPARATORS, TOTAL, OPTIONS };
+enum { ALL, AS_BITS, AS_CSV, GIVEN_PAYMENT, RECORDS, SEPARATORS, TOTAL, YEARS, OPTIONS };
 
 static struct option options[OPTIONS + 1] = {
     [ALL] = {"--all", NULL, NULL},
@@ -50,52 +50,38 @@ static struct option options[OPTIONS + 1] = {
     [RECORDS] = {"--records", "a file's name", NULL},
     [SEPARATORS] = {"--separators", NULL, NULL},
     [TOTAL] = {"--total", NULL, NULL},
+    [YEARS] = {"--years", NULL, NULL},
 };
 
 static bool is_given(int option) {
     return options[option].value != NULL;
 }
 
-/* ---- a loan and its rows ---- */
-
-/* A row's columns, in the order of a draw. */
-enum { MONTH, PAYMENT, PRINCIPAL, INTEREST, BALANCE, COLUMNS = SENYOLANDA_ROW_PLACES };
-
-static const char *const names[COLUMNS] = {"month", "payment", "principal", "interest", "balance"};
-
-struct schedule {
-    double principal, rate;
-    uint32_t months;
-    double rows[SENYOLANDA_MOST_MONTHS * COLUMNS];
-    double total[COLUMNS];
-};
-
 /* What came of the loans so far, and how they are written. */
 struct run {
-    enum form form;
+    struct layout layout;
     double payment;   /* where one is given */
     size_t good, refused, high_rates;
     struct schedule schedule;
 };
 
-static const double *row_of(const struct schedule *schedule, uint32_t row) {
-    return schedule->rows + (size_t)row * COLUMNS;
-}
+/* ---- loans ---- */
 
-/* Sums from 0, in the order of the rows; of the balances the last one stands. */
+/* Sums from 0, in the order of the rows; of the months and the balances the last one stands. */
 static void add_rows(struct schedule *schedule) {
-    double *total = schedule->total;
-    total[PAYMENT] = total[PRINCIPAL] = total[INTEREST] = total[BALANCE] = 0;
-    for (uint32_t row = 0; row < schedule->months; row++) {
-        const double *cells = row_of(schedule, row);
-        total[PAYMENT] += cells[PAYMENT];
-        total[PRINCIPAL] += cells[PRINCIPAL];
-        total[INTEREST] += cells[INTEREST];
-        total[BALANCE] = cells[BALANCE];
+    struct senyolanda_row total = {0, 0, 0, 0, 0};
+    for (uint32_t index = 0; index < schedule->months; index++) {
+        const struct senyolanda_row row = senyolanda_row_at(schedule->rows, index);
+        total.month = row.month;
+        total.payment += row.payment;
+        total.principal += row.principal;
+        total.interest += row.interest;
+        total.balance = row.balance;
     }
+    schedule->total = total;
 }
 
-/* The loan that the bytes hold, all its rows, and their totals. The rows have room for the longest term. */
+/* The loan that the bytes hold, all its rows with their years' lines, and their total. There is room for the longest term. */
 static senyolanda_result draw_loan(const uint8_t *record, size_t length, struct run *run) {
     struct schedule *schedule = &run->schedule;
     struct senyolanda_loan loan;
@@ -106,151 +92,13 @@ static senyolanda_result draw_loan(const uint8_t *record, size_t length, struct 
         result = is_given(GIVEN_PAYMENT) ? senyolanda_loan_open_with_payment(record, length, run->payment, &loan)
                                          : senyolanda_loan_open(record, length, &loan);
     if (result == 0)
-        result = senyolanda_loan_draw(&loan, schedule->rows, SENYOLANDA_MOST_MONTHS * COLUMNS, &written, &owed);
+        result = senyolanda_loan_draw_with_years(
+            &loan, schedule->rows, SENYOLANDA_MOST_MONTHS * SENYOLANDA_ROW_PLACES,
+            schedule->years, SENYOLANDA_MOST_YEARS * SENYOLANDA_YEAR_PLACES, &written, &owed);
+    schedule->number = run->good + run->refused + 1;
     if (result == 0) add_rows(schedule);
     return result;
 }
-
-/* ---- rows as comma-separated lines ---- */
-
-static char *put_text(char *at, const char *text) {
-    const size_t length = strlen(text);
-    memcpy(at, text, length);
-    return at + length;
-}
-
-/* The amounts of a line, behind its loan and its month. */
-static void end_csv_line(char *at, const double *cells, enum form form) {
-    for (int column = PAYMENT; column < COLUMNS; column++) {
-        *at++ = ',';
-        at = put_amount(at, cells[column], form);
-    }
-    *at++ = '\n';
-    end_line(at);
-}
-
-static char *start_csv_line(size_t number) {
-    char *at = put_whole(start_line(), number);
-    *at++ = ',';
-    return at;
-}
-
-static void print_csv(const struct run *run) {
-    const struct schedule *schedule = &run->schedule;
-    const size_t number = run->good + run->refused + 1;
-    if (run->good == 0) put_words("loan,month,payment,principal,interest,balance\n");
-    for (uint32_t row = 0; row < schedule->months; row++)
-        end_csv_line(put_whole(start_csv_line(number), row + 1), row_of(schedule, row), run->form);
-    if (is_given(TOTAL)) end_csv_line(put_text(start_csv_line(number), "total"), schedule->total, run->form);
-}
-
-/* ---- rows as a table ---- */
-
-/* A line of a table: five texts and their lengths. */
-struct line {
-    char text[COLUMNS][AMOUNT_ROOM];
-    size_t length[COLUMNS];
-};
-
-/* Compiles only where the longest line has room. */
-typedef char lines_have_room[COLUMNS * (AMOUNT_ROOM + 2) < LINE_ROOM ? 1 : -1];
-
-static void set_cell(struct line *line, int column, const char *end) {
-    line->length[column] = (size_t)(end - line->text[column]);
-}
-
-static void set_amounts(struct line *line, const double *cells, enum form form) {
-    for (int column = PAYMENT; column < COLUMNS; column++)
-        set_cell(line, column, put_amount(line->text[column], cells[column], form));
-}
-
-static void set_names(struct line *line) {
-    for (int column = 0; column < COLUMNS; column++) set_cell(line, column, put_text(line->text[column], names[column]));
-}
-
-static void set_row(struct line *line, const struct run *run, uint32_t row) {
-    set_cell(line, MONTH, put_whole(line->text[MONTH], row + 1));
-    set_amounts(line, row_of(&run->schedule, row), run->form);
-}
-
-static void set_total(struct line *line, const struct run *run) {
-    set_cell(line, MONTH, put_text(line->text[MONTH], "total"));
-    set_amounts(line, run->schedule.total, run->form);
-}
-
-static void widen(size_t width[COLUMNS], const struct line *line) {
-    for (int column = 0; column < COLUMNS; column++)
-        if (line->length[column] > width[column]) width[column] = line->length[column];
-}
-
-/* Each cell stands at the right of its column, two spaces from the one before. */
-static void print_line(const struct line *line, const size_t width[COLUMNS]) {
-    char *at = start_line();
-    for (int column = 0; column < COLUMNS; column++) {
-        const size_t spaces = width[column] - line->length[column] + (column == 0 ? 0 : 2);
-        memset(at, ' ', spaces);
-        memcpy(at + spaces, line->text[column], line->length[column]);
-        at += spaces + line->length[column];
-    }
-    *at++ = '\n';
-    end_line(at);
-}
-
-static void print_title(const struct run *run) {
-    const struct schedule *schedule = &run->schedule;
-    char rate[SHORTEST_ROOM];
-    char *at = start_line();
-    put_shortest(rate, schedule->rate);
-    at = put_whole(put_text(at, run->good == 0 ? "Loan " : "\nLoan "), run->good + run->refused + 1);
-    at = put_amount(put_text(at, ": principal "), schedule->principal, run->form);
-    at = put_text(put_text(at, ", rate "), rate);
-    at = put_whole(put_text(at, ", months "), schedule->months);
-    *at++ = '\n';
-    end_line(at);
-}
-
-/* Whether a column's amounts add up to its total, both as they are printed. They are added modulo 2^64, and differ by far less:
-   by roundings of at most 1,200 sums below 2^75. Of larger amounts nothing is said. */
-static bool adds_up(const struct schedule *schedule, int column) {
-    uint64_t sum = 0, cents;
-    for (uint32_t row = 0; row < schedule->months; row++) {
-        if (!written_cents(row_of(schedule, row)[column], &cents)) return true;
-        sum += cents;
-    }
-    return !written_cents(schedule->total[column], &cents) || sum == cents;
-}
-
-static void print_foot(const struct run *run) {
-    for (int column = PAYMENT; column <= INTEREST; column++) {
-        if (adds_up(&run->schedule, column)) continue;
-        put_words("Totals add the unrounded amounts: they can differ by some cents from the sum of the amounts above.\n");
-        return;
-    }
-}
-
-static void print_table(const struct run *run) {
-    const uint32_t months = run->schedule.months;
-    size_t width[COLUMNS] = {0};
-    struct line names_line, total_line, line;
-    set_names(&names_line);
-    set_total(&total_line, run);
-    widen(width, &names_line);
-    widen(width, &total_line);
-    for (uint32_t row = 0; row < months; row++) {
-        set_row(&line, run, row);
-        widen(width, &line);
-    }
-    print_title(run);
-    print_line(&names_line, width);
-    for (uint32_t row = 0; row < months; row++) {
-        set_row(&line, run, row);
-        print_line(&line, width);
-    }
-    print_line(&total_line, width);
-    if (run->form != BITS) print_foot(run);
-}
-
-/* ---- loans ---- */
 
 static void refuse_loan(struct run *run, senyolanda_result result) {
     const uint32_t number = senyolanda_number(result);
@@ -266,7 +114,7 @@ static void state_loan(const uint8_t *record, size_t length, struct run *run) {
         refuse_loan(run, result);
         return;
     }
-    (is_given(AS_CSV) ? print_csv : print_table)(run);
+    (is_given(AS_CSV) ? print_csv : print_table)(&run->schedule, &run->layout, run->good == 0);
     run->good++;
     if (run->schedule.rate > 1) run->high_rates++;
 }
@@ -329,9 +177,13 @@ static enum status state_file(const char *name, struct run *run) {
     return status;
 }
 
-/* The form that the options ask for; false where they ask for two that do not go together, which is then said. */
-static bool choose_form(enum form *form) {
-    *form = is_given(AS_BITS) ? BITS : is_given(SEPARATORS) ? SEPARATED : CENTS;
+/* The layout that the options ask for; false where two of them do not go together, which is then said. A spreadsheet
+   would add a year's line up with the comma-separated rows above it, so that one among them has to be asked for. */
+static bool choose_layout(struct layout *layout) {
+    layout->rows = !is_given(YEARS);
+    layout->total = !is_given(AS_CSV) || is_given(TOTAL);
+    layout->years = is_given(YEARS) || layout->total;
+    layout->form = is_given(AS_BITS) ? BITS : is_given(SEPARATORS) ? SEPARATED : CENTS;
     if (!is_given(SEPARATORS) || (!is_given(AS_CSV) && !is_given(AS_BITS))) return true;
     fail("--separators does not go with %s", is_given(AS_CSV) ? "--csv, where a comma parts the cells" : "--bits");
     return false;
@@ -340,7 +192,7 @@ static bool choose_form(enum form *form) {
 static enum status run_statement(char **words) {
     static struct run run;
     size_t count = 0;
-    if (!choose_form(&run.form)) return FAILED;
+    if (!choose_layout(&run.layout)) return FAILED;
     if (is_given(GIVEN_PAYMENT)) {
         const char *text = options[GIVEN_PAYMENT].value, *wrong = read_decimal(text, &run.payment);
         if (wrong != NULL) return fail("the payment '%s' %s", text, wrong);

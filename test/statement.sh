@@ -46,21 +46,23 @@ warned() {
 stated 1200 0 3
 writes <<END
 Loan 1: principal 1200.00, rate 0, months 3
-month  payment  principal  interest  balance
-    1   400.00     400.00      0.00   800.00
-    2   400.00     400.00      0.00   400.00
-    3   400.00     400.00      0.00     0.00
-total  1200.00    1200.00      0.00     0.00
+ month  payment  principal  interest  balance
+     1   400.00     400.00      0.00   800.00
+     2   400.00     400.00      0.00   400.00
+     3   400.00     400.00      0.00     0.00
+year 1             1200.00      0.00     0.00
+ total  1200.00    1200.00      0.00     0.00
 END
 
 stated --bits 1200 0 3
 writes <<END
 Loan 1: principal 4092c00000000000, rate 0, months 3
-month           payment         principal          interest           balance
-    1  4079000000000000  4079000000000000  0000000000000000  4089000000000000
-    2  4079000000000000  4079000000000000  0000000000000000  4079000000000000
-    3  4079000000000000  4079000000000000  0000000000000000  0000000000000000
-total  4092c00000000000  4092c00000000000  0000000000000000  0000000000000000
+ month           payment         principal          interest           balance
+     1  4079000000000000  4079000000000000  0000000000000000  4089000000000000
+     2  4079000000000000  4079000000000000  0000000000000000  4079000000000000
+     3  4079000000000000  4079000000000000  0000000000000000  0000000000000000
+year 1                    4092c00000000000  0000000000000000  0000000000000000
+ total  4092c00000000000  4092c00000000000  0000000000000000  0000000000000000
 END
 
 # a rate of 6 is document 01's, and nobody's at a desk
@@ -83,10 +85,11 @@ END
 warned --payment 100 1000 6 2
 writes <<END
 Loan 1: principal 1000.00, rate 6, months 2
-month  payment  principal  interest  balance
-    1   100.00       0.00    500.00  1000.00
-    2  1500.00    1000.00    500.00     0.00
-total  1600.00    1000.00   1000.00     0.00
+ month  payment  principal  interest  balance
+     1   100.00       0.00    500.00  1000.00
+     2  1500.00    1000.00    500.00     0.00
+year 1             1000.00   1000.00     0.00
+ total  1600.00    1000.00   1000.00     0.00
 END
 
 stated --payment 2000 --csv 1000 0 3
@@ -97,26 +100,32 @@ loan,month,payment,principal,interest,balance
 1,3,0.00,0.00,0.00,0.00
 END
 
-# the total of comma-separated rows, where it is asked for
+# the total of comma-separated rows, and that of each year, where they are asked for
 warned --csv --total 1000 6 2
 writes <<END
 loan,month,payment,principal,interest,balance
 1,1,900.00,400.00,500.00,600.00
 1,2,900.00,600.00,300.00,0.00
+1,year 1,,1000.00,800.00,0.00
 1,total,1800.00,1000.00,800.00,0.00
 END
 stated --csv --total --bits 1200 0 1
 writes <<END
 loan,month,payment,principal,interest,balance
 1,1,4092c00000000000,4092c00000000000,0000000000000000,0000000000000000
+1,year 1,,4092c00000000000,0000000000000000,0000000000000000
 1,total,4092c00000000000,4092c00000000000,0000000000000000,0000000000000000
 END
 
-# a table has its total whether or not it is asked for
-stated 1200 0 3
-cp "$room/wrote" "$room/want"
-stated --total 1200 0 3
-writes <"$room/want"
+# a table has its totals whether or not they are asked for
+for words in "1200 0 3" "--years 1200 0 30"; do
+    # shellcheck disable=SC2086
+    stated $words
+    cp "$room/wrote" "$room/want"
+    # shellcheck disable=SC2086
+    stated --total $words
+    writes <"$room/want"
+done
 
 # a rate or a payment nobody filled in: every NaN is written alike
 stated --csv 1000 nan 2
@@ -186,10 +195,11 @@ cents 1.7976931348623157e308 $largest.00
 warned --separators --payment 1234.5 1000000 12 2
 writes <<END
 Loan 1: principal 1,000,000.00, rate 12, months 2
-month       payment     principal      interest       balance
-    1      1,234.50          0.00  1,000,000.00  1,000,000.00
-    2  2,000,000.00  1,000,000.00  1,000,000.00          0.00
-total  2,001,234.50  1,000,000.00  2,000,000.00          0.00
+ month       payment     principal      interest       balance
+     1      1,234.50          0.00  1,000,000.00  1,000,000.00
+     2  2,000,000.00  1,000,000.00  1,000,000.00          0.00
+year 1                1,000,000.00  2,000,000.00          0.00
+ total  2,001,234.50  1,000,000.00  2,000,000.00          0.00
 END
 separated() {
     stated --separators "$1" 0 1
@@ -204,47 +214,91 @@ separated 1234567.885 1,234,567.89
 separated 1e21 1,000,000,000,000,000,000,000.00
 separated 1.7976931348623157e308 "$(echo $largest | perl -pe '1 while s/^(\d+)(\d{3})/$1,$2/').00"
 stated --separators --payment -1234567.25 1000 0 2
-grep -q '^    1  -1,234,567.25 ' "$room/wrote" || fails "a payment below zero is not separated"
+grep -q '^     1  -1,234,567.25 ' "$room/wrote" || fails "a payment below zero is not separated"
 stated --separators --payment -123 1000 0 2
-grep -q '^    1   -123.00 ' "$room/wrote" || fails "a payment of three digits is separated"
+grep -q '^     1   -123.00 ' "$room/wrote" || fails "a payment of three digits is separated"
 stated --separators --payment nan 1000 0 2
-grep -q '^    1       nan ' "$room/wrote" || fails "a NaN is not written as it is"
+grep -q '^     1       nan ' "$room/wrote" || fails "a NaN is not written as it is"
 
 # ---- the table: every line equally wide, totals that add the columns from the top down, the bits of the proved listing
 
-# added: reads a table of bits, and sees whether its last line adds up the lines above
+# added: reads a table of bits, and sees whether each year's line, and the last line, add up the rows above
 added() {
     perl -e '
-        my ($title, $names, @rows) = <STDIN>;
-        my @last = split " ", pop @rows;
-        my @total = (0.0, 0.0, 0.0);
-        for my $row (@rows) {
-            my @cells = split " ", $row;
-            $total[$_] += unpack "d<", pack "Q<", hex $cells[$_ + 1] for 0 .. 2;
+        sub number { unpack "d<", pack "Q<", hex shift }
+        sub bits { my $x = shift; $x == $x ? sprintf "%016x", unpack "Q<", pack "d<", $x : "7ff8000000000000" }
+        my ($title, $names, @lines) = <STDIN>;
+        my @last = split " ", pop @lines;
+        my ($years, $balance, @year, @total) = (0, "");
+        for my $line (@lines) {
+            my @cells = split " ", $line;
+            if ($cells[0] eq "year") {
+                my $sums = join " ", map { bits($_) } @year[1, 2];
+                exit 1 if "@cells[1 .. 4]" ne ++$years . " $sums $balance" || ($year[3] != 12 && $line ne $lines[-1]);
+                @year = ();
+            } else {
+                my @amounts = map { number($_) } @cells[1 .. 3];
+                $year[$_] += $amounts[$_] for 0 .. 2;
+                $total[$_] += $amounts[$_] for 0 .. 2;
+                $year[3]++;
+                $balance = $cells[4];
+            }
         }
-        my @bits = map { $_ == $_ ? sprintf "%016x", unpack "Q<", pack "d<", $_ : "7ff8000000000000" } @total;
-        exit("@last[0 .. 3]" ne "total @bits");
+        exit(@year || "@last" ne join " ", "total", (map { bits($_) } @total), $balance);
     '
 }
 
-# footed: reads a table, and sees whether it says at its foot that a printed column does not add up to its printed total just where
-# one does not; of amounts above 2^64 nothing is said
+# footed: reads a table, of rows and years or of years alone, and sees whether it says at its foot that printed amounts do not add up to
+# a printed total just where some do not; of amounts above 2^64 nothing is said
 footed() {
     perl -e '
         use bigint;
-        my ($title, $names, @rows) = <STDIN>;
+        my ($title, $names, @lines) = <STDIN>;
         my $foot = "Totals add the unrounded amounts: they can differ by some cents from the sum of the amounts above.\n";
-        my $said = $rows[-1] eq $foot ? 1 : 0;
-        pop @rows if $said;
-        my @last = split " ", pop @rows;
+        my $said = $lines[-1] eq $foot ? 1 : 0;
+        pop @lines if $said;
+        my @last = split " ", pop @lines;
         my $differs = 0;
-        for my $column (1 .. 3) {
+        sub hold {
+            my ($total, @amounts) = @_;
+            return if grep !/^-?\d{1,19}\.\d\d$/, $total, @amounts;
             my $sum = 0;
-            $sum += s/\.//r for grep !/nan/, map { (split " ", $_)[$column] } @rows;
-            my $total = $last[$column];
-            $differs = 1 if $total =~ /^-?\d{1,19}\.\d\d$/ && $sum != $total =~ s/\.//r;
+            $sum += s/\.//r for @amounts;
+            $differs = 1 if $sum != $total =~ s/\.//r;
+        }
+        my @cells = map { [split " ", $_] } @lines;
+        my @totalled = $names =~ /payment/ ? (1 .. 3) : (2, 3);
+        for my $column (@totalled) { hold($last[$column], map { $_->[$column] } grep { $_->[0] ne "year" } @cells) }
+        my @rows;
+        for my $line (@cells) {
+            if ($line->[0] ne "year") { push @rows, $line; next }
+            for my $column (2, 3) { hold($line->[$column], map { $_->[$column] } @rows) }
+            @rows = ();
         }
         exit($said != $differs);
+    '
+}
+
+# summed_by_year: reads a listing, and writes the lines of its years, with their total, as --csv --years --total --bits does
+summed_by_year() {
+    perl -e '
+        sub bits { my $x = shift; $x == $x ? sprintf "%016x", unpack "Q<", pack "d<", $x : "7ff8000000000000" }
+        my (@years, @total);
+        while (<STDIN>) {
+            my ($month, $payment, $principal, $interest, $balance) = split " ";
+            next unless $month =~ /^\d+$/;
+            for my $sum (\@total, $years[($month - 1) / 12] //= []) {
+                $sum->[0]++;
+                $sum->[1] += unpack "d<", pack "Q<", hex $interest;
+                $sum->[2] += unpack "d<", pack "Q<", hex $principal;
+                $sum->[3] = $balance;
+            }
+        }
+        print "loan,year,months,interest,principal,balance\n";
+        for my $year (1 .. @years, "total") {
+            my ($months, $interest, $principal, $balance) = @{$year eq "total" ? \@total : $years[$year - 1]};
+            print join(",", 1, $year, $months, bits($interest), bits($principal), $balance), "\n";
+        }
     '
 }
 
@@ -252,26 +306,42 @@ footed() {
 table() {
     way=$1
     shift
+    years=$((($3 + 11) / 12))
     $way "$@"
     footed <"$room/wrote" || fails "the foot does not say whether the columns add up"
     grep -v '^Totals' "$room/wrote" >"$room/table"
-    [ "$(wc -l <"$room/table")" = $(($3 + 3)) ] || fails "not a line for each month"
+    [ "$(wc -l <"$room/table")" = $(($3 + years + 3)) ] || fails "not a line for each month and each year"
+    [ "$(sed 1d "$room/table" | awk '{ print length }' | sort -u | wc -l)" = 1 ] || fails "lines of unequal width"
+    $way --years "$@"
+    footed <"$room/wrote" || fails "the foot does not say whether the years add up"
+    grep -v '^Totals' "$room/wrote" >"$room/table"
+    [ "$(wc -l <"$room/table")" = $((years + 3)) ] || fails "not a line for each year"
     [ "$(sed 1d "$room/table" | awk '{ print length }' | sort -u | wc -l)" = 1 ] || fails "lines of unequal width"
     $way --bits "$@"
-    [ "$(wc -l <"$room/wrote")" = $(($3 + 3)) ] || fails "not a line for each month, and no other"
+    [ "$(wc -l <"$room/wrote")" = $(($3 + years + 3)) ] || fails "not a line for each month and each year, and no other"
     added <"$room/wrote" || fails "the totals do not add up the columns"
     $way --csv --bits "$@"
-    test/record "$@" | "$program" schedule | sed '1d; $d; s/ /,/g; s/^/1,/' >"$room/listed"
+    test/record "$@" | "$program" schedule >"$room/listing"
+    sed '1d; $d; s/ /,/g; s/^/1,/' "$room/listing" >"$room/listed"
     sed 1d "$room/wrote" | cmp -s - "$room/listed" || fails "other bits than the listing"
+    summed_by_year <"$room/listing" >"$room/summed"
+    $way --csv --years --total --bits "$@"
+    writes <"$room/summed"
+    $way --csv --years --bits "$@"
+    sed '$d' "$room/summed" >"$room/untotalled"
+    writes <"$room/untotalled"
 }
 table stated 100 0.05 1
 table stated 0.01 0.3 5
 table stated 99999.99 0.0425 6
 table stated 1e15 0.02 7
 table stated 1e18 0.02 7
+table stated 100 0.05 11
 table warned 1e300 1e5 12
 table stated 7 -0.5 13
 table stated 1000 nan 18
+table stated 1.89 0.05 24
+table stated 250000 0.06 25
 table stated 250000 0.06 360
 table stated 5 0.07 1200
 
@@ -279,11 +349,12 @@ table stated 5 0.07 1200
 stated 100 0 3
 writes <<END
 Loan 1: principal 100.00, rate 0, months 3
-month  payment  principal  interest  balance
-    1    33.33      33.33      0.00    66.67
-    2    33.33      33.33      0.00    33.33
-    3    33.33      33.33      0.00     0.00
-total   100.00     100.00      0.00     0.00
+ month  payment  principal  interest  balance
+     1    33.33      33.33      0.00    66.67
+     2    33.33      33.33      0.00    33.33
+     3    33.33      33.33      0.00     0.00
+year 1              100.00      0.00     0.00
+ total   100.00     100.00      0.00     0.00
 Totals add the unrounded amounts: they can differ by some cents from the sum of the amounts above.
 END
 # foot WORDS..: the table has its foot; footless WORDS..: it has none
@@ -293,7 +364,7 @@ foot() {
 }
 footless() {
     stated "$@"
-    tail -n 1 "$room/wrote" | grep -q '^total ' || fails "a foot that nothing calls for"
+    tail -n 1 "$room/wrote" | grep -q '^ *total ' || fails "a foot that nothing calls for"
 }
 # the payments alone do not add up, and the interest alone
 foot --payment 2000.004 1000 0 3
@@ -303,16 +374,94 @@ footless 1.5 0 3
 footless --payment -5 1000 0 2
 # of amounts above 2^64 nothing is said
 footless 1e20 0 3
+footless --years 1e20 0 13
+# rows that add up to the total and not to a year's line, in the principal alone and in the interest alone
+foot 1904 0.03 25
+foot 878 0.12 13
+# rows that add up to each year's line and not to the total
+foot 1.89 0.05 13
+# years' lines that do not add up to the total, in the principal alone and in the interest alone
+foot --years 1 0.06 25
+foot --years 3 0.06 13
+footless --years --bits 3 0.06 13
+# years' lines that add up to it where the rows above them do not, which --years does not print
+foot 793 0.06 14
+footless --years 793 0.06 14
+footless 325 0 13
+footless --years 325 0 13
 
 # a total that is wider than what stands above it
 stated 15000 0 3
 writes <<END
 Loan 1: principal 15000.00, rate 0, months 3
-month   payment  principal  interest   balance
-    1   5000.00    5000.00      0.00  10000.00
-    2   5000.00    5000.00      0.00   5000.00
-    3   5000.00    5000.00      0.00      0.00
-total  15000.00   15000.00      0.00      0.00
+ month   payment  principal  interest   balance
+     1   5000.00    5000.00      0.00  10000.00
+     2   5000.00    5000.00      0.00   5000.00
+     3   5000.00    5000.00      0.00      0.00
+year 1             15000.00      0.00      0.00
+ total  15000.00   15000.00      0.00      0.00
+END
+
+# ---- years: months 1 to 12 are the first, and the term may cut the last one short
+
+stated 1300 0 13
+writes <<END
+Loan 1: principal 1300.00, rate 0, months 13
+ month  payment  principal  interest  balance
+     1   100.00     100.00      0.00  1200.00
+     2   100.00     100.00      0.00  1100.00
+     3   100.00     100.00      0.00  1000.00
+     4   100.00     100.00      0.00   900.00
+     5   100.00     100.00      0.00   800.00
+     6   100.00     100.00      0.00   700.00
+     7   100.00     100.00      0.00   600.00
+     8   100.00     100.00      0.00   500.00
+     9   100.00     100.00      0.00   400.00
+    10   100.00     100.00      0.00   300.00
+    11   100.00     100.00      0.00   200.00
+    12   100.00     100.00      0.00   100.00
+year 1             1200.00      0.00   100.00
+    13   100.00     100.00      0.00     0.00
+year 2              100.00      0.00     0.00
+ total  1300.00    1300.00      0.00     0.00
+END
+stated --years 1200 0 30
+writes <<END
+Loan 1: principal 1200.00, rate 0, months 30
+ year  months  interest  principal  balance
+    1      12      0.00     480.00   720.00
+    2      12      0.00     480.00   240.00
+    3       6      0.00     240.00     0.00
+total      30      0.00    1200.00     0.00
+END
+warned --years --payment 100 --separators 8000 1.5 13
+writes <<END
+Loan 1: principal 8,000.00, rate 1.5, months 13
+ year  months   interest  principal   balance
+    1      12  12,000.00       0.00  8,000.00
+    2       1   1,000.00   8,000.00      0.00
+total      13  13,000.00   8,000.00      0.00
+END
+stated --years --bits 1200 0 12
+writes <<END
+Loan 1: principal 4092c00000000000, rate 0, months 12
+ year  months          interest         principal           balance
+    1      12  0000000000000000  4092c00000000000  0000000000000000
+total      12  0000000000000000  4092c00000000000  0000000000000000
+END
+stated --years --csv 1200 0 30
+writes <<END
+loan,year,months,interest,principal,balance
+1,1,12,0.00,480.00,720.00
+1,2,12,0.00,480.00,240.00
+1,3,6,0.00,240.00,0.00
+END
+stated --years --csv --total --payment nan 1200 nan 13
+writes <<END
+loan,year,months,interest,principal,balance
+1,1,12,nan,0.00,1200.00
+1,2,1,nan,1200.00,0.00
+1,total,13,nan,1200.00,0.00
 END
 
 # ---- refusals
@@ -362,17 +511,19 @@ cat "$room/a" "$room/b" >"$room/records"
 gives 0 --records "$room/records"
 writes <<END
 Loan 1: principal 1200.00, rate 0, months 3
-month  payment  principal  interest  balance
-    1   400.00     400.00      0.00   800.00
-    2   400.00     400.00      0.00   400.00
-    3   400.00     400.00      0.00     0.00
-total  1200.00    1200.00      0.00     0.00
+ month  payment  principal  interest  balance
+     1   400.00     400.00      0.00   800.00
+     2   400.00     400.00      0.00   400.00
+     3   400.00     400.00      0.00     0.00
+year 1             1200.00      0.00     0.00
+ total  1200.00    1200.00      0.00     0.00
 
 Loan 2: principal 1000.00, rate 6, months 2
-month  payment  principal  interest  balance
-    1   900.00     400.00    500.00   600.00
-    2   900.00     600.00    300.00     0.00
-total  1800.00    1000.00    800.00     0.00
+ month  payment  principal  interest  balance
+     1   900.00     400.00    500.00   600.00
+     2   900.00     600.00    300.00     0.00
+year 1             1000.00    800.00     0.00
+ total  1800.00    1000.00    800.00     0.00
 END
 says <<END
 senyolanda statement: 1 loan has a rate above 1, which is 100 per cent a year; six per cent is 0.06
@@ -384,10 +535,25 @@ loan,month,payment,principal,interest,balance
 1,1,400.00,400.00,0.00,800.00
 1,2,400.00,400.00,0.00,400.00
 1,3,400.00,400.00,0.00,0.00
+1,year 1,,1200.00,0.00,0.00
 1,total,1200.00,1200.00,0.00,0.00
 2,1,900.00,400.00,500.00,600.00
 2,2,900.00,600.00,300.00,0.00
+2,year 1,,1000.00,800.00,0.00
 2,total,1800.00,1000.00,800.00,0.00
+END
+
+gives 0 --years --records "$room/records"
+writes <<END
+Loan 1: principal 1200.00, rate 0, months 3
+ year  months  interest  principal  balance
+    1       3      0.00    1200.00     0.00
+total       3      0.00    1200.00     0.00
+
+Loan 2: principal 1000.00, rate 6, months 2
+ year  months  interest  principal  balance
+    1       2    800.00    1000.00     0.00
+total       2    800.00    1000.00     0.00
 END
 
 cat "$room/b" "$room/a" "$room/b" >"$room/records"
@@ -413,6 +579,14 @@ senyolanda statement: loan 3: refused 11 at 2: the record is of another kind or 
 senyolanda statement: loan 5: refused 1 at 4: the amount is below zero or not finite
 senyolanda statement: 2 loans good, 3 refused
 END
+cp "$room/said" "$room/want"
+gives 1 --csv --years --records - <"$room/records"
+writes <<END
+loan,year,months,interest,principal,balance
+2,1,3,0.00,1200.00,0.00
+4,1,2,0.00,1000.00,0.00
+END
+says <"$room/want"
 
 # where both go to one place, a refusal stands between the loans before and after it
 last="--csv --records=- 2>&1"
@@ -485,6 +659,8 @@ gives 1 --csv --records "$room/records"
 
 # all of them, where it is asked for
 { repeated 30 "$room/bad"; cat "$room/a"; } >"$room/records"
+gives 1 --all --csv --years --records "$room/records"
+[ "$(wc -l <"$room/wrote")" = 2 ] || fails "no years after 30 refusals"
 gives 1 --all --csv --records "$room/records"
 [ "$(wc -l <"$room/wrote")" = 4 ] || fails "no statement after 30 refusals"
 [ "$(wc -l <"$room/said")" = 31 ] || fails "not a line for each refusal"
@@ -542,7 +718,7 @@ for words in -h "1000 -h" "--csv --help 5"; do
     stated $words
     writes <"$room/want"
 done
-for option in --records --payment --csv --total --separators --bits --all --help; do
+for option in --records --payment --years --csv --total --separators --bits --all --help; do
     grep -q -e "^  .*$option " "$room/want" || fails "the help does not have $option"
 done
 
@@ -587,12 +763,15 @@ wrong "no option --records2=5;" --records2=5
 wrong "no option -x;" -x 1000 0.05 360
 wrong "no option -c;" 1000 0.05 360 -c
 wrong "--csv takes no value, and '5' was given" --csv=5 1000 0.05 360
+wrong "--years takes no value, and '5' was given" --years=5 1000 0.05 360
+wrong "no option --year;" --year 1000 0.05 360
 wrong "--payment wants an amount" 1000 0.05 360 --payment
 wrong "payment ''" --payment= 1000 0.05 360
 wrong "payment '--csv'" --payment --csv 1000 0.05 360
 wrong "--records wants a file's name" --records
 wrong --records --records "$room/a" 1000 0.05 360
 wrong "--separators does not go with --csv" --separators --csv 1000 0.05 360
+wrong "--separators does not go with --csv" --years --separators --csv 1000 0.05 360
 wrong "--separators does not go with --bits" --separators --bits 1000 0.05 360
 wrong "$room: Is a directory" --records "$room"
 wrong "$room/none: No such file" --records "$room/none"
@@ -611,7 +790,8 @@ unwritten() {
     count=$((count + 1))
 }
 repeated 2000 "$room/a" >"$room/many"
-for words in "1200 0 3" "1200 0 1200" "--csv 1200 0 1200" "--csv 1200 0 3" "--help" "--records $room/many" "--csv --records $room/many"; do
+for words in "1200 0 3" "1200 0 1200" "--csv 1200 0 1200" "--csv 1200 0 3" "--help" "--records $room/many" "--csv --records $room/many" \
+    "--years 1200 0 3" "--years --csv 1200 0 1200" "--years --records $room/many" "--years --csv --records $room/many"; do
     last="$words, on a full device"
     status=0
     # shellcheck disable=SC2086

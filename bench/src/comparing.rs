@@ -1,9 +1,10 @@
 //! Every answer beside the others', so that no job times a refusal or something else.
 use crate::brought::Sides;
-use crate::job::Job;
+use crate::job::{Beside, Job};
 
 /// The Rust's exp, ln and powers are the C library's.
 const FROM_THE_RUST: f64 = 1e-9;
+const FROM_OUR_OWN: f64 = 0.0;
 /// QuantLib's searches stop elsewhere.
 const FROM_QUANTLIB: f64 = 1e-6;
 
@@ -31,9 +32,12 @@ fn hold_to(job: &mut Job, whose: &str, other: &[f64], allowed: f64) {
     }
 }
 
-pub fn hold_to_the_rust(job: &mut Job) {
-    let rust = job.rust.answer();
-    hold_to(job, "the Rust", &rust, FROM_THE_RUST);
+pub fn hold_to_the_other(job: &mut Job) {
+    let other = job.other.answer();
+    match job.beside {
+        Beside::TheRust => hold_to(job, "the Rust", &other, FROM_THE_RUST),
+        Beside::Draw => hold_to(job, "the plain draw", &other, FROM_OUR_OWN),
+    }
 }
 
 /// The job of a side that another object brings.
@@ -60,8 +64,10 @@ fn compare_with_quantlib(jobs: &mut [Job], quantlib: &mut Sides) {
 }
 
 pub fn compare(jobs: &mut [Job], v3: &mut Sides, quantlib: &mut Sides) {
-    jobs.iter_mut().for_each(hold_to_the_rust);
-    println!("{} answers compared with the Rust's: within {FROM_THE_RUST:e}", jobs.len());
+    jobs.iter_mut().for_each(hold_to_the_other);
+    let count = |beside| jobs.iter().filter(|job| job.beside == beside).count();
+    println!("{} answers compared with the Rust's: within {FROM_THE_RUST:e}", count(Beside::TheRust));
+    println!("{} compared with the plain draw's rows and with sums over them: the same numbers", count(Beside::Draw));
     if !v3.is_empty() {
         compare_bits(jobs, v3);
     }

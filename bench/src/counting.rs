@@ -23,7 +23,7 @@ fn count_runs(job: &str, name: &str, side: &mut dyn Side, runs: usize) {
 fn count_job(job: &mut Job, with_the_rust: bool, runs: usize) {
     count_runs(&job.name, "ours", job.ours.as_mut(), runs);
     if with_the_rust && job.rust_is_counted {
-        count_runs(&job.name, "rust", job.rust.as_mut(), runs);
+        count_runs(&job.name, job.beside.word(), job.other.as_mut(), runs);
     }
 }
 

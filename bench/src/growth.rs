@@ -1,5 +1,5 @@
 //! What our side of a job takes as its input is doubled five times.
-use crate::comparing::hold_to_the_rust;
+use crate::comparing::hold_to_the_other;
 use crate::curves::Asked::{AsAList, OneByOne};
 use crate::job::Job;
 use crate::measure::best_times;
@@ -40,7 +40,7 @@ const GROWTHS: [Growth; 18] = [
 ];
 
 fn time_of(mut job: Job) -> f64 {
-    hold_to_the_rust(&mut job);
+    hold_to_the_other(&mut job);
     best_times(&mut [&mut job.ours], BUDGET)[0]
 }
 

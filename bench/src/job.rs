@@ -1,22 +1,46 @@
-//! A job: a name, the library's side, the Rust's, and what is asked of the two.
+//! A job: a name, the library's side, the other, which is mostly the Rust's, and what is asked of the two.
 use crate::library::Outcome;
 use crate::measure::{filling, lent, unseen, Side};
+
+/// Whose the other side is.
+#[derive(Clone, Copy, PartialEq)]
+pub enum Beside {
+    TheRust,
+    /// The library's own plain draw.
+    Draw,
+}
+
+impl Beside {
+    /// As the table names it.
+    pub fn word(self) -> &'static str {
+        match self {
+            Beside::TheRust => "rust",
+            Beside::Draw => "draw",
+        }
+    }
+}
 
 pub struct Job {
     pub name: String,
     /// Its rows, months of loans, knots, flows, periods or numbers: what instructions are counted for.
     pub rows: usize,
-    /// The least that the Rust's time over ours should be.
+    /// The least that the other side's time over ours should be.
     pub target: Option<f64>,
     /// Whether the Rust's instructions are counted too, which takes fifty times as long as its side does.
     pub rust_is_counted: bool,
     pub ours: Box<dyn Side>,
-    pub rust: Box<dyn Side>,
+    pub other: Box<dyn Side>,
+    pub beside: Beside,
 }
 
 impl Job {
     pub fn new(name: impl Into<String>, rows: usize, ours: Box<dyn Side>, rust: Box<dyn Side>) -> Job {
-        Job { name: name.into(), rows, target: None, rust_is_counted: true, ours, rust }
+        Job { name: name.into(), rows, target: None, rust_is_counted: true, ours, other: rust, beside: Beside::TheRust }
+    }
+
+    /// A job whose other side is the library's plain draw.
+    pub fn beside_the_draw(name: impl Into<String>, rows: usize, ours: Box<dyn Side>, draw: Box<dyn Side>) -> Job {
+        Job { beside: Beside::Draw, ..Job::new(name, rows, ours, draw) }
     }
 
     pub fn aims_at(self, ratio: f64) -> Job {

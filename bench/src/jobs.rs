@@ -9,6 +9,7 @@ pub fn all() -> Vec<Job> {
         loans::schedule(1).aims_at(0.8),
         loans::schedule(360).aims_at(2.0),
         loans::schedule(1200).aims_at(2.0),
+        loans::draw_with_years(360).aims_at(0.85),
         loans::book(10_000).aims_at(3.5),
         loans::book_loan_by_loan(10_000),
         loans::payment(),

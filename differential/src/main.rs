@@ -19,6 +19,7 @@ mod runner;
 mod spreads;
 mod swaps;
 mod totals;
+mod years;
 
 use harness::Compared;
 use runner::{Asked, Tally};
@@ -34,6 +35,7 @@ fn families() -> Vec<Compared> {
         elementary::families,
         loans::families,
         rows::families,
+        years::families,
         totals::families,
         books::families,
         pools::families,

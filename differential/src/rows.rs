@@ -16,7 +16,7 @@ input!(
 );
 
 /// The rooms, with the Rust's own payment for the loan.
-fn drawing(loan: Loan, rooms: Vec<u32>) -> Drawing {
+pub fn drawing(loan: Loan, rooms: Vec<u32>) -> Drawing {
     let payment = MortgageCalculator::monthly_payment(&loan.terms());
     Drawing { loan, payment, rooms }
 }
@@ -30,7 +30,7 @@ fn room(random: &mut Random, term: u32) -> u32 {
     }
 }
 
-fn drawings(random: &mut Random) -> Case<Drawing> {
+pub fn drawings(random: &mut Random) -> Case<Drawing> {
     let case = wild(random);
     let rooms = (0..random.whole(1, 3)).map(|_| room(random, case.input.term.clamp(1, LONGEST_TERM))).collect();
     let case = case.map(|loan| drawing(loan, rooms));
@@ -71,13 +71,13 @@ impl InHand {
         self.counts[0]
     }
 
-    fn is_finished(&self) -> bool {
+    pub fn is_finished(&self) -> bool {
         self.counts[1] >= self.counts[0]
     }
 }
 
 /// Opens a loan with the given payment, or its own.
-fn opened(loan: &Loan, given: Option<f64>) -> Result<InHand, Unanswered> {
+pub fn opened(loan: &Loan, given: Option<f64>) -> Result<InHand, Unanswered> {
     let record = loan.record();
     let (mut counts, mut amounts) = ([UNTOUCHED_COUNT; LOAN_COUNTS], [UNTOUCHED; LOAN_AMOUNTS]);
     let result = match given {

@@ -51,6 +51,12 @@ int same_number(double x, double y) {
     return bits_of(x) == bits_of(y) || (isnan(x) && isnan(y));
 }
 
+int same_numbers(const double *some, const double *others, size_t count) {
+    for (size_t i = 0; i < count; i++)
+        if (!same_number(some[i], others[i])) return 0;
+    return 1;
+}
+
 void is_number(double number, double wanted, const char *file, int line, const char *what) {
     checked(same_number(number, wanted), file, line, "%s is %.17g (%016" PRIx64 ") and not %.17g (%016" PRIx64 ")",
         what, number, bits_of(number), wanted, bits_of(wanted));

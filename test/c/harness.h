@@ -44,8 +44,9 @@ senyolanda_result made(call *called, enum placement placement);
 typedef void description(void);
 void trying(description *describe);
 
-/* Two numbers are the same to the bit, or both NaN. */
+/* Two numbers are the same to the bit, or both NaN; and so many of two lists, each with its like. */
 int same_number(double x, double y);
+int same_numbers(const double *some, const double *others, size_t count);
 
 uint64_t bits_of(double number);
 double number_of_bits(uint64_t bits);

@@ -133,6 +133,7 @@ static void is_year(struct senyolanda_year year, double months, double interest,
 /* 13 months whose payments just cover the interest, an eighth of 800: drawn up to the first year's end, then the rest. */
 static void years(void) {
     double room[12 * WIDTH], years[SENYOLANDA_STARTED_YEARS(13) * YEAR_WIDTH];
+    for (size_t i = 0; i < 2 * YEAR_WIDTH; i++) years[i] = NAN;
     struct senyolanda_loan loan = { 13, 0, 1.5, 100, 800 }, before = loan;
     struct senyolanda_year line = { 1, 2, 3, 4 };
     uint32_t written = 9, owed = 9;

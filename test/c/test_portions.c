@@ -64,12 +64,6 @@ static uint32_t move_on(void) {
     return written;
 }
 
-static int same_numbers(const double *some, const double *others, size_t count) {
-    for (size_t i = 0; i < count; i++)
-        if (!same_number(some[i], others[i])) return 0;
-    return 1;
-}
-
 /* One draw: the rows are those worked out, and places past them stay. */
 static void draw_portion(void) {
     const double *wanted = rows[desk.done];

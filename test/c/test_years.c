@@ -122,12 +122,6 @@ static void move_on(void) {
     memcpy(desk.years, answered_numbers(YEARS), desk.year_places * sizeof *desk.years);
 }
 
-static int same_numbers(const double *some, const double *others, size_t count) {
-    for (size_t i = 0; i < count; i++)
-        if (!same_number(some[i], others[i])) return 0;
-    return 1;
-}
-
 /* ---- lookups ---- */
 
 /* A year that the months drawn have begun gives its line; 0 and every later one are refused with 14. */

@@ -11,6 +11,7 @@ use Rattle.mortgage.specs.Terms.{termsLines}
 use Rattle.mortgage.specs.Payment.{monthlyPayment, openedWith, opened}
 use Rattle.mortgage.specs.Rows.{stateLines, nextRow}
 use Rattle.mortgage.specs.Draws.{drawLines, drawn}
+use Rattle.mortgage.specs.YearDraws.{yearDrawLines, drawnWithYears, lookupLines, lookedUp}
 use Rattle.mortgage.specs.Totals.{totalInterest, remainingBalance, loanToValue}
 use Rattle.mortgage.specs.Savings.{prepaymentSavings}
 use Rattle.mortgage.specs.BreakEven.{breakEvenLines, refinanceBreakeven}
@@ -34,6 +35,14 @@ next-row-refused-exactly l = exactly _ (stateLines l) tt
 pub draw-refused-exactly : (l : Loan) (room : List Float) → ExactlyWhen (drawLines l (length room)) (drawn l room)
 unfolding drawn above
 draw-refused-exactly l room = exactly _ (drawLines l (length room)) tt
+
+pub draw-with-years-refused-exactly : (l : Loan) (room years : List Float) → ExactlyWhen (yearDrawLines l (length room) (length years)) (drawnWithYears l room years)
+unfolding drawnWithYears above
+draw-with-years-refused-exactly l room years = exactly _ (yearDrawLines l (length room) (length years)) tt
+
+pub lookup-refused-exactly : (l : Loan) (years : List Float) (year : ℕ) → ExactlyWhen (lookupLines l (length years) year) (lookedUp l years year)
+unfolding lookedUp above
+lookup-refused-exactly l years year = exactly _ (lookupLines l (length years) year) tt
 
 pub total-interest-refused-exactly : (t : Terms) → ExactlyWhen (termsLines t) (totalInterest t)
 unfolding totalInterest above

@@ -1,5 +1,5 @@
 -- How tight the promises of payments, verdicts on terms, openings, rows and draws are: whatever a public function is given, any two results that its contract allows are equal, and for a draw, and for rows laid at
--- places of a room, so are any two rooms that it may leave. Assumes nothing.
+-- places of a room, so are any two rooms that it may leave, and so are any two last states of the year-end lines beside them. Assumes nothing.
 use mathlib.Core.Path.{_≡_, refl, sym, ap, _∙_}
 use mathlib.Core.List.{List}
 use lib.Ieee.{Float}
@@ -12,9 +12,12 @@ use Rattle.mortgage.specs.declared.rows.Next.{Next}
 use Rattle.mortgage.specs.declared.rows.Next.the-variants as next-is
 use Rattle.mortgage.specs.declared.draws.Drawing.{Drawing}
 use Rattle.mortgage.specs.declared.draws.Drawing.the-variants as drawing-is
+use Rattle.mortgage.specs.declared.years.YearAnswer.{YearAnswer}
+use Rattle.mortgage.specs.declared.years.YearAnswer.the-variants as year-is
 use Rattle.mortgage.specs.Payment.{openingOutcome}
 use Rattle.mortgage.specs.Rows.{nextOutcome}
 use Rattle.mortgage.specs.Draws.{drawingOutcome}
+use Rattle.mortgage.specs.YearDraws.{yearOutcome}
 use Rattle.mortgage.proofs.payment.monthly_rate.Kinds as monthly-rate-kinds
 use Rattle.mortgage.proofs.payment.monthly_rate.Reads as monthly-rate
 use Rattle.mortgage.proofs.payment.monthly_payment.Kinds as monthly-payment-kinds
@@ -29,6 +32,10 @@ use Rattle.mortgage.proofs.rows.next_row.Kinds as next-row-kinds
 use Rattle.mortgage.proofs.rows.next_row.Reads as next-row
 use Rattle.mortgage.proofs.draws.draw.Kinds as draw-kinds
 use Rattle.mortgage.proofs.draws.draw.Reads as draw
+use Rattle.mortgage.proofs.years.draw_with_years.Kinds as draw-with-years-kinds
+use Rattle.mortgage.proofs.years.draw_with_years.Reads as draw-with-years
+use Rattle.mortgage.proofs.years.look_up_year.Kinds as look-up-year-kinds
+use Rattle.mortgage.proofs.years.look_up_year.Reads as look-up-year
 use Rattle.mortgage.proofs.terms.judge_terms.Kinds as judge-terms-kinds
 use Rattle.mortgage.proofs.terms.judge_terms.Reads as judge-terms
 use Rattle.mortgage.proofs.pairs.lay_at.Kinds as lay-at-kinds
@@ -60,6 +67,12 @@ drawing-one-to-one (drawing-is.Refused r) (drawing-is.Drawn d) e = cc
 drawing-one-to-one (drawing-is.Drawn d) (drawing-is.Refused s) e = cc
 drawing-one-to-one (drawing-is.Drawn d) (drawing-is.Drawn g) e = cc
 
+pub year-one-to-one : (x y : YearAnswer) → yearOutcome x ≡ yearOutcome y → x ≡ y
+year-one-to-one (year-is.Refused r) (year-is.Refused s) e = ap year-is.Refused (same-refusal r s e)
+year-one-to-one (year-is.Refused r) (year-is.Found n) e = cc
+year-one-to-one (year-is.Found m) (year-is.Refused s) e = cc
+year-one-to-one (year-is.Found m) (year-is.Found n) e = cc
+
 -- ---- so each promise leaves one result
 pub monthly-rate-determined : Determined 0 monthly-rate-kinds.ps monthly-rate-kinds.r monthly-rate.Post
 monthly-rate-determined κs a x y e e′ p q = p ∙ sym q
@@ -82,6 +95,17 @@ draw-determined κs a x y e e′ p q = drawing-one-to-one x y (p .0 ∙ sym (q .
 -- and a draw's promise one room, the second parameter
 pub draw-room-settled : Settled 1 draw-kinds.ps draw-kinds.r draw.Post
 draw-room-settled κs a x y w w′ p q = ap (λ (l : List Float). (tt, (l, tt))) (p .1 ∙ sym (q .1))
+
+pub draw-with-years-determined : Determined 2 draw-with-years-kinds.ps draw-with-years-kinds.r draw-with-years.Post
+draw-with-years-determined κs a x y e e′ p q = drawing-one-to-one x y (p .0 ∙ sym (q .0))
+
+-- with year-end lines one room and one last state of the lines, the second parameter and the third
+pub draw-with-years-room-and-years-settled : Settled 2 draw-with-years-kinds.ps draw-with-years-kinds.r draw-with-years.Post
+draw-with-years-room-and-years-settled κs a x y w w′ p q =
+    ap (λ (l : List Float). (tt, (l, (w .1 .1 .0, tt)))) (p .1 .0 ∙ sym (q .1 .0)) ∙ ap (λ (l : List Float). (tt, (w′ .1 .0, (l, tt)))) (p .1 .1 ∙ sym (q .1 .1))
+
+pub look-up-year-determined : Determined 1 look-up-year-kinds.ps look-up-year-kinds.r look-up-year.Post
+look-up-year-determined κs a x y e e′ p q = year-one-to-one x y (p ∙ sym q)
 
 pub rows-due-determined : Determined 0 rows-due-kinds.ps rows-due-kinds.r rows-due.Post
 rows-due-determined κs a x y e e′ p q = p ∙ sym q

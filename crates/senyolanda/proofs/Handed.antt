@@ -2,7 +2,12 @@
 use mathlib.Core.Path.{_≡_, ap, _∙_}
 use Prim.Native.Nat.{ℕ}
 use Rattle.refusals.specs.Outcome.{Outcome, refused, accepted, andThen}
+use Rattle.mortgage.specs.declared.Loan.{Loan}
 use Rattle.senyolanda.specs.Told.{refusalResult, told}
+
+-- what is said of a loan is said of the loan in hand
+pub of-loan : {A : Type 0} (f : Loan → A) {l m : Loan} {x : A} → l ≡ m → x ≡ f l → x ≡ f m
+of-loan f e h = h ∙ ap f e
 
 module _ {B C : Type 0} (laid : B → C) (before : C) where
   -- ---- of an answer

@@ -12,4 +12,5 @@ pub mod ResultSays
 pub mod SpeedCodes
 pub mod Worked
 pub mod YearsAtTheDoor
+pub mod YearsWorked
 pub mod tight

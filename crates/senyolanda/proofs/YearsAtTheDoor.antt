@@ -21,13 +21,11 @@ use Rattle.mortgage.specs.declared.years.Year.{Year}
 use Rattle.mortgage.specs.Payment.{payment, opened, openedWith}
 use Rattle.mortgage.specs.Row.{width}
 use Rattle.mortgage.specs.Month.{due}
-use Rattle.mortgage.specs.Rows.{rows}
-use Rattle.mortgage.specs.Draws.{filledBy}
-use Rattle.mortgage.specs.Demand3.{rowsIn, handedBack, Repaid}
-use Rattle.mortgage.specs.Years.{startedYears, yearLine, yearWidth, yearPlaces}
+use Rattle.mortgage.specs.Demand3.{rowsIn, handedBack}
+use Rattle.mortgage.specs.Years.{startedYears, yearWidth, yearPlaces}
 use Rattle.mortgage.specs.YearDraws.{yearDrawLines, drawnWithYears, filledWithYears, summed, lookedUp}
 use Rattle.mortgage.specs.Summary as desk
-use Rattle.mortgage.specs.Summary.{wroteWithYears, filedWithYears, yearsBegun, SumsUp}
+use Rattle.mortgage.specs.Summary.{wroteWithYears, filedWithYears, SumsUp}
 use Rattle.mortgage.proofs.Exactly.{draw-with-years-refused-exactly}
 use Rattle.mortgage.proofs.Summing.{summed-up, repaid-beside-lines}
 use Rattle.senyolanda.specs.Told.{told}

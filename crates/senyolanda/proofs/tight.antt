@@ -11,3 +11,4 @@ pub mod Pools
 pub mod RecordBytes
 pub mod Spreads
 pub mod SwapValues
+pub mod Years

@@ -1,0 +1,118 @@
+-- Year-end lines as C gets them, of a loan of 14 months at rate 0 that is opened with its payment given: a draw of 13 rows, a draw that is refused and a draw of the last row, with the same
+-- lines lent to each; and lookups after the first of them and after the last. Assumes nothing.
+use mathlib.Core.Path.{_≡_, refl}
+use mathlib.Core.List.{List, [], _∷_, _++_, map}
+use Prim.Native.Nat.{ℕ, _-_, _*_}
+use lib.IntN.{pos}
+use lib.ListN.{replicate}
+use lib.Ieee.{Float, nan, binary64, sub, mul, div, lt, ofInt, ofBits}
+use Rattle.refusals.specs.Outcome.{judged}
+use Rattle.refusals.specs.Table.{badAmount, badTerm, noRoom, tooFewLines, pastEnd, badRecord, noRowDrawn}
+use Rattle.records.specs.Bytes.{wholeAt, floatAt}
+use Rattle.records.specs.Kinds.{readTerms}
+use Rattle.steps.specs.Steps.{pieces, stepped}
+use Rattle.mortgage.specs.Payment.{monthlyRate, loanOf, openedWith}
+use Rattle.mortgage.specs.Row.{width}
+use Rattle.mortgage.specs.RowRule.{interestOf, principalOf, paymentOf, leftOf}
+use Rattle.mortgage.specs.Month.{endMonth, due, last, rowOf, nextOf}
+use Rattle.mortgage.specs.Draws.{portion}
+use Rattle.mortgage.specs.Years.{yearWidth, withRow, goesOnFrom, entered, enteredUpTo}
+use Rattle.mortgage.specs.YearDraws.{drawnWithYears, filledWithYears, summed, lookedUp}
+use Rattle.senyolanda.specs.Told.{told}
+use Rattle.senyolanda.specs.Calls.{Kept, inHand, openWithAnswer}
+use Rattle.senyolanda.specs.YearCalls.{yearDrawAnswer, lookupAnswer}
+
+abbrev number : ℕ → Float
+number n = ofInt binary64 (pos n)
+
+-- so many lent places with nothing in them yet
+abbrev lent : ℕ → List Float
+lent places = replicate places nan
+
+-- ---- the loan
+-- principal 1400, rate 0, term 14, as 21 bytes
+abbrev bytes : List ℕ
+bytes = 1 ∷ 0 ∷ 0 ∷ 0 ∷ 0 ∷ 0 ∷ 224 ∷ 149 ∷ 64 ∷ 0 ∷ 0 ∷ 0 ∷ 0 ∷ 0 ∷ 0 ∷ 0 ∷ 0 ∷ 14 ∷ 0 ∷ 0 ∷ 0 ∷ []
+
+-- term and months done; rate, payment and balance: 100 a month
+abbrev loanAt : ℕ → ℕ → Kept
+loanAt done balance = (14 ∷ done ∷ [], map number (0 ∷ 100 ∷ balance ∷ []))
+
+pub opens : openWithAnswer bytes (number 100) (7 ∷ 7 ∷ [], lent 3) ≡ (0, loanAt 0 1400)
+unfolding told readTerms badRecord floatAt wholeAt judged openedWith badAmount badTerm loanOf lt ofInt ofBits
+opens = refl
+
+-- ---- the calls
+-- what a draw hands back: the loan's counts and amounts, rows written, rows owed
+abbrev handed : Kept → ℕ → ℕ → List ℕ × List Float × ℕ × ℕ
+handed k written owed = (k .0, k .1, written, owed)
+
+abbrev drawWithYearsAnswer : Kept → List Float → List Float → ℕ × (List ℕ × List Float × ℕ × ℕ)
+drawWithYearsAnswer k room years = yearDrawAnswer (k, years) (room, 9, 9)
+
+-- a line's months, interest, principal and balance
+abbrev lookUpYearAnswer : Kept → List Float → ℕ → ℕ × List Float
+lookUpYearAnswer k years year = lookupAnswer (k, years) year (lent yearWidth)
+
+-- the lines once the first year is full: that year's, the second year's, and one place more than they take
+abbrev linesWith : List ℕ → List Float
+linesWith second = map number (12 ∷ 0 ∷ 1200 ∷ 200 ∷ second) ++ nan ∷ []
+
+-- the second year's, of its first month and of both
+abbrev begun : List ℕ
+begun = 1 ∷ 0 ∷ 100 ∷ 100 ∷ []
+
+abbrev ended : List ℕ
+ended = 2 ∷ 0 ∷ 200 ∷ 0 ∷ []
+
+-- ---- room for 13 rows: 13 written, 1 owed
+pub thirteen-drawn : drawWithYearsAnswer (loanAt 0 1400) (lent (13 * width)) (lent 9) ≡ (0, handed (loanAt 13 100) 13 1)
+unfolding told drawnWithYears judged badTerm noRoom tooFewLines pastEnd portion due stepped nextOf leftOf principalOf interestOf last monthlyRate sub mul div lt ofInt ofBits
+thirteen-drawn = refl
+
+pub thirteen-entered : summed (inHand (loanAt 0 1400)) (lent (13 * width)) (lent 9) ≡ linesWith begun
+unfolding summed drawnWithYears judged badTerm noRoom tooFewLines pastEnd portion due stepped enteredUpTo entered goesOnFrom withRow rowOf nextOf leftOf principalOf interestOf last monthlyRate sub mul div lt ofInt ofBits
+thirteen-entered = refl
+
+pub second-year-begun : lookUpYearAnswer (loanAt 13 100) (linesWith begun) 2 ≡ (0, map number begun)
+unfolding told lookedUp judged badTerm tooFewLines pastEnd noRowDrawn endMonth
+second-year-begun = refl
+
+-- ---- room for no whole row: refusal 3, and nothing changes
+pub none-drawn : drawWithYearsAnswer (loanAt 13 100) (lent (width - 1)) (linesWith begun) ≡ (3, handed (loanAt 13 100) 9 9)
+unfolding told drawnWithYears judged badTerm noRoom due
+none-drawn = refl
+
+pub none-laid : filledWithYears (inHand (loanAt 13 100)) (lent (width - 1)) (linesWith begun) ≡ lent (width - 1)
+unfolding filledWithYears drawnWithYears judged badTerm noRoom due
+none-laid = refl
+
+pub none-entered : summed (inHand (loanAt 13 100)) (lent (width - 1)) (linesWith begun) ≡ linesWith begun
+unfolding summed drawnWithYears judged badTerm noRoom due
+none-entered = refl
+
+-- ---- room for 5 rows: the last one written, none owed, and the place behind the lines as it was
+pub last-drawn : drawWithYearsAnswer (loanAt 13 100) (lent (5 * width)) (linesWith begun) ≡ (0, handed (loanAt 14 0) 1 0)
+unfolding told drawnWithYears judged badTerm noRoom tooFewLines pastEnd portion due stepped nextOf leftOf principalOf last sub ofInt
+last-drawn = refl
+
+pub last-laid : filledWithYears (inHand (loanAt 13 100)) (lent (5 * width)) (linesWith begun) ≡ map number (14 ∷ 100 ∷ 100 ∷ 0 ∷ 0 ∷ []) ++ lent (4 * width)
+unfolding filledWithYears drawnWithYears judged badTerm noRoom tooFewLines pastEnd portion due pieces stepped rowOf leftOf paymentOf principalOf interestOf last monthlyRate sub mul div lt ofInt ofBits
+last-laid = refl
+
+pub last-entered : summed (inHand (loanAt 13 100)) (lent (5 * width)) (linesWith begun) ≡ linesWith ended
+unfolding summed drawnWithYears judged badTerm noRoom tooFewLines pastEnd portion due stepped enteredUpTo entered goesOnFrom withRow rowOf leftOf principalOf interestOf last monthlyRate sub mul div lt ofInt ofBits
+last-entered = refl
+
+-- ---- the second year, cut short; no year after it has a row, and none is before the first
+pub second-year : lookUpYearAnswer (loanAt 14 0) (linesWith ended) 2 ≡ (0, map number ended)
+unfolding told lookedUp judged badTerm tooFewLines pastEnd noRowDrawn endMonth
+second-year = refl
+
+pub no-third-year : lookUpYearAnswer (loanAt 14 0) (linesWith ended) 3 ≡ (14, lent yearWidth)
+unfolding told lookedUp judged badTerm tooFewLines pastEnd noRowDrawn endMonth
+no-third-year = refl
+
+pub no-year-0 : lookUpYearAnswer (loanAt 14 0) (linesWith ended) 0 ≡ (14, lent yearWidth)
+unfolding told lookedUp judged badTerm tooFewLines pastEnd noRowDrawn endMonth
+no-year-0 = refl
