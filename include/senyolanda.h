@@ -891,16 +891,16 @@ static inline SENYOLANDA_CHECKED senyolanda_result senyolanda_flows_duration_con
  * STACK. The bytes of stack that each function (senyolanda_..) touches beyond the call itself, at the largest input that it takes:
  * the larger of what was measured for Arm and for x86-64.
  *
- *     39584 dated_z_spread                       488 bond_modified_duration_at_price      16 zero_curve_discount_factor
- *     38704 pool_convexity                       488 bond_price_change                     8 bond_cash_flows
- *     38704 pool_duration                        456 bond_macaulay_duration                8 yield_curve_forward_rate
- *     38608 pool_price                           456 bond_modified_duration                0 bond_current_yield
- *     21984 dated_duration_convexity             424 linear_interpolate_each               0 bond_dv01
- *     21952 dated_pv                             408 draw_book                             0 bond_price
- *     20352 z_spread                             376 discount_curve_rate_each              0 day_count_fraction
- *      9824 pool_cash_flows                      360 bond_yield_to_maturity                0 discount_curve_rate
- *      8768 bootstrap                            244 swap_curve_rate_each                  0 linear_interpolate
- *      3968 cubic_spline_interpolate             244 zero_curve_rate_each                  0 ln
+ *     39584 dated_z_spread                       488 bond_price_change                     8 bond_cash_flows
+ *     38704 pool_convexity                       456 bond_macaulay_duration                8 yield_curve_forward_rate
+ *     38704 pool_duration                        456 bond_modified_duration                0 bond_current_yield
+ *     38608 pool_price                           424 linear_interpolate_each               0 bond_dv01
+ *     21984 dated_duration_convexity             408 draw_book                             0 bond_price
+ *     21952 dated_pv                             376 discount_curve_rate_each              0 day_count_fraction
+ *     20352 z_spread                             360 bond_yield_to_maturity                0 discount_curve_rate
+ *      9824 pool_cash_flows                      244 swap_curve_rate_each                  0 linear_interpolate
+ *      8768 bootstrap                            244 zero_curve_rate_each                  0 ln
+ *      3968 cubic_spline_interpolate             200 draw_with_years                       0 look_up_year
  *      3712 value_swap                           152 draw                                  0 ltv
  *      3600 swap_dv01                            112 par_yield                             0 monthly_payment
  *      2752 duration_convexity                    96 zero_curve_forward_rate               0 nelson_siegel_instantaneous_forward
@@ -919,6 +919,7 @@ static inline SENYOLANDA_CHECKED senyolanda_result senyolanda_flows_duration_con
  *       520 bond_convexity_at_price               16 power                                 0 write_row
  *       488 bond_convexity                        16 yield_curve_discount_factor           0 write_swap
  *       488 bond_macaulay_duration_at_price       16 zero_coupon_bond_price
+ *       488 bond_modified_duration_at_price       16 zero_curve_discount_factor
  */
 
 #ifdef __cplusplus
