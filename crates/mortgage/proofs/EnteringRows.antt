@@ -92,7 +92,7 @@ rows-more room d k n years₀ years years′ e e′ =
     ∙ ap (λ (j : ℕ). enteredUpTo (rowsFrom room 0 d) j years₀) s
 
 -- the rows up to the year's end, or as many as are left, are of one year, and its line is lent
-pub of-one-year : (d k count n : ℕ) → n ≡ min (12 - (d + k) % 12) (count - k) → k < count → (0 < n) × ((d + k) % 12 + n ≤ 12) × (k + n ≤ count)
+pub of-one-year : (d k count n : ℕ) → n ≡ min (count - k) (12 - (d + k) % 12) → k < count → (0 < n) × ((d + k) % 12 + n ≤ 12) × (k + n ≤ count)
 of-one-year d k count n e h = (omega arith, omega arith, omega arith)
 
 pub line-lent : (d k count years : ℕ) → k < count → startedYears (d + count) * yearWidth ≤ years → lineBehind (d + k) * yearWidth + yearWidth ≤ years

@@ -1,6 +1,6 @@
 -- The cases of the lookup of a year and of a draw with year-end lines, in the order in which the code tests: what is answered, and what the room and the lines hold then. Assumes nothing.
-use mathlib.Core.Path.{_≡_, refl, sym, ap, _∙_}
-use mathlib.Core.Bool.{Bool, true, false, _||_}
+use mathlib.Core.Path.{_≡_, sym, ap, _∙_}
+use mathlib.Core.Bool.{true, false}
 use mathlib.Core.List.{List, [], _∷_}
 use Prim.Native.Nat.{ℕ, _+_, _-_, _*_, _/_, _<_, _≤_}
 use native.Mathlib.Omega.{arith}
@@ -10,7 +10,7 @@ use borrow.Author.Tests.{lt-ltb, le-ltb, ltb-false, eq-eqb, ne-eqb}
 use Rattle.refusals.specs.declared.Refusal.{Refusal}
 use Rattle.refusals.specs.Outcome.{Outcome, refused, accepted, line, firstOr, judged}
 use Rattle.refusals.specs.Table.{badTerm, noRoom, tooFewLines, pastEnd, noRowDrawn}
-use Rattle.refusals.proofs.Causes.{term-within}
+use Rattle.refusals.proofs.Causes.{or-true, or-false, term-within}
 use Rattle.refusals.proofs.Judging.{none-is, passed}
 use Rattle.refusals.proofs.Verdicts.{refused-as}
 use Rattle.steps.specs.Steps.{laid}
@@ -63,14 +63,6 @@ unfolding endMonth
 enough-for-begun l years n f h = omega (arith, enough-lines l years f)
 
 -- ---- the draw
-no-second : (b : Bool) → (b || false) ≡ b
-no-second true = refl
-no-second false = refl
-
-second : (b : Bool) → (b || true) ≡ true
-second true = refl
-second false = refl
-
 module _ (l : Loan) (room years : List Float) where
   pub years-bad-term : badTerm (l .term) ≡ true → refused 2 0 ≡ drawnWithYears l room years
   unfolding drawnWithYears judged firstOr
@@ -78,12 +70,12 @@ module _ (l : Loan) (room years : List Float) where
 
   pub years-too-few : badTerm (l .term) ≡ false → fewerThanStarted l (length years) ≡ true → refused 3 0 ≡ drawnWithYears l room years
   unfolding drawnWithYears judged firstOr
-  years-too-few t f = rw (t, f, second (noRoom (due l) (length room) width))
+  years-too-few t f = rw (t, f, or-true (noRoom (due l) (length room) width))
 
   -- with lines enough it answers what the plain draw does
   pub as-drawn : badTerm (l .term) ≡ false → fewerThanStarted l (length years) ≡ false → drawn l room ≡ drawnWithYears l room years
   unfolding drawn drawnWithYears judged firstOr
-  as-drawn t f = rw (f, no-second (noRoom (due l) (length room) width))
+  as-drawn t f = rw (f, or-false (noRoom (due l) (length room) width))
 
   pub filled-as-drawn : drawn l room ≡ drawnWithYears l room years → filled l room ≡ filledWithYears l room years
   unfolding filled filledWithYears

@@ -1,6 +1,6 @@
 // Year-end totals: lines of four numbers, one for each started year of the term, kept beside the rows of a draw and looked up by year.
 ghost use mathlib.Core.Path.{_≡_};
-ghost use Prim.Native.Nat.{_+_, _*_, _/_, _%_, _<_, _≤_, min};
+ghost use Prim.Native.Nat.{_+_, _*_, _/_, _%_, _<_, _≤_};
 ghost use lib.ListN.{length};
 ghost use lib.Seq.{sets};
 ghost use Rattle.refusals.specs.Table.{tooFewLines};
@@ -12,6 +12,7 @@ ghost use Rattle.mortgage.specs.inner.RoomRows.{rowsFrom, withRows};
 use crate::Loan;
 use crate::draws::Drawing;
 use crate::draws::WIDTH;
+use crate::draws::fewer;
 
 // The number of places of a year's line.
 pub const YEAR_WIDTH: usize = 4;
@@ -140,13 +141,6 @@ fn enter_year(room: &[f64], at: usize, count: u32, done: u32, years: &mut [f64])
     }
 }
 
-// The smaller of two counts.
-fn smaller(a: u32, b: u32) -> u32
-    ensures { λ r. ⌜ r ≡ min a b ⌝ }
-{
-    if a < b { a } else { b }
-}
-
 // Enters the rows that stand at the start of the room, the first of them behind so many months, year by year.
 fn enter_rows(room: &[f64], count: u32, done: u32, years: &mut [f64])
     requires { ⌜ (count * width ≤ length (now room)) × (done + count ≤ 1200) × (startedYears (done + count) * yearWidth ≤ length (now years)) ⌝ }
@@ -155,7 +149,7 @@ fn enter_rows(room: &[f64], count: u32, done: u32, years: &mut [f64])
     let mut k: u32 = 0;
     while k < count {
         let months = done + k;
-        let rows = smaller(12 - months % 12, count - k);
+        let rows = fewer(count - k, (12 - months % 12) as usize);
         enter_year(room, k as usize * WIDTH, rows, months, years);
         k += rows;
     }

@@ -6,7 +6,7 @@ use Rattle.refusals.specs.Outcome.{ExactlyWhen, above, line, judged}
 use Rattle.refusals.specs.Table.{badRecord, badCode}
 use Rattle.refusals.proofs.Judging.{exactly}
 use Rattle.records.specs.Kinds.{termsKind, termsSize, termsIn, readTerms, bondKind, bondSize, bondIn, readBond, readBondUncoded, rowKind, rowSize, rowIn, readRow, swapKind, swapSize, swapIn, readSwap, readSwapUncoded}
-use Rattle.records.proofs.Judged.{or-false}
+use Rattle.refusals.proofs.Causes.{or-false}
 
 -- what is judged by line 11 alone
 by-11 : {Value : Type 0} (v : Value) (bad : Bool) → ExactlyWhen (line 11 bad ∷ []) (judged (line 11 bad ∷ []) v)

@@ -10,6 +10,7 @@ use lib.Dec.{eqb}
 use lib.ListN.{length, getD}
 use Rattle.refusals.specs.Outcome.{refused, accepted, line, firstOr, judged}
 use Rattle.refusals.specs.Table.{badRecord}
+use Rattle.refusals.proofs.Causes.{or-true}
 use Rattle.records.specs.Fields.{heldFrom, anyBadCode}
 use Rattle.records.specs.Kinds.{Layout, recordSize, valueIn, readAs, readUncoded}
 
@@ -17,14 +18,6 @@ both : (a b : Bool) → not (a && b) ≡ false → (a ≡ true) × (b ≡ true)
 both true true h = (refl, refl)
 both true false h = (cc, cc)
 both false b h = (cc, cc)
-
-or-true : (a : Bool) → (a || true) ≡ true
-or-true true = refl
-or-true false = refl
-
-pub or-false : (a : Bool) → (a || false) ≡ a
-or-false true = refl
-or-false false = refl
 
 module _ (kind size : ℕ) (bytes : List ℕ) where
   pub other-length : (length bytes ≡ size → ⊥) → true ≡ badRecord kind size bytes

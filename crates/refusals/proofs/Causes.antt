@@ -1,4 +1,4 @@
--- What is known where a line of the table has no cause. Assumes nothing.
+-- Two causes of one line of the table, and what is known where a line has no cause. Assumes nothing.
 use mathlib.Core.Path.{_≡_, refl}
 use mathlib.Core.Bool.{Bool, true, false, not, _||_}
 use Prim.Native.Nat.{ℕ, _≤_}
@@ -10,7 +10,16 @@ use borrow.Author.Tests.{ltb-false, not-false}
 use Rattle.numbers.specs.Clamps.{plusZero}
 use Rattle.refusals.specs.Table.{badAmount, badTerm}
 
--- of two causes neither is there
+-- of two causes the second is there, or it is not
+pub or-true : (a : Bool) → (a || true) ≡ true
+or-true true = refl
+or-true false = refl
+
+pub or-false : (a : Bool) → (a || false) ≡ a
+or-false true = refl
+or-false false = refl
+
+-- neither is there
 pub neither : (a b : Bool) → (a || b) ≡ false → (a ≡ false) × (b ≡ false)
 neither true b e = (e, absurd (let z : _≡_ {A = ℕ} 0 1 = cc in omega arith))
 neither false b e = (refl, e)

@@ -24,14 +24,17 @@ loop-holds c = (refl, omega arith, refl)
 add-months : tie.Need-add-months Inv-loop μ-loop
 add-months c = omega arith
 
-sub-smaller : tie.Need-sub-smaller Inv-loop μ-loop
-sub-smaller c = omega arith
+sub-fewer : tie.Need-sub-fewer Inv-loop μ-loop
+sub-fewer c = omega arith
 
-sub-smaller-2 : tie.Need-sub-smaller-2 Inv-loop μ-loop
-sub-smaller-2 c = omega arith
+sub-fewer-2 : tie.Need-sub-fewer-2 Inv-loop μ-loop
+sub-fewer-2 c = omega arith
 
-smaller-requires : tie.Need-smaller-requires Inv-loop μ-loop
-smaller-requires c κs = search needs
+cast-fewer : tie.Need-cast-fewer Inv-loop μ-loop
+cast-fewer c = search needs
+
+fewer-requires : tie.Need-fewer-requires Inv-loop μ-loop
+fewer-requires c κs = search needs
 
 cast-enter-year : tie.Need-cast-enter-year Inv-loop μ-loop
 cast-enter-year c = search needs
@@ -44,23 +47,22 @@ enter-year-requires c κs =
     let h = c .before .before .before in
     let s = h .before .before .before in
     let taken = c .before .before .loop-test .taken in
-    let o = of-one-year (s .args .done) (h .loop .k) (s .args .count) (c .before .smaller .result) (c .before .smaller .ensures) taken in
+    let o = of-one-year (s .args .done) (h .loop .k) (s .args .count) (c .before .fewer .result) (c .before .fewer .ensures) taken in
     ((o .0, o .1, omega (arith, o .2)), line-lent (s .args .done) (h .loop .k) (s .args .count) (length (h .loop .years)) taken (rw (h .loop .inv .2) (s .pre .2)))
 
 add-k : tie.Need-add-k Inv-loop μ-loop
-add-k c =
-    omega (arith, c .before .before .before .before .smaller .ensures)
+add-k c = omega (arith, c .before .before .before .before .fewer .ensures)
 
 loop-less : tie.Need-loop-less Inv-loop μ-loop
 loop-less c =
     let h = c .before .before .before .before .before .before in
     let s = h .before .before .before in
-    let o = of-one-year (s .args .done) (h .loop .k) (s .args .count) (c .before .before .before .before .smaller .result) (c .before .before .before .before .smaller .ensures) (c .before .before .before .before .before .loop-test .taken) in
+    let o = of-one-year (s .args .done) (h .loop .k) (s .args .count) (c .before .before .before .before .fewer .result) (c .before .before .before .before .fewer .ensures) (c .before .before .before .before .before .loop-test .taken) in
     omega (arith, o .0, o .2)
 
 loop-again : tie.Need-loop-again Inv-loop μ-loop
 loop-again c =
-    let n = c .before .before .before .before .smaller in
+    let n = c .before .before .before .before .fewer in
     let h = c .before .before .before .before .before .before in
     let s = h .before .before .before in
     let e = c .before .before .enter-year in
@@ -84,9 +86,10 @@ enter-rows-spec =
     μ-loop
     loop-holds
     add-months
-    sub-smaller
-    sub-smaller-2
-    smaller-requires
+    sub-fewer
+    sub-fewer-2
+    cast-fewer
+    fewer-requires
     cast-enter-year
     mul-enter-year
     enter-year-requires

@@ -8,7 +8,8 @@ use denote.Ref.{now}
 use Rattle.refusals.specs.Table.{badCode}
 use Rattle.records.specs.declared.BondRecord.{BondRecord}
 use Rattle.records.specs.Kinds.{bondLayout, bondKind, bondSize, bondIn, readBond}
-use Rattle.records.proofs.Judged.{or-false, good-only, refuses, accepts}
+use Rattle.refusals.proofs.Causes.{or-false}
+use Rattle.records.proofs.Judged.{good-only, refuses, accepts}
 use Rattle.records.proofs.bond_record.read_bond.Statement.{statement}
 use Rattle.records.proofs.bond_record.read_bond.Tie as tie
 

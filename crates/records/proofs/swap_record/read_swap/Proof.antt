@@ -8,7 +8,8 @@ use denote.Ref.{now}
 use Rattle.refusals.specs.Table.{badCode}
 use Rattle.records.specs.declared.SwapRecord.{SwapRecord}
 use Rattle.records.specs.Kinds.{swapLayout, swapKind, swapSize, swapIn, readSwap}
-use Rattle.records.proofs.Judged.{or-false, good-only, refuses, accepts}
+use Rattle.refusals.proofs.Causes.{or-false}
+use Rattle.records.proofs.Judged.{good-only, refuses, accepts}
 use Rattle.records.proofs.swap_record.read_swap.Statement.{statement}
 use Rattle.records.proofs.swap_record.read_swap.Tie as tie
 
