@@ -17021,38 +17021,38 @@ senyolanda_draw_with_years:             # @senyolanda_draw_with_years
 	.p2align	4
 .LBB55_8:                               # %join.5.i.preheader.i.i.i.i
                                         #   in Loop: Header=BB55_7 Depth=1
-	leaq	(%r9,%r9,4), %rdi
-	vaddsd	24(%r14,%rdi,8), %xmm2, %xmm6
-	vaddsd	16(%r14,%rdi,8), %xmm2, %xmm7
-	vaddsd	64(%r14,%rdi,8), %xmm6, %xmm6
-	vaddsd	56(%r14,%rdi,8), %xmm7, %xmm7
-	vaddsd	104(%r14,%rdi,8), %xmm6, %xmm6
-	vaddsd	96(%r14,%rdi,8), %xmm7, %xmm7
-	vaddsd	144(%r14,%rdi,8), %xmm6, %xmm6
-	vaddsd	136(%r14,%rdi,8), %xmm7, %xmm7
-	vaddsd	184(%r14,%rdi,8), %xmm6, %xmm6
-	vaddsd	176(%r14,%rdi,8), %xmm7, %xmm7
-	vaddsd	224(%r14,%rdi,8), %xmm6, %xmm6
-	vaddsd	216(%r14,%rdi,8), %xmm7, %xmm7
-	vaddsd	264(%r14,%rdi,8), %xmm6, %xmm6
-	vaddsd	256(%r14,%rdi,8), %xmm7, %xmm7
-	vaddsd	304(%r14,%rdi,8), %xmm6, %xmm6
-	vaddsd	296(%r14,%rdi,8), %xmm7, %xmm7
-	vaddsd	344(%r14,%rdi,8), %xmm6, %xmm6
-	vaddsd	336(%r14,%rdi,8), %xmm7, %xmm7
-	vaddsd	384(%r14,%rdi,8), %xmm6, %xmm6
-	vaddsd	376(%r14,%rdi,8), %xmm7, %xmm7
-	vaddsd	424(%r14,%rdi,8), %xmm6, %xmm6
-	vaddsd	416(%r14,%rdi,8), %xmm7, %xmm8
-	vaddsd	464(%r14,%rdi,8), %xmm6, %xmm6
+	leaq	(%r9,%r9,4), %r8
+	vaddsd	24(%r14,%r8,8), %xmm2, %xmm6
+	vaddsd	16(%r14,%r8,8), %xmm2, %xmm7
+	vaddsd	64(%r14,%r8,8), %xmm6, %xmm6
+	vaddsd	56(%r14,%r8,8), %xmm7, %xmm7
+	vaddsd	104(%r14,%r8,8), %xmm6, %xmm6
+	vaddsd	96(%r14,%r8,8), %xmm7, %xmm7
+	vaddsd	144(%r14,%r8,8), %xmm6, %xmm6
+	vaddsd	136(%r14,%r8,8), %xmm7, %xmm7
+	vaddsd	184(%r14,%r8,8), %xmm6, %xmm6
+	vaddsd	176(%r14,%r8,8), %xmm7, %xmm7
+	vaddsd	224(%r14,%r8,8), %xmm6, %xmm6
+	vaddsd	216(%r14,%r8,8), %xmm7, %xmm7
+	vaddsd	264(%r14,%r8,8), %xmm6, %xmm6
+	vaddsd	256(%r14,%r8,8), %xmm7, %xmm7
+	vaddsd	304(%r14,%r8,8), %xmm6, %xmm6
+	vaddsd	296(%r14,%r8,8), %xmm7, %xmm7
+	vaddsd	344(%r14,%r8,8), %xmm6, %xmm6
+	vaddsd	336(%r14,%r8,8), %xmm7, %xmm7
+	vaddsd	384(%r14,%r8,8), %xmm6, %xmm6
+	vaddsd	376(%r14,%r8,8), %xmm7, %xmm7
+	vaddsd	424(%r14,%r8,8), %xmm6, %xmm6
+	vaddsd	416(%r14,%r8,8), %xmm7, %xmm8
+	vaddsd	464(%r14,%r8,8), %xmm6, %xmm6
 	vunpcklpd	%xmm6, %xmm3, %xmm7     # xmm7 = xmm3[0],xmm6[0]
-	vaddsd	456(%r14,%rdi,8), %xmm8, %xmm6
-	vmovsd	472(%r14,%rdi,8), %xmm8         # xmm8 = mem[0],zero
+	vaddsd	456(%r14,%r8,8), %xmm8, %xmm6
+	vmovsd	472(%r14,%r8,8), %xmm8          # xmm8 = mem[0],zero
 .LBB55_19:                              # %"mortgage::years::enter_year.exit.i.i.i"
                                         #   in Loop: Header=BB55_7 Depth=1
-	vmovupd	%xmm7, (%rcx,%r8,8)
-	vmovsd	%xmm6, 16(%rcx,%r8,8)
-	vmovsd	%xmm8, 24(%rcx,%r8,8)
+	vmovupd	%xmm7, (%rcx,%rdi,8)
+	vmovsd	%xmm6, 16(%rcx,%rdi,8)
+	vmovsd	%xmm8, 24(%rcx,%rdi,8)
 	addl	%r9d, %ebp
 	cmpl	%ebx, %ebp
 	jae	.LBB55_20
@@ -17060,31 +17060,31 @@ senyolanda_draw_with_years:             # @senyolanda_draw_with_years
                                         # =>This Loop Header: Depth=1
                                         #     Child Loop BB55_15 Depth 2
 	movl	%ebp, %r9d
-	leal	(%r9,%r12), %edi
-	movq	%rdi, %r8
-	imulq	%rsi, %r8
-	shrq	$35, %r8
-	shll	$2, %r8d
-	leal	(%r8,%r8,2), %r11d
-	subl	%r11d, %edi
-	movl	$12, %r11d
-	subl	%edi, %r11d
-	movl	%ebx, %ebp
-	subl	%r9d, %ebp
-	cmpl	%ebp, %r11d
-	cmovbl	%r11d, %ebp
+	leal	(%r9,%r12), %r8d
+	movl	%ebx, %r11d
+	subl	%ebp, %r11d
+	movq	%r8, %rdi
+	imulq	%rsi, %rdi
+	shrq	$35, %rdi
+	shll	$2, %edi
+	leal	(%rdi,%rdi,2), %ebp
+	subl	%ebp, %r8d
 	movl	%r9d, %r9d
+	movl	$12, %ebp
+	subl	%r8d, %ebp
+	cmpl	%r11d, %ebp
+	cmovael	%r11d, %ebp
 	cmpl	$12, %ebp
 	je	.LBB55_8
 # %bb.9:                                # %else.2.i.i.i.i
                                         #   in Loop: Header=BB55_7 Depth=1
-	testl	%edi, %edi
+	testl	%r8d, %r8d
 	je	.LBB55_10
 # %bb.11:                               # %else.2.i.i.i.i.i
                                         #   in Loop: Header=BB55_7 Depth=1
-	vmovupd	(%rcx,%r8,8), %xmm7
-	vmovsd	16(%rcx,%r8,8), %xmm6           # xmm6 = mem[0],zero
-	vmovsd	24(%rcx,%r8,8), %xmm8           # xmm8 = mem[0],zero
+	vmovupd	(%rcx,%rdi,8), %xmm7
+	vmovsd	16(%rcx,%rdi,8), %xmm6          # xmm6 = mem[0],zero
+	vmovsd	24(%rcx,%rdi,8), %xmm8          # xmm8 = mem[0],zero
 	testl	%ebp, %ebp
 	jne	.LBB55_13
 	jmp	.LBB55_19
@@ -17101,8 +17101,8 @@ senyolanda_draw_with_years:             # @senyolanda_draw_with_years
 	je	.LBB55_17
 # %bb.14:                               # %join.5.i21.i.i.i.i.preheader.new
                                         #   in Loop: Header=BB55_7 Depth=1
-	movl	%ebp, %edi
-	andl	$14, %edi
+	movl	%ebp, %r8d
+	andl	$14, %r8d
 	leaq	(%r9,%r9,4), %r13
 	leaq	(%rdx,%r13,8), %r13
 	.p2align	4
@@ -17117,7 +17117,7 @@ senyolanda_draw_with_years:             # @senyolanda_draw_with_years
 	vaddpd	%xmm7, %xmm8, %xmm7
 	addq	$10, %r11
 	addq	$80, %r13
-	addl	$-2, %edi
+	addl	$-2, %r8d
 	jne	.LBB55_15
 # %bb.16:                               # %loop.2.after.1_crit_edge.i.i.i.i.i.unr-lcssa
                                         #   in Loop: Header=BB55_7 Depth=1

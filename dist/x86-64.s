@@ -16238,9 +16238,9 @@ senyolanda_draw_with_years:             # @senyolanda_draw_with_years
 	movsd	472(%r14,%r11,8), %xmm8         # xmm8 = mem[0],zero
 .LBB53_19:                              # %"mortgage::years::enter_year.exit.i.i.i"
                                         #   in Loop: Header=BB53_7 Depth=1
-	movupd	%xmm7, (%rcx,%r8,8)
-	movsd	%xmm6, 16(%rcx,%r8,8)
-	movsd	%xmm8, 24(%rcx,%r8,8)
+	movupd	%xmm7, (%rcx,%rdi,8)
+	movsd	%xmm6, 16(%rcx,%rdi,8)
+	movsd	%xmm8, 24(%rcx,%rdi,8)
 	addl	%r9d, %ebp
 	cmpl	%ebx, %ebp
 	jae	.LBB53_20
@@ -16248,31 +16248,31 @@ senyolanda_draw_with_years:             # @senyolanda_draw_with_years
                                         # =>This Loop Header: Depth=1
                                         #     Child Loop BB53_15 Depth 2
 	movl	%ebp, %r9d
-	leal	(%r9,%r12), %edi
-	movq	%rdi, %r8
-	imulq	%rsi, %r8
-	shrq	$35, %r8
-	shll	$2, %r8d
-	leal	(%r8,%r8,2), %r11d
-	subl	%r11d, %edi
-	movl	$12, %r11d
-	subl	%edi, %r11d
-	movl	%ebx, %ebp
-	subl	%r9d, %ebp
-	cmpl	%ebp, %r11d
-	cmovbl	%r11d, %ebp
+	leal	(%r9,%r12), %r8d
+	movl	%ebx, %r11d
+	subl	%ebp, %r11d
+	movq	%r8, %rdi
+	imulq	%rsi, %rdi
+	shrq	$35, %rdi
+	shll	$2, %edi
+	leal	(%rdi,%rdi,2), %ebp
+	subl	%ebp, %r8d
 	movl	%r9d, %r9d
+	movl	$12, %ebp
+	subl	%r8d, %ebp
+	cmpl	%r11d, %ebp
+	cmovael	%r11d, %ebp
 	cmpl	$12, %ebp
 	je	.LBB53_8
 # %bb.9:                                # %else.2.i.i.i.i
                                         #   in Loop: Header=BB53_7 Depth=1
-	testl	%edi, %edi
+	testl	%r8d, %r8d
 	je	.LBB53_10
 # %bb.11:                               # %else.2.i.i.i.i.i
                                         #   in Loop: Header=BB53_7 Depth=1
-	movupd	(%rcx,%r8,8), %xmm7
-	movsd	16(%rcx,%r8,8), %xmm6           # xmm6 = mem[0],zero
-	movsd	24(%rcx,%r8,8), %xmm8           # xmm8 = mem[0],zero
+	movupd	(%rcx,%rdi,8), %xmm7
+	movsd	16(%rcx,%rdi,8), %xmm6          # xmm6 = mem[0],zero
+	movsd	24(%rcx,%rdi,8), %xmm8          # xmm8 = mem[0],zero
 	testl	%ebp, %ebp
 	jne	.LBB53_13
 	jmp	.LBB53_19
@@ -16289,8 +16289,8 @@ senyolanda_draw_with_years:             # @senyolanda_draw_with_years
 	je	.LBB53_17
 # %bb.14:                               # %join.5.i21.i.i.i.i.preheader.new
                                         #   in Loop: Header=BB53_7 Depth=1
-	movl	%ebp, %edi
-	andl	$14, %edi
+	movl	%ebp, %r8d
+	andl	$14, %r8d
 	leaq	(%r9,%r9,4), %r13
 	leaq	(%rdx,%r13,8), %r13
 	.p2align	4
@@ -16307,7 +16307,7 @@ senyolanda_draw_with_years:             # @senyolanda_draw_with_years
 	addpd	%xmm8, %xmm7
 	addq	$10, %r11
 	addq	$80, %r13
-	addl	$-2, %edi
+	addl	$-2, %r8d
 	jne	.LBB53_15
 # %bb.16:                               # %loop.2.after.1_crit_edge.i.i.i.i.i.unr-lcssa
                                         #   in Loop: Header=BB53_7 Depth=1
