@@ -22,7 +22,7 @@ use Rattle.bond.specs.declared.Bond.{Bond}
 use Rattle.bond.specs.declared.Frequency.the-variants.{Annual}
 use Rattle.bond.specs.Bonds.{periodCoupon, periods, badMaturity}
 use Rattle.bond.specs.Price.{periodRate, undiscounted, discount, discounted, priceOf, price}
-use Rattle.yield_curve.specs.Segments.{segmentEnding, flatOutside}
+use Rattle.curves.specs.Segments.{segmentEnding, flatOutside}
 use Rattle.swaps.specs.Discount.{share, alongZeros, zeroRateOf, rateAt}
 use Rattle.pool.specs.declared.speed.Speed.the-variants.{History}
 use Rattle.pool.specs.Speed.{smm}

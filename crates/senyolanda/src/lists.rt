@@ -1,6 +1,6 @@
 // Many times asked of one curve: the curve is tested once, and each time of the list gives way to its answer.
 ghost use mathlib.Core.Path.{_≡_};
-ghost use Rattle.yield_curve.specs.Lists.{eachOutcome, eachAfter};
+ghost use Rattle.curves.specs.Lists.{eachOutcome, eachAfter};
 ghost use Rattle.yield_curve.specs.Linear.{yieldOf};
 ghost use Rattle.yield_curve.specs.Linear.{discountOf as yieldDiscountOf};
 ghost use Rattle.swaps.specs.Discount.{zeroRateOf};

@@ -18,11 +18,11 @@ use Rattle.numbers.proofs.Zeros.{sub-itself}
 use Rattle.refusals.specs.Outcome.{accepted}
 use Rattle.refusals.proofs.Verdicts.{verdict}
 use Rattle.elementary.proofs.Unrounded.{nonzero, nonzero-between, nought, add-nought}
-use Rattle.yield_curve.specs.Segments.{knot, lastOf, Ends, endsOf}
-use Rattle.yield_curve.specs.Curve.{curveLines}
-use Rattle.yield_curve.proofs.AtKnots.{Floats, earlier, rate-finite, time-amount, segment-that-starts, at-an-inner-knot, at-the-first-knot, at-the-last-knot}
-use Rattle.yield_curve.proofs.Listing.{same-length}
-use Rattle.yield_curve.proofs.Noughts.{minus, zero-or-not, add-noughts, times-nought, no-product, nought-over-plus, plus-between, minus-is-below, nothing-below, same-number}
+use Rattle.curves.specs.Segments.{knot, lastOf, Ends, endsOf}
+use Rattle.curves.specs.Curve.{curveLines}
+use Rattle.curves.proofs.AtKnots.{Floats, earlier, rate-finite, time-amount, segment-that-starts, at-an-inner-knot, at-the-first-knot, at-the-last-knot}
+use Rattle.curves.proofs.Listing.{same-length}
+use Rattle.curves.proofs.Noughts.{minus, zero-or-not, add-noughts, times-nought, no-product, nought-over-plus, plus-between, minus-is-below, nothing-below, same-number}
 use Rattle.spread_analytics.specs.Curves.{alongRates, rateOf}
 
 -- ---- x less a zero: a finite number, with a minus where it is below 0, if the zero is -0

@@ -10,8 +10,8 @@ use lib.Ieee.{Float, nan, binary64, neg, add, mul}
 use Rattle.numbers.specs.Clamps.{plusZero}
 use Rattle.numbers.specs.Sums.{addedUp}
 use Rattle.elementary.specs.Exp.{exp}
-use Rattle.yield_curve.specs.Segments.{knot}
-use Rattle.yield_curve.proofs.Adding.{one-more}
+use Rattle.curves.specs.Segments.{knot}
+use Rattle.curves.proofs.Adding.{one-more}
 use Rattle.spread_analytics.specs.Curves.{rateOf}
 use Rattle.spread_analytics.specs.Spread.{factorOf}
 

@@ -10,8 +10,8 @@ use Rattle.numbers.specs.Whole.{largest}
 use Rattle.refusals.specs.Outcome.{refused, line, Lowest, ExactlyWhen, above}
 use Rattle.refusals.specs.Table.{badTime, badNumber}
 use Rattle.refusals.proofs.Judging.{exactly}
-use Rattle.yield_curve.specs.Curve.{curveLines, askedLines}
-use Rattle.yield_curve.specs.Lists.{eachLines, eachOutcome}
+use Rattle.curves.specs.Curve.{curveLines, askedLines}
+use Rattle.curves.specs.Lists.{eachLines, eachOutcome}
 use Rattle.yield_curve.proofs.Exactly as of-a-curve
 use Rattle.spread_analytics.specs.Curves.{rateAt, discountFactor, forwardRate}
 use Rattle.spread_analytics.specs.Flows.{flowLines, bondCashFlows}

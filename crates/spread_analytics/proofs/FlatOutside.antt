@@ -3,8 +3,8 @@ use mathlib.Core.Path.{_≡_, refl, sym}
 use mathlib.Core.Bool.{true, false}
 use mathlib.Core.List.{List}
 use lib.Ieee.{Float, le}
-use Rattle.yield_curve.specs.Segments.{knot, lastOf}
-use Rattle.yield_curve.proofs.Flat.{before-first, past-last}
+use Rattle.curves.specs.Segments.{knot, lastOf}
+use Rattle.curves.proofs.Flat.{before-first, past-last}
 use Rattle.spread_analytics.specs.Curves.{rateOf}
 
 module _ (tenors rates : List Float) (t : Float) where

@@ -11,8 +11,8 @@ use Rattle.numbers.specs.Sizes.{absolute}
 use Rattle.numbers.specs.Sums.{addedUp}
 use Rattle.numbers.proofs.Sums.{same-added}
 use Rattle.elementary.specs.Exp.{exp}
-use Rattle.yield_curve.specs.Segments.{knot}
-use Rattle.yield_curve.proofs.Filling.{Holds}
+use Rattle.curves.specs.Segments.{knot}
+use Rattle.curves.proofs.Filling.{Holds}
 use Rattle.spread_analytics.specs.Units.{asDecimal}
 use Rattle.spread_analytics.specs.Curves.{rateOf}
 use Rattle.spread_analytics.specs.Spread.{factorOf, worthOf, durationOf, convexityOf, sensitivityOf}

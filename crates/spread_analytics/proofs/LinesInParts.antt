@@ -5,7 +5,7 @@ use mathlib.Core.List.{List, [], _∷_, _++_}
 use lib.Ieee.{Float}
 use Rattle.refusals.specs.Outcome.{Outcome, line}
 use Rattle.refusals.proofs.Verdicts.{verdict}
-use Rattle.yield_curve.specs.Curve.{curveLines}
+use Rattle.curves.specs.Curve.{curveLines}
 
 -- what is asked of a curve, told by a test of its own
 pub by-cause : (tenors rates : List Float) {told bad : Bool} {o : Outcome Unit} → told ≡ bad

@@ -14,8 +14,8 @@ use Rattle.refusals.specs.Outcome.{Outcome, refused, accepted, Line, alone}
 use Rattle.refusals.specs.Table.{unequal, tooManyFlows, badTime, badNumber}
 use Rattle.refusals.proofs.Judging.{none-is, passed}
 use Rattle.refusals.proofs.Verdicts.{verdict}
-use Rattle.yield_curve.specs.Curve.{curveLines}
-use Rattle.yield_curve.proofs.CurveLines.{caused}
+use Rattle.curves.specs.Curve.{curveLines}
+use Rattle.curves.proofs.CurveLines.{caused}
 use Rattle.spread_analytics.specs.Spread.{spreadLines}
 use Rattle.spread_analytics.proofs.ItemLine.{itemLine}
 

@@ -10,7 +10,7 @@ use borrow.Author.Tests.{lt-ltb}
 use Rattle.refusals.specs.Outcome.{Outcome, refused, Line, firstOr, judged}
 use Rattle.refusals.specs.Table.{tooManyFlows}
 use Rattle.refusals.proofs.Judging.{followed, judged-in-parts}
-use Rattle.yield_curve.specs.Curve.{curveLines}
+use Rattle.curves.specs.Curve.{curveLines}
 use Rattle.spread_analytics.specs.Spread.{spreadLines}
 use Rattle.spread_analytics.proofs.SpreadVerdict.{timesLine, amountsLine, equal}
 

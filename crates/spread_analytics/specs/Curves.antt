@@ -1,7 +1,7 @@
 -- The two rate curves of spreads. Definitions only. Assumes nothing.
 use mathlib.Core.Bool.{cond, _||_}
 use mathlib.Core.List.{List, [], _∷_, _++_}
-use lib.Ieee.{Float, binary64, neg, add, sub, mul, div, lt, le}
+use lib.Ieee.{Float, binary64, neg, sub, mul, div, lt, le}
 use Rattle.numbers.specs.Literals.{tiny}
 use Rattle.numbers.specs.Clamps.{plusZero}
 use Rattle.numbers.specs.Sizes.{absolute}
@@ -9,15 +9,11 @@ use Rattle.refusals.specs.Outcome.{Outcome, line, judged}
 use Rattle.refusals.specs.Table.{badTime}
 use Rattle.elementary.specs.Exp.{exp}
 use Rattle.elementary.specs.Ln.{ln}
-use Rattle.yield_curve.specs.Segments.{segmentStarting, flatOutside, Ends, endsOf}
-use Rattle.yield_curve.specs.Curve.{curveLines, askedLines}
+use Rattle.curves.specs.Segments.{segmentStarting, flatOutside, endsOf}
+use Rattle.curves.specs.Curve.{curveLines, askedLines}
+use Rattle.curves.specs.Formulas.{alongRates}
 
--- "r0 + (r1-r0)·(t-t0)/(t1-t0), left to right"
-unfoldable pub alongRates : Ends → Float → Float
-alongRates e t =
-    add binary64 (e .r0) (div binary64 (mul binary64 (sub binary64 (e .r1) (e .r0)) (sub binary64 t (e .t0))) (sub binary64 (e .t1) (e .t0)))
-
--- the segment that starts at an inner knot serves it; both curves read alike
+-- flat outside, and between the knots "r0 + (r1-r0)·(t-t0)/(t1-t0), left to right" along the segment that starts at an inner knot; both curves read alike
 unfoldable pub rateOf : List Float → List Float → Float → Float
 rateOf tenors rates t = flatOutside tenors rates t (alongRates (endsOf tenors rates (segmentStarting tenors t)) t)
 

@@ -11,7 +11,7 @@ use Rattle.numbers.specs.Sums.{addedUp}
 use Rattle.refusals.specs.Outcome.{Outcome, refused, accepted, Line, line, alone, judged}
 use Rattle.refusals.specs.Table.{unequal, badKnotCount, badKnots, badTime, tooManyFlows, badNumber}
 use Rattle.elementary.specs.Exp.{exp}
-use Rattle.yield_curve.specs.Segments.{knot}
+use Rattle.curves.specs.Segments.{knot}
 use Rattle.spread_analytics.specs.declared.spread.Sensitivity.{Sensitivity}
 use Rattle.spread_analytics.specs.declared.spread.SensitivityAnswer.{SensitivityAnswer}
 use Rattle.spread_analytics.specs.declared.spread.SensitivityAnswer.the-variants as sensitivity-is

@@ -54,7 +54,7 @@ fn refused_for_count(tenors: &[f64], rates: &[f64]) -> Refusal
     ensures { λ r. ⌜ ((times amounts : List Float) (bad : Bool) → length times ≡ length amounts → 1200 < length times
         → _≡_ {A = Outcome Unit} (refused (r .number) (r .place)) (judged (spreadLines times amounts (now (tenors .entry)) (now (rates .entry)) bad) tt)) ⌝ }
 {
-    match yield_curve::curve::judge_curve(tenors, rates) {
+    match curves::curve::judge_curve(tenors, rates) {
         Verdict::Refused(refusal) => refusal,
         Verdict::Accepted => refusals::refuse(7),
     }

@@ -54,7 +54,7 @@ fn flow_coupon(face: f64, coupon: f64, frequency: u32) -> f64
 fn bad_flows(tenor: f64, count: u32) -> bool
     ensures { λ r. ⌜ r ≡ (badTime tenor || tooManyPeriods count) ⌝ }
 {
-    if yield_curve::curve::bad_time(tenor) {
+    if curves::curve::bad_time(tenor) {
         return true;
     }
     count > 1200

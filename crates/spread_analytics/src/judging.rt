@@ -57,7 +57,7 @@ pub(crate) fn judge_spread(
     if times.len() != amounts.len() {
         return Verdict::Refused(refuse(4));
     }
-    match yield_curve::curve::judge_curve(tenors, rates) {
+    match curves::curve::judge_curve(tenors, rates) {
         Verdict::Refused(refusal) => Verdict::Refused(refusal),
         Verdict::Accepted => judge_flows(times, amounts, bad),
     }

@@ -10,7 +10,7 @@ ghost use Rattle.numbers.specs.Sizes.{absolute};
 ghost use Rattle.numbers.specs.Sums.{addedUp};
 ghost use Rattle.refusals.specs.Outcome.{accepted};
 ghost use Rattle.refusals.specs.Answers.{numberOutcome};
-ghost use Rattle.yield_curve.specs.Segments.{knot};
+ghost use Rattle.curves.specs.Segments.{knot, Rising};
 ghost use Rattle.spread_analytics.specs.Units.{asDecimal};
 ghost use Rattle.spread_analytics.specs.Curves.{rateOf};
 ghost use Rattle.spread_analytics.specs.Spread.{worthOf, pvCashFlows, errorAt, spreadWithin, spreadOf, zSpread, spreadOutcome};
@@ -64,7 +64,7 @@ fn worth_of(
     rates: &[f64],
     spread: BasisPoints,
 ) -> f64
-    requires { ⌜ length (now times) ≡ length (now amounts) ⌝ }
+    requires { ⌜ (length (now times) ≡ length (now amounts)) × Rising (now tenors) ⌝ }
     ensures { λ r. ⌜ r ≡ worthOf (now (times .entry)) (now (amounts .entry)) (now (tenors .entry)) (now (rates .entry)) (spread .0) ⌝ }
 {
     let s = to_decimal(spread);
@@ -164,7 +164,7 @@ fn spread_of(
     rates: &[f64],
     market: f64,
 ) -> SpreadAnswer
-    requires { ⌜ (length (now times) ≡ length (now amounts)) × (length (now times) ≤ 1200) ⌝ }
+    requires { ⌜ (length (now times) ≡ length (now amounts)) × (length (now times) ≤ 1200) × Rising (now tenors) ⌝ }
     ensures { λ r. ⌜ spreadOutcome r ≡ accepted (spreadOf (now (times .entry)) (now (amounts .entry)) (now (tenors .entry)) (now (rates .entry)) market) ⌝ }
 {
     let mut kept = [0.0; 1200];
@@ -216,7 +216,7 @@ fn sums_over(
     rates: &[f64],
     spread: BasisPoints,
 ) -> Sums
-    requires { ⌜ length (now times) ≡ length (now amounts) ⌝ }
+    requires { ⌜ (length (now times) ≡ length (now amounts)) × Rising (now tenors) ⌝ }
     ensures { λ s. ⌜ s .worth ≡ worthOf (now (times .entry)) (now (amounts .entry)) (now (tenors .entry)) (now (rates .entry)) (spread .0) ⌝ }
     ensures { λ s. ⌜ s .timed ≡ addedUp (λ (i : ℕ). mul binary64 (mul binary64 (knot (now (times .entry)) i) (knot (now (amounts .entry)) i)) (factorOf (now (times .entry)) (now (amounts .entry)) (now (tenors .entry)) (now (rates .entry)) (asDecimal (spread .0)) i)) (length (now (times .entry))) ⌝ }
     ensures { λ s. ⌜ s .squared ≡ addedUp (λ (i : ℕ). mul binary64 (mul binary64 (mul binary64 (knot (now (times .entry)) i) (knot (now (times .entry)) i)) (knot (now (amounts .entry)) i)) (factorOf (now (times .entry)) (now (amounts .entry)) (now (tenors .entry)) (now (rates .entry)) (asDecimal (spread .0)) i)) (length (now (times .entry))) ⌝ }
@@ -245,7 +245,7 @@ fn sensitivity_of(
     rates: &[f64],
     spread: BasisPoints,
 ) -> Sensitivity
-    requires { ⌜ length (now times) ≡ length (now amounts) ⌝ }
+    requires { ⌜ (length (now times) ≡ length (now amounts)) × Rising (now tenors) ⌝ }
     ensures { λ r. ⌜ r ≡ sensitivityOf (now (times .entry)) (now (amounts .entry)) (now (tenors .entry)) (now (rates .entry)) (spread .0) ⌝ }
 {
     let sums = sums_over(times, amounts, tenors, rates, spread);

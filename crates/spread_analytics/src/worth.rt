@@ -1,29 +1,48 @@
 // What cash flows are worth over a curve and a spread: the curve's rates at the flows' times, their factors, and sums over them.
 ghost use mathlib.Core.Path.{_≡_};
 ghost use mathlib.Core.List.{List};
-ghost use Prim.Native.Nat.{ℕ, _+_, _<_, _≤_};
+ghost use Prim.Native.Nat.{ℕ, _+_, _%_, _<_, _≤_};
 ghost use lib.ListN.{length};
 ghost use lib.Ieee.{Float, binary64, neg, add, mul};
 ghost use Rattle.numbers.specs.Sums.{addedUp};
 ghost use Rattle.elementary.specs.Exp.{exp};
-ghost use Rattle.yield_curve.specs.Segments.{knot};
+ghost use Rattle.curves.specs.Segments.{knot, Rising};
 ghost use Rattle.spread_analytics.specs.Curves.{rateOf};
 ghost use Rattle.spread_analytics.specs.Spread.{worthOf};
 use crate::units::BasisPoints;
 use crate::units::DecimalRate;
 use crate::units::to_decimal;
+use curves::kinds::Kind;
 use elementary::exp::exp_each;
 
-// The curve's rates at the flows' times, kept so that they are looked up once.
-pub(crate) fn keep_rates(times: &[f64], tenors: &[f64], rates: &[f64], kept: &mut [f64])
-    requires { ⌜ length (now times) ≤ length (now kept) ⌝ }
-    ensures { λ _. ⌜ ((i : ℕ) → i < length (now (times .entry)) → knot (now (kept .exit)) i ≡ rateOf (now (tenors .entry)) (now (rates .entry)) (knot (now (times .entry)) i)) ⌝ }
+// How many places so many times take in whole eights.
+fn whole_eights(count: usize, room: usize) -> usize
+    requires { ⌜ (count ≤ room) × (room % 8 ≡ 0) ⌝ }
+    ensures { λ r. ⌜ (count ≤ r) × (r ≤ room) ⌝ }
+{
+    (count + 7) / 8 * 8
+}
+
+// The flows' times, in the first places of a room.
+fn copy_times(times: &[f64], room: &mut [f64])
+    requires { ⌜ length (now times) ≤ length (now room) ⌝ }
+    ensures { λ _. ⌜ ((i : ℕ) → i < length (now (times .entry)) → knot (now (room .exit)) i ≡ knot (now (times .entry)) i) ⌝ }
 {
     let mut i: usize = 0;
     while i < times.len() {
-        kept[i] = crate::curves::rate_of(tenors, rates, times[i]);
+        room[i] = times[i];
         i += 1;
     }
+}
+
+// The curve's rates at the flows' times, kept so that they are looked up once; the places up to a whole eight are looked up too.
+pub(crate) fn keep_rates(times: &[f64], tenors: &[f64], rates: &[f64], kept: &mut [f64])
+    requires { ⌜ (length (now times) ≤ length (now kept)) × (length (now kept) % 8 ≡ 0) × Rising (now tenors) ⌝ }
+    ensures { λ _. ⌜ ((i : ℕ) → i < length (now (times .entry)) → knot (now (kept .exit)) i ≡ rateOf (now (tenors .entry)) (now (rates .entry)) (knot (now (times .entry)) i)) ⌝ }
+{
+    copy_times(times, kept);
+    let eights = whole_eights(times.len(), kept.len());
+    curves::each::rates_of(Kind::SpreadCurve, tenors, rates, &mut kept[..eights]);
 }
 
 // What the factors are the exps of: the rate and the spread, negated, times the time.
@@ -55,7 +74,7 @@ pub(crate) fn factors_of(
     rates: &[f64],
     spread: DecimalRate,
 ) -> [f64; 64]
-    requires { ⌜ length (now times) ≤ 64 ⌝ }
+    requires { ⌜ (length (now times) ≤ 64) × Rising (now tenors) ⌝ }
     ensures { λ r. ⌜ (length r ≡ 64) × ((i : ℕ) → i < length (now (times .entry)) → knot r i ≡ exp (mul binary64 (neg (add binary64 (rateOf (now (tenors .entry)) (now (rates .entry)) (knot (now (times .entry)) i)) (spread .0))) (knot (now (times .entry)) i))) ⌝ }
 {
     let mut kept = [0.0; 64];

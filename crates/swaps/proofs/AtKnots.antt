@@ -15,10 +15,10 @@ use Rattle.refusals.specs.Outcome.{accepted}
 use Rattle.refusals.proofs.Verdicts.{verdict}
 use Rattle.numbers.specs.Literals.{one}
 use Rattle.elementary.proofs.Unrounded.{nonzero, nonzero-between, nonzero-finite, nought, nought-add, mul-one, div-itself}
-use Rattle.yield_curve.specs.Segments.{knot, lastOf, Ends, endsOf}
-use Rattle.yield_curve.specs.Curve.{curveLines}
-use Rattle.yield_curve.proofs.AtKnots.{Floats, earlier, rate-finite, time-amount, segment-that-ends, at-an-inner-knot, at-the-first-knot, at-the-last-knot}
-use Rattle.yield_curve.proofs.Noughts.{minus, add-noughts, times-nought, same-number}
+use Rattle.curves.specs.Segments.{knot, lastOf, Ends, endsOf}
+use Rattle.curves.specs.Curve.{curveLines}
+use Rattle.curves.proofs.AtKnots.{Floats, earlier, rate-finite, time-amount, segment-that-ends, at-an-inner-knot, at-the-first-knot, at-the-last-knot}
+use Rattle.curves.proofs.Noughts.{minus, add-noughts, times-nought, same-number}
 use Rattle.swaps.specs.Discount.{share, alongZeros, zeroRateOf}
 
 -- ---- a segment at its end, where w is 1: the rate before it counts for a zero

@@ -9,7 +9,7 @@ use lib.ListN.{getD}
 use lib.Ieee.{Float, nan, binary64, round, neg, add, sub, mul, lt, ofBits}
 use Rattle.numbers.specs.Literals.{one, two, five, minusOne, half, tenToMinus16}
 use Rattle.numbers.specs.Clamps.{plusZero}
-use Rattle.yield_curve.proofs.Choices.{by-first, by-second}
+use Rattle.curves.proofs.Choices.{by-first, by-second}
 use Rattle.swaps.specs.inner.Knots.{withRate}
 use Rattle.swaps.proofs.Thirds.{lower, upper, ends-are}
 use Rattle.swaps.specs.Bootstrap.{parError, middle, lowerEnd, upperEnd, bisected, noChange, solvedOr}

@@ -16,7 +16,7 @@ use Rattle.numbers.specs.Sums.{addedUp}
 use Rattle.numbers.proofs.Sums.{same-added}
 use Rattle.numbers.proofs.Comparing.{clash, compared-itself}
 use Rattle.elementary.proofs.Unrounded.{mul-one}
-use Rattle.yield_curve.specs.Segments.{knot, lastOf}
+use Rattle.curves.specs.Segments.{knot, lastOf}
 use Rattle.swaps.specs.Discount.{discountOf}
 use Rattle.swaps.specs.Bootstrap.{date, couponAt}
 use Rattle.swaps.specs.inner.Knots.{withRate, WholeTo, SettledTo}

@@ -9,7 +9,7 @@ use Rattle.numbers.proofs.Zeros.{plus-zero}
 use Rattle.elementary.specs.Exp.{exp}
 use Rattle.elementary.proofs.Laws.{exp-of-zero}
 use Rattle.elementary.proofs.PartWay.{map-alike}
-use Rattle.yield_curve.proofs.Listing.{map-twice}
+use Rattle.curves.proofs.Listing.{map-twice}
 use Rattle.swaps.specs.Discount.{zeroRateOf, discountOf}
 use Rattle.swaps.specs.inner.DiscountEach.{zeroOrExponent}
 

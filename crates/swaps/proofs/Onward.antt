@@ -9,8 +9,8 @@ use lib.ListN.{length, getD}
 use lib.Ieee.{Float, nan, le}
 use borrow.Author.Count.{below-more}
 use Rattle.numbers.proofs.Comparing.{still-beyond}
-use Rattle.yield_curve.specs.Segments.{segmentEnding, knot}
-use Rattle.yield_curve.proofs.Serving.{Reached, ending, found, onward, ended}
+use Rattle.curves.specs.Segments.{segmentEnding, knot}
+use Rattle.curves.proofs.Serving.{Reached, ending, found, onward, ended}
 use Rattle.swaps.specs.inner.Runs.{Beyond}
 
 module _ (tenors : List Float) (t : Float) where

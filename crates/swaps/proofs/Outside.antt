@@ -5,9 +5,9 @@ use mathlib.Core.List.{List}
 use lib.Ieee.{Float, le}
 use Rattle.numbers.specs.Literals.{one}
 use Rattle.numbers.specs.Clamps.{plusZero}
-use Rattle.yield_curve.specs.Segments.{knot, lastOf}
-use Rattle.yield_curve.proofs.Choices.{taken}
-use Rattle.yield_curve.proofs.Flat.{before-first, past-last}
+use Rattle.curves.specs.Segments.{knot, lastOf}
+use Rattle.curves.proofs.Choices.{taken}
+use Rattle.curves.proofs.Flat.{before-first, past-last}
 use Rattle.swaps.specs.Discount.{zeroRateOf, discountOf}
 
 module _ (tenors zeros : List Float) (t : Float) where

@@ -13,8 +13,8 @@ use Rattle.refusals.specs.Outcome.{Outcome, refused, accepted, Line, firstOr, j
 use Rattle.refusals.specs.Table.{unequal, badKnotCount, badKnot, badKnotsAfter, badKnots, badTenor}
 use Rattle.refusals.proofs.Judging.{none-is, passed}
 use Rattle.refusals.proofs.Verdicts.{verdict}
-use Rattle.yield_curve.proofs.CurveLines.{caused, clear, at-most-120}
-use Rattle.yield_curve.proofs.KnotLine.{after-all}
+use Rattle.curves.proofs.CurveLines.{caused, clear, at-most-120}
+use Rattle.curves.proofs.KnotLine.{after-all}
 use Rattle.swaps.specs.Bootstrap.{eitherOf, parLines}
 
 -- the line of the knots and tenors

@@ -8,7 +8,7 @@ use lib.Ieee.{Float, binary64, add, sub, mul, div, ofInt}
 use Rattle.numbers.specs.Literals.{one}
 use Rattle.numbers.specs.Clamps.{plusZero}
 use Rattle.numbers.specs.Sums.{addedUp}
-use Rattle.yield_curve.proofs.Adding.{one-more}
+use Rattle.curves.proofs.Adding.{one-more}
 use Rattle.swaps.specs.declared.Swap.{Swap}
 use Rattle.swaps.specs.declared.legs.PaymentSums.{PaymentSums}
 use Rattle.swaps.specs.Swap.{period, fraction, payDate}

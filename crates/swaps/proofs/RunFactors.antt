@@ -12,7 +12,7 @@ use Rattle.numbers.specs.Clamps.{plusZero}
 use Rattle.elementary.specs.Exp.{exp}
 use Rattle.elementary.proofs.Laws.{exp-of-zero}
 use Rattle.numbers.proofs.Mapped.{map-at}
-use Rattle.yield_curve.specs.Segments.{knot}
+use Rattle.curves.specs.Segments.{knot}
 use Rattle.swaps.specs.Discount.{zeroRateOf, discountOf}
 use Rattle.swaps.specs.inner.Runs.{exponentAt, exponentOf, dateAfter, FactorsAfter}
 

@@ -9,7 +9,7 @@ use lib.Seq.{length-take-le, take-suc-set, take-length, getD-take}
 use lib.Ieee.{Float, binary64, nan, add}
 use Rattle.numbers.specs.Literals.{one}
 use Rattle.elementary.specs.Ln.{ln}
-use Rattle.yield_curve.specs.Segments.{knot, lastOf}
+use Rattle.curves.specs.Segments.{knot, lastOf}
 use Rattle.swaps.specs.Bootstrap.{parError, solvedOr, nextZero, zerosUpTo}
 
 last-taken : (tenors : List Float) (i : ℕ) → i < length tenors → lastOf (take (suc i) tenors) ≡ knot tenors i

@@ -6,7 +6,7 @@ use lib.ListN.{length, replicate}
 use lib.Ieee.{Float, binary64, add, sub, mul}
 use Rattle.numbers.specs.Literals.{one}
 use Rattle.elementary.proofs.PartWay.{copies, map-alike}
-use Rattle.yield_curve.proofs.Adding.{one-more}
+use Rattle.curves.proofs.Adding.{one-more}
 use Rattle.swaps.specs.declared.knots.Knot.{Knot}
 use Rattle.swaps.specs.Bootstrap.{dates, couponAt, parError}
 use Rattle.swaps.specs.inner.Knots.{withRate, lastAt, sumTo, errorOf, Ready, EachOf}

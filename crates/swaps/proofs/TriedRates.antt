@@ -10,8 +10,8 @@ use lib.Seq.{getD-append-seam}
 use lib.Ieee.{Float, nan, le}
 use Rattle.elementary.specs.Exp.{exp}
 use Rattle.elementary.proofs.PartWay.{copies, map-alike, map-same}
-use Rattle.yield_curve.specs.Segments.{segmentEnding, knot, lastOf, flatOutside, Ends, endsOf}
-use Rattle.yield_curve.proofs.Flat.{before-first, past-last, inside, ends-are}
+use Rattle.curves.specs.Segments.{segmentEnding, knot, lastOf, flatOutside, Ends, endsOf}
+use Rattle.curves.proofs.Flat.{before-first, past-last, inside, ends-are}
 use Rattle.swaps.specs.inner.Knots.{withRate}
 use Rattle.swaps.specs.Discount.{alongZeros, zeroRateOf, discountOf}
 use Rattle.swaps.specs.inner.Runs.{exponentAt}

@@ -13,7 +13,7 @@ use Rattle.refusals.specs.Outcome.{accepted}
 use Rattle.refusals.specs.Table.{unequal}
 use Rattle.refusals.proofs.Judging.{none-is, passed}
 use Rattle.refusals.proofs.Verdicts.{verdict}
-use Rattle.yield_curve.proofs.CurveLines.{at-most-120}
+use Rattle.curves.proofs.CurveLines.{at-most-120}
 use Rattle.swaps.specs.declared.Swap.{Swap}
 use Rattle.swaps.specs.Discount.{zeroRateOf}
 use Rattle.swaps.specs.Swap.{perYear, swapLines}

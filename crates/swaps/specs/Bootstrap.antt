@@ -12,7 +12,7 @@ use Rattle.numbers.specs.Sums.{addedUp}
 use Rattle.refusals.specs.Outcome.{Outcome, Line, line, judged}
 use Rattle.refusals.specs.Table.{unequal, badKnotCount, badKnots, badTenor}
 use Rattle.elementary.specs.Ln.{ln}
-use Rattle.yield_curve.specs.Segments.{knot}
+use Rattle.curves.specs.Segments.{knot}
 use Rattle.swaps.specs.Discount.{discountOf}
 
 -- the annual dates of a swap of tenor T: 1, 2, .. lowered to T, and 0 before the first

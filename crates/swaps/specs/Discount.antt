@@ -1,21 +1,16 @@
 -- The discount curve: its zero rate and its discount factor at a time. Definitions only. Assumes nothing.
 use mathlib.Core.Bool.{cond}
 use mathlib.Core.List.{List}
-use lib.Ieee.{Float, binary64, neg, add, sub, mul, div, le}
+use lib.Ieee.{Float, binary64, neg, mul, le}
 use Rattle.numbers.specs.Literals.{one}
 use Rattle.numbers.specs.Clamps.{plusZero}
 use Rattle.refusals.specs.Outcome.{Outcome, judged}
 use Rattle.elementary.specs.Exp.{exp}
-use Rattle.yield_curve.specs.Segments.{segmentEnding, flatOutside, Ends, endsOf}
-use Rattle.yield_curve.specs.Curve.{askedLines}
+use Rattle.curves.specs.Segments.{segmentEnding, flatOutside, endsOf}
+use Rattle.curves.specs.Curve.{askedLines}
+use Rattle.curves.specs.Formulas.{alongZeros}
 
--- "DiscountCurve z0·(1-w) + z1·w", w = (t-t0)/(t1-t0)
-unfoldable pub share : Ends → Float → Float
-share e t = div binary64 (sub binary64 t (e .t0)) (sub binary64 (e .t1) (e .t0))
-
-unfoldable pub alongZeros : Ends → Float → Float
-alongZeros e t = add binary64 (mul binary64 (e .r0) (sub binary64 one (share e t))) (mul binary64 (e .r1) (share e t))
-
+-- flat outside, and between the knots "DiscountCurve z0·(1-w) + z1·w" along the segment that ends at an inner knot
 unfoldable pub zeroRateOf : List Float → List Float → Float → Float
 zeroRateOf tenors zeros t = flatOutside tenors zeros t (alongZeros (endsOf tenors zeros (segmentEnding tenors t)) t)
 

@@ -8,7 +8,7 @@ use Rattle.numbers.specs.Literals.{one, threeHundredSixtyFive}
 use Rattle.numbers.specs.Whole.{nearestWhole}
 use Rattle.refusals.specs.Outcome.{Line, line}
 use Rattle.refusals.specs.Table.{badAmount, badTime, tooManyPeriods, badFrequency, badNumber}
-use Rattle.yield_curve.specs.Curve.{curveLines}
+use Rattle.curves.specs.Curve.{curveLines}
 use Rattle.swaps.specs.declared.Swap.{Swap}
 use Rattle.swaps.specs.DayCounts.{dayFraction}
 

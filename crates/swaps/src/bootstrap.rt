@@ -8,16 +8,17 @@ ghost use lib.Ieee.{lt};
 ghost use Rattle.refusals.specs.Outcome.{refused, accepted, judged};
 ghost use Rattle.refusals.specs.Answers.{verdictOutcome};
 ghost use Rattle.refusals.specs.Table.{badKnot, badKnots, badTenor};
+ghost use Rattle.curves.specs.Segments.{Rising};
 ghost use Rattle.swaps.specs.Bootstrap.{zerosUpTo, eitherOf, parLines};
 ghost use Rattle.swaps.specs.Bootstrapped.{curveOf, bootstrapped};
 use crate::knots::next_zero;
 use crate::rooms::empty_room;
+use curves::curve::bad_knot_after;
+use curves::curve::bad_knot_count;
 use numbers::sizes::infinity;
 use refusals::Refusal;
 use refusals::Verdict;
 use refusals::refuse;
-use yield_curve::curve::bad_knot_after;
-use yield_curve::curve::bad_knot_count;
 
 // A discount curve with its knots in front; +0 beyond them.
 pub struct DiscountCurve {
@@ -87,7 +88,7 @@ fn judge_pars(tenors: &[f64], pars: &[f64]) -> Verdict
 
 // One knot at a time: its tenor into the room, and its zero rate from the tenors and rates that stand there.
 fn solve_knots(tenors: &[f64], pars: &[f64], times: &mut [f64], zeros: &mut [f64])
-    requires { ⌜ (length (now tenors) ≡ length (now pars)) × (length (now times) ≡ length (now tenors)) × (length (now zeros) ≡ length (now tenors)) ⌝ }
+    requires { ⌜ (length (now tenors) ≡ length (now pars)) × (length (now times) ≡ length (now tenors)) × (length (now zeros) ≡ length (now tenors)) × Rising (now tenors) ⌝ }
     ensures { λ _. ⌜ now (times .exit) ≡ now (tenors .entry) ⌝ }
     ensures { λ _. ⌜ now (zeros .exit) ≡ zerosUpTo (now (tenors .entry)) (now (pars .entry)) (length (now (tenors .entry))) ⌝ }
 {
@@ -113,7 +114,7 @@ fn no_curve() -> DiscountCurve
 
 // The curve of lists that are accepted.
 fn solved_curve(tenors: &[f64], pars: &[f64]) -> DiscountCurve
-    requires { ⌜ (length (now tenors) ≡ length (now pars)) × (length (now tenors) ≤ 120) ⌝ }
+    requires { ⌜ (length (now tenors) ≡ length (now pars)) × (length (now tenors) ≤ 120) × Rising (now tenors) ⌝ }
     ensures { λ r. ⌜ r ≡ curveOf (now (tenors .entry)) (accepted (zerosUpTo (now (tenors .entry)) (now (pars .entry)) (length (now (tenors .entry))))) ⌝ }
 {
     let knots = tenors.len();

@@ -15,7 +15,7 @@ use refusals::refuse;
 fn bad_tenor(swap: Swap) -> bool
     ensures { λ r. ⌜ r ≡ (badTime (swap .tenor) || tooManyPeriods (payments swap)) ⌝ }
 {
-    if yield_curve::curve::bad_time(swap.tenor) {
+    if curves::curve::bad_time(swap.tenor) {
         return true;
     }
     payments(swap) > 1200
@@ -54,7 +54,7 @@ pub fn judge_swap(swap: Swap, tenors: &[f64], zeros: &[f64]) -> Verdict
     if refusals::bad_amount(swap.notional) {
         return Verdict::Refused(refuse(1));
     }
-    match yield_curve::curve::judge_curve(tenors, zeros) {
+    match curves::curve::judge_curve(tenors, zeros) {
         Verdict::Refused(refusal) => Verdict::Refused(refusal),
         Verdict::Accepted => judge_terms(swap),
     }

@@ -10,12 +10,14 @@ ghost use Rattle.numbers.specs.Literals.{one};
 ghost use Rattle.numbers.specs.Clamps.{plusZero};
 ghost use Rattle.numbers.specs.Sums.{addedUp};
 ghost use Rattle.elementary.specs.Ln.{ln};
-ghost use Rattle.yield_curve.specs.Segments.{knot, lastOf};
+ghost use Rattle.curves.specs.Segments.{knot, lastOf, Rising};
 ghost use Rattle.swaps.specs.Bootstrap.{date, couponAt, parError, middle, bisected, solvedOr};
 ghost use Rattle.swaps.specs.inner.Runs.{FactorsAfter};
 ghost use Rattle.swaps.specs.inner.Knots.{withRate, WholeTo, SettledTo, lastAt, sumTo, errorOf, Ready, EachOf, forkOf};
-use crate::factors::factors_after;
 use crate::trials::discounts_with;
+use curves::kinds::Kind;
+use curves::runs::factors_after;
+use curves::segments::last_knot;
 use numbers::clamps::lower_to;
 
 // A knot before its rate is tried: its tenor and par rate, its annual dates, how many of them are settled, and the sum of the settled coupons.
@@ -99,16 +101,16 @@ fn add_coupon_run(
     first: u32,
     count: usize,
 ) -> f64
-    requires { ⌜ (count ≤ 64) × (first + count < 4294967296) × WholeTo tenor (first + count) × (sum ≡ addedUp (couponAt (now tenors) (now zeros) tenor par) first) ⌝ }
+    requires { ⌜ (count ≤ 64) × (first + count < 4294967296) × Rising (now tenors) × WholeTo tenor (first + count) × (sum ≡ addedUp (couponAt (now tenors) (now zeros) tenor par) first) ⌝ }
     ensures { λ r. ⌜ r ≡ addedUp (couponAt (now (tenors .entry)) (now (zeros .entry)) tenor par) (first + count) ⌝ }
 {
-    let factors = factors_after(1.0, tenors, zeros, first, count);
+    let factors = factors_after(Kind::DiscountCurve, 1.0, tenors, zeros, first, count);
     add_coupons(tenor, par, sum, first, &factors, count)
 }
 
 // The sum of the coupons at the first dates, all of them whole, 64 at a time.
 fn coupon_sum(tenors: &[f64], zeros: &[f64], tenor: f64, par: f64, count: u32) -> f64
-    requires { ⌜ WholeTo tenor count ⌝ }
+    requires { ⌜ Rising (now tenors) × WholeTo tenor count ⌝ }
     ensures { λ r. ⌜ r ≡ addedUp (couponAt (now (tenors .entry)) (now (zeros .entry)) tenor par) count ⌝ }
 {
     let mut sum = 0.0;
@@ -122,10 +124,10 @@ fn coupon_sum(tenors: &[f64], zeros: &[f64], tenor: f64, par: f64, count: u32) -
 
 // The last knot of the tenors, with its settled coupons added.
 fn last_of(tenors: &[f64], earlier: &[f64], par: f64) -> Knot
-    requires { ⌜ length (now tenors) ≡ length (now earlier) + 1 ⌝ }
+    requires { ⌜ (length (now tenors) ≡ length (now earlier) + 1) × Rising (now tenors) ⌝ }
     ensures { λ r. ⌜ (r .tenor ≡ lastOf (now (tenors .entry))) × (r .par ≡ par) × Ready (now (tenors .entry)) (now (earlier .entry)) r ⌝ }
 {
-    let tenor = yield_curve::segments::last_knot(tenors);
+    let tenor = last_knot(tenors);
     let dates = numbers::whole::ceiling_to_u32(tenor);
     let settled = settled_at(tenors, tenor, dates);
     let sum = coupon_sum(tenors, earlier, tenor, par, settled);
@@ -173,7 +175,7 @@ fn add_coupon(
     sums: &mut [f64],
     k: u32,
 )
-    requires { ⌜ (k < 4294967295) × (length rates ≡ 8) × (lasts ≡ map (lastAt (now tenors) (now earlier) knot) rates) × (now sums ≡ map (sumTo (now tenors) (now earlier) knot k) rates) ⌝ }
+    requires { ⌜ (k < 4294967295) × (length rates ≡ 8) × Rising (now tenors) × (lasts ≡ map (lastAt (now tenors) (now earlier) knot) rates) × (now sums ≡ map (sumTo (now tenors) (now earlier) knot k) rates) ⌝ }
     ensures { λ _. ⌜ now (sums .exit) ≡ map (sumTo (now (tenors .entry)) (now (earlier .entry)) knot (k + 1)) rates ⌝ }
 {
     let whole = (k + 1) as f64;
@@ -289,7 +291,7 @@ fn bisect(tenors: &[f64], earlier: &[f64], knot: Knot, start: Bracket) -> f64
 // The zero rate of the last of the tenors, beside those before it; no sign change gives ln(1+c).
 // The ends -1 and 5 are tried together with what the first two halvings may try.
 pub(crate) fn next_zero(tenors: &[f64], earlier: &[f64], par: f64) -> f64
-    requires { ⌜ length (now tenors) ≡ length (now earlier) + 1 ⌝ }
+    requires { ⌜ (length (now tenors) ≡ length (now earlier) + 1) × Rising (now tenors) ⌝ }
     ensures { λ r. ⌜ r ≡ solvedOr (λ (x : Float). parError (now (tenors .entry)) (withRate (now (earlier .entry)) x) (lastOf (now (tenors .entry))) par) (ln (add binary64 one par)) ⌝ }
 {
     let knot = last_of(tenors, earlier, par);

@@ -5,6 +5,7 @@ ghost use Prim.Native.Nat.{_+_, _<_, _≤_};
 ghost use lib.ListN.{length};
 ghost use lib.Ieee.{Float};
 ghost use Rattle.refusals.specs.Answers.{numberOutcome};
+ghost use Rattle.curves.specs.Segments.{Rising};
 ghost use Rattle.swaps.specs.Legs.{lastFactor, fixedLeg, floatingLeg, weightedSum};
 ghost use Rattle.swaps.specs.inner.LegSums.{annuity};
 ghost use Rattle.swaps.specs.inner.Runs.{FactorsAfter, Summed};
@@ -12,12 +13,13 @@ ghost use Rattle.swaps.specs.Swap.{payments, period};
 ghost use Rattle.swaps.specs.Valuation.{fixedLegPv, floatingLegPv};
 use crate::Swap;
 use crate::discount::discount_of;
-use crate::factors::factors_after;
 use crate::judging::judge_swap;
 use crate::periods::fixed_payment;
 use crate::periods::fraction;
 use crate::periods::payments;
 use crate::periods::period;
+use curves::kinds::Kind;
+use curves::runs::factors_after;
 use refusals::Number;
 use refusals::Verdict;
 
@@ -75,15 +77,23 @@ fn add_run(
     first: u32,
     count: usize,
 ) -> PaymentSums
-    requires { ⌜ (count ≤ 64) × (first + count < 4294967296) × Summed swap (now tenors) (now zeros) first sums ⌝ }
+    requires { ⌜ (count ≤ 64) × (first + count < 4294967296) × Rising (now tenors) × Summed swap (now tenors) (now zeros) first sums ⌝ }
     ensures { λ r. ⌜ Summed swap (now (tenors .entry)) (now (zeros .entry)) (first + count) r ⌝ }
 {
-    let factors = factors_after(period(swap), tenors, zeros, first, count);
+    let factors = factors_after(
+        Kind::DiscountCurve,
+        period(swap),
+        tenors,
+        zeros,
+        first,
+        count,
+    );
     add_payments(swap, sums, first, &factors, count)
 }
 
 // All payments, 64 at a time.
 fn payment_sums(swap: Swap, tenors: &[f64], zeros: &[f64]) -> PaymentSums
+    requires { ⌜ Rising (now tenors) ⌝ }
     ensures { λ r. ⌜ Summed swap (now (tenors .entry)) (now (zeros .entry)) (payments swap) r ⌝ }
 {
     let count = payments(swap);
@@ -111,8 +121,9 @@ pub struct Legs {
     pub last: f64,
 }
 
-// The legs, whatever the swap and the lists are.
+// The legs, whatever the swap and the zero rates are.
 pub(crate) fn legs_of(swap: Swap, tenors: &[f64], zeros: &[f64]) -> Legs
+    requires { ⌜ Rising (now tenors) ⌝ }
     ensures { λ r. ⌜ (r .fixed ≡ fixedLeg swap (now (tenors .entry)) (now (zeros .entry))) × (r .floating ≡ floatingLeg swap (now (tenors .entry)) (now (zeros .entry))) × (r .annuity ≡ annuity swap (now (tenors .entry)) (now (zeros .entry))) × (r .weighted ≡ weightedSum swap (now (tenors .entry)) (now (zeros .entry))) × (r .last ≡ lastFactor swap (now (tenors .entry)) (now (zeros .entry))) ⌝ }
 {
     let sums = payment_sums(swap, tenors, zeros);

@@ -3,7 +3,6 @@ pub mod bootstrap;
 pub mod day_counts;
 pub mod discount;
 pub mod discount_each;
-mod factors;
 pub mod judging;
 mod knots;
 pub mod legs;

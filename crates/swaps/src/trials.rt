@@ -3,17 +3,20 @@ ghost use mathlib.Core.Path.{_≡_};
 ghost use mathlib.Core.List.{map};
 ghost use Prim.Native.Nat.{suc};
 ghost use lib.ListN.{length};
-ghost use Rattle.yield_curve.specs.Segments.{knot};
-ghost use Rattle.swaps.specs.Discount.{alongZeros, zeroRateOf, discountOf};
+ghost use Rattle.curves.specs.Segments.{knot, Rising};
+ghost use Rattle.curves.specs.Formulas.{alongZeros};
+ghost use Rattle.swaps.specs.Discount.{zeroRateOf, discountOf};
 ghost use Rattle.swaps.specs.inner.Knots.{withRate, EachOf};
-ghost use Rattle.swaps.specs.inner.Runs.{exponentAt};
-use crate::discount::along_zeros;
-use crate::factors::exponent_at;
-use yield_curve::segments::Ends;
-use yield_curve::segments::knot_after;
-use yield_curve::segments::knot_at;
-use yield_curve::segments::last_knot;
-use yield_curve::segments::segment_ending;
+ghost use Rattle.swaps.specs.inner.Runs.{exponentOf};
+use curves::formulas::along;
+use curves::halving::segment;
+use curves::kinds::Kind;
+use curves::lookups::exponent_at;
+use curves::segments::Ends;
+use curves::segments::Rule;
+use curves::segments::knot_after;
+use curves::segments::knot_at;
+use curves::segments::last_knot;
 
 // The rates of the knot i.
 fn rates_with(earlier: &[f64], rates: [f64; 8], i: usize) -> [f64; 8]
@@ -44,7 +47,8 @@ fn along_each(t0: f64, t1: f64, firsts: [f64; 8], seconds: [f64; 8], t: f64) -> 
     let mut rates = firsts;
     let mut j: usize = 0;
     while j < 8 {
-        rates[j] = along_zeros(
+        rates[j] = along(
+            Kind::DiscountCurve,
             Ends {
                 t0,
                 t1,
@@ -60,7 +64,7 @@ fn along_each(t0: f64, t1: f64, firsts: [f64; 8], seconds: [f64; 8], t: f64) -> 
 
 // The zero rates at a time.
 fn zero_rates_with(tenors: &[f64], earlier: &[f64], rates: [f64; 8], t: f64) -> [f64; 8]
-    requires { ⌜ length rates ≡ 8 ⌝ }
+    requires { ⌜ (length rates ≡ 8) × Rising (now tenors) ⌝ }
     ensures { λ r. ⌜ r ≡ map (λ x. zeroRateOf (now (tenors .entry)) (withRate (now (earlier .entry)) x) t) rates ⌝ }
 {
     if t <= knot_at(tenors, 0) {
@@ -69,7 +73,7 @@ fn zero_rates_with(tenors: &[f64], earlier: &[f64], rates: [f64; 8], t: f64) -> 
     if last_knot(tenors) <= t {
         return rates;
     }
-    let i = segment_ending(tenors, t);
+    let i = segment(Rule::Ending, tenors, t);
     along_each(
         knot_at(tenors, i),
         knot_after(tenors, i),
@@ -82,12 +86,12 @@ fn zero_rates_with(tenors: &[f64], earlier: &[f64], rates: [f64; 8], t: f64) -> 
 // What the discount factors at a time are the exps of, from the zero rates there.
 fn exponents_at(rates: [f64; 8], t: f64) -> [f64; 8]
     requires { ⌜ length rates ≡ 8 ⌝ }
-    ensures { λ r. ⌜ r ≡ map (λ x. exponentAt x t) rates ⌝ }
+    ensures { λ r. ⌜ r ≡ map (λ x. exponentOf x t) rates ⌝ }
 {
     let mut exponents = rates;
     let mut j: usize = 0;
     while j < 8 {
-        exponents[j] = exponent_at(exponents[j], t);
+        exponents[j] = exponent_at(Kind::DiscountCurve, exponents[j], t);
         j += 1;
     }
     exponents
@@ -95,7 +99,7 @@ fn exponents_at(rates: [f64; 8], t: f64) -> [f64; 8]
 
 // The discount factors at a time.
 pub(crate) fn discounts_with(tenors: &[f64], earlier: &[f64], rates: [f64; 8], t: f64) -> [f64; 8]
-    requires { ⌜ length rates ≡ 8 ⌝ }
+    requires { ⌜ (length rates ≡ 8) × Rising (now tenors) ⌝ }
     ensures { λ r. ⌜ r ≡ map (λ x. discountOf (now (tenors .entry)) (withRate (now (earlier .entry)) x) t) rates ⌝ }
 {
     let mut factors = exponents_at(zero_rates_with(tenors, earlier, rates, t), t);

@@ -7,6 +7,7 @@ ghost use lib.Ieee.{binary64, add, sub, div, eq};
 ghost use Rattle.numbers.specs.Literals.{one};
 ghost use Rattle.numbers.specs.Clamps.{plusZero};
 ghost use Rattle.refusals.specs.Answers.{numberOutcome};
+ghost use Rattle.curves.specs.Segments.{Rising};
 ghost use Rattle.swaps.specs.Swap.{perYear};
 ghost use Rattle.swaps.specs.Discount.{zeroRateOf};
 ghost use Rattle.swaps.specs.Legs.{netValue};
@@ -54,6 +55,7 @@ fn par_of(legs: Legs) -> f64
 
 // The fixed leg's duration, 0 where the leg is worth nothing.
 fn duration_of(swap: Swap, tenors: &[f64], zeros: &[f64], legs: Legs) -> f64
+    requires { ⌜ Rising (now tenors) ⌝ }
     ensures { λ r. ⌜ r ≡ cond (eq (legs .fixed) plusZero) plusZero (div binary64 (div binary64 (legs .weighted) (legs .fixed)) (add binary64 one (div binary64 (zeroRateOf (now (tenors .entry)) (now (zeros .entry)) (swap .tenor)) (perYear swap)))) ⌝ }
 {
     if legs.fixed == 0.0 {
@@ -76,7 +78,7 @@ fn bump(zeros: &[f64], out: &mut [f64])
 
 // What the swap is worth where every zero rate is a basis point higher.
 fn bumped_net(swap: Swap, tenors: &[f64], zeros: &[f64], receives_fixed: bool) -> f64
-    requires { ⌜ length (now zeros) ≤ 120 ⌝ }
+    requires { ⌜ (length (now zeros) ≤ 120) × Rising (now tenors) ⌝ }
     ensures { λ r. ⌜ r ≡ netValue swap (now (tenors .entry)) (bumped (now (zeros .entry))) «receives_fixed» ⌝ }
 {
     let mut room = crate::rooms::empty_room();
@@ -132,7 +134,7 @@ pub fn swap_duration(swap: Swap, tenors: &[f64], zeros: &[f64]) -> Number
 
 // The legs once on the curve as it is, once on the bumped one.
 fn valuation_of(swap: Swap, tenors: &[f64], zeros: &[f64], receives_fixed: bool) -> SwapValuation
-    requires { ⌜ length (now zeros) ≤ 120 ⌝ }
+    requires { ⌜ (length (now zeros) ≤ 120) × Rising (now tenors) ⌝ }
     ensures { λ r. ⌜ r ≡ valuation swap (now (tenors .entry)) (now (zeros .entry)) «receives_fixed» ⌝ }
 {
     let legs = legs_of(swap, tenors, zeros);

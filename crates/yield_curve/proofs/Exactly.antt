@@ -1,25 +1,16 @@
--- Every entry point refuses by the table's rule: number k at place p is given exactly when that is the lowest line with a cause and its first place. Assumes nothing.
-use mathlib.Core.Path.{_≡_}
-use mathlib.Core.Logic.{_↔_}
+-- Every entry point of the crate refuses by the table's rule: number k at place p is given exactly when that is the lowest line with a cause and its first place. Assumes nothing.
 use mathlib.Core.Bool.{_||_}
 use mathlib.Core.List.{List, [], _∷_, _++_}
-use Prim.Native.Nat.{ℕ, _≤_, min}
-use lib.ListN.{length}
 use lib.Ieee.{Float}
-use Rattle.numbers.specs.Whole.{largest}
-use Rattle.refusals.specs.Outcome.{refused, Lowest, ExactlyWhen, line, above}
+use Rattle.refusals.specs.Outcome.{ExactlyWhen, line, above}
 use Rattle.refusals.specs.Table.{badTime, tooManyPeriods}
 use Rattle.refusals.proofs.Judging.{exactly}
-use Rattle.refusals.proofs.GivenPlaces.{placed-exactly, held-exactly}
-use Rattle.refusals.proofs.Verdicts.{verdict}
 use Rattle.yield_curve.specs.declared.nelson_siegel.NelsonSiegel.{NelsonSiegel}
-use Rattle.yield_curve.specs.Curve.{curveLines, askedLines}
-use Rattle.yield_curve.specs.Lists.{eachLines, eachOutcome}
+use Rattle.curves.specs.Curve.{curveLines, askedLines}
 use Rattle.yield_curve.specs.Linear.{halfYears, linearInterpolate, discountFactor, forwardRate, parYield}
 use Rattle.yield_curve.specs.Spline.{cubicSplineInterpolate}
 use Rattle.yield_curve.specs.NelsonSiegel.{yieldAt, forwardRateAt}
 use Rattle.yield_curve.specs.Fit.{fit}
-use Rattle.yield_curve.proofs.GivenPlaces.{each-rising, each-held}
 
 module _ (times rates : List Float) where
   pub linear-refused-exactly : (t : Float) → ExactlyWhen (askedLines times rates t) (linearInterpolate times rates t)
@@ -41,21 +32,6 @@ module _ (times rates : List Float) where
   pub par-refused-exactly : (t : Float) → ExactlyWhen (curveLines times rates ++ line 7 (badTime t || tooManyPeriods (halfYears t)) ∷ []) (parYield times rates t)
   unfolding parYield above
   par-refused-exactly t = exactly _ (curveLines times rates ++ line 7 (badTime t || tooManyPeriods (halfYears t)) ∷ []) tt
-
-  -- a list of times: `judge_each`, `rate_at_each` and `discount_factor_at_each` give this one outcome. Its lines refuse by the rule ..
-  module _ (asked : List Float) where
-    pub each-judged-exactly : ExactlyWhen (eachLines times rates asked) (verdict (eachLines times rates asked))
-    each-judged-exactly = exactly _ (eachLines times rates asked) (each-rising times rates asked)
-
-    -- .. and so does what is given, for a list that a u32 counts ..
-    pub each-refused-exactly : length asked ≤ 4294967295 → ExactlyWhen (eachLines times rates asked) (eachOutcome times rates asked)
-    unfolding eachOutcome
-    each-refused-exactly few = held-exactly _ (eachLines times rates asked) (each-rising times rates asked) (each-held times rates asked few)
-
-    -- .. and for any list but that a place that no u32 holds is given as 4,294,967,295
-    pub each-refused-at : (k p : ℕ) → (eachOutcome times rates asked ≡ refused k p) ↔ ((q : ℕ) × Lowest (eachLines times rates asked) k q × (p ≡ min q largest))
-    unfolding eachOutcome
-    each-refused-at = placed-exactly _ (eachLines times rates asked) (each-rising times rates asked)
 
   pub fit-refused-exactly : ExactlyWhen (curveLines times rates) (fit times rates)
   unfolding fit above

@@ -6,7 +6,7 @@ use lib.Ieee.{Float, binary64, sub, mul, div, lt}
 use Rattle.numbers.specs.Literals.{tiny}
 use Rattle.numbers.specs.Sizes.{absolute}
 use Rattle.yield_curve.specs.Linear.{yieldOf, forwardOf}
-use Rattle.yield_curve.proofs.Choices.{taken, left}
+use Rattle.curves.proofs.Choices.{taken, left}
 
 module _ (times rates : List Float) (t1 t2 gap : Float) (is-gap : gap ≡ absolute (sub binary64 t2 t1)) (y1 : Float) (is-y1 : y1 ≡ yieldOf times rates t1) where
   pub near : lt gap tiny ≡ true → y1 ≡ forwardOf times rates t1 t2

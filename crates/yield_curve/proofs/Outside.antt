@@ -7,13 +7,13 @@ use lib.ListN.{length}
 use lib.Ieee.{Float, le, lt, ofBits}
 use Rattle.numbers.specs.Clamps.{plusZero}
 use Rattle.yield_curve.specs.declared.nelson_siegel.NelsonSiegel.{NelsonSiegel}
-use Rattle.yield_curve.specs.Segments.{knot, lastOf}
+use Rattle.curves.specs.Segments.{knot, lastOf}
 use Rattle.yield_curve.specs.Linear.{yieldOf}
 use Rattle.yield_curve.specs.Spline.{splineOf}
 use Rattle.yield_curve.specs.NelsonSiegel.{soon, instantForward, yieldOn, forwardOn}
 use Rattle.yield_curve.specs.Fit.{decayFitted, fitted}
-use Rattle.yield_curve.proofs.Choices.{taken}
-use Rattle.yield_curve.proofs.Flat.{before-first, past-last}
+use Rattle.curves.proofs.Choices.{taken}
+use Rattle.curves.proofs.Flat.{before-first, past-last}
 
 -- the two arms of a choice agree
 pub same-arms : {Value : Type 0} (b : Bool) (x y v : Value) → x ≡ v → y ≡ v → cond b x y ≡ v

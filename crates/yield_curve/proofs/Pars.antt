@@ -12,7 +12,7 @@ use Rattle.numbers.specs.Clamps.{plusZero}
 use Rattle.numbers.specs.Sizes.{absolute}
 use Rattle.numbers.specs.Sums.{addedUp}
 use Rattle.yield_curve.specs.Linear.{yieldOf, discountOf, halfYears, halfYear, discountSum, parOf}
-use Rattle.yield_curve.proofs.Choices.{taken, left}
+use Rattle.curves.proofs.Choices.{taken, left}
 
 module _ (times rates : List Float) (t : Float) (count : ℕ) (is-count : count ≡ halfYears t) where
   pub no-half-year : (r : Float) → r ≡ yieldOf times rates t → count ≡ 0 → r ≡ parOf times rates t

@@ -3,7 +3,7 @@ use mathlib.Core.Path.{_≡_, _∙_}
 use mathlib.Core.Bool.{true, false}
 use Rattle.yield_curve.specs.declared.solve.System.{System}
 use Rattle.yield_curve.specs.Solve.{larger, pivotedA, pivotedB}
-use Rattle.yield_curve.proofs.Choices.{taken, left}
+use Rattle.curves.proofs.Choices.{taken, left}
 
 module _ (s : System) where
   pub third-over-second : larger (s .second .x) (s .first .x) ≡ true → larger (s .third .x) (s .second .x) ≡ true

@@ -8,9 +8,9 @@ use Rattle.numbers.specs.Literals.{one}
 use Rattle.numbers.specs.Clamps.{plusZero}
 use Rattle.numbers.specs.Sums.{addedUp}
 use Rattle.yield_curve.specs.declared.solve.Equation.{Equation}
-use Rattle.yield_curve.specs.Segments.{knot}
+use Rattle.curves.specs.Segments.{knot}
 use Rattle.yield_curve.specs.Fit.{slopeAt, humpAt, against}
-use Rattle.yield_curve.proofs.Adding.{one-more}
+use Rattle.curves.proofs.Adding.{one-more}
 
 module _ (times rates : List Float) (g : Float → Float) where
   -- the sums over the first k points

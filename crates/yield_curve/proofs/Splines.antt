@@ -10,7 +10,7 @@ use lib.Ieee.{Float, nan, inf, fin, binary64, neg, add, sub, mul, div, lt}
 use Rattle.numbers.specs.Literals.{two}
 use Rattle.numbers.specs.Clamps.{plusZero}
 use Rattle.numbers.specs.Sizes.{absolute}
-use Rattle.yield_curve.specs.Segments.{knot}
+use Rattle.curves.specs.Segments.{knot}
 use Rattle.yield_curve.specs.Spline.{guard, long, slope, bend, guarded, pivot, mu, z, c, cAt, b, cubic}
 
 module _ (times rates : List Float) where

@@ -14,8 +14,8 @@ use Rattle.yield_curve.specs.declared.solve.System.{System}
 use Rattle.yield_curve.specs.declared.solve.Equation.{Equation}
 use Rattle.yield_curve.specs.declared.fitting.FitAnswer.{FitAnswer}
 use Rattle.yield_curve.specs.declared.fitting.FitAnswer.the-variants as fit-is
-use Rattle.yield_curve.specs.Segments.{knot}
-use Rattle.yield_curve.specs.Curve.{curveLines}
+use Rattle.curves.specs.Segments.{knot}
+use Rattle.curves.specs.Curve.{curveLines}
 use Rattle.yield_curve.specs.NelsonSiegel.{soon, scaled, slopeLoading, humpLoading}
 use Rattle.yield_curve.specs.Solve.{solved}
 

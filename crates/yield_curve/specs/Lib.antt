@@ -1,7 +1,3 @@
-pub mod Segments
-pub mod Halving
-pub mod Curve
-pub mod Lists
 pub mod Linear
 pub mod Spline
 pub mod NelsonSiegel

@@ -4,7 +4,7 @@ use mathlib.Core.Bool.{cond, _||_}
 use mathlib.Core.List.{List, [], _∷_, _++_}
 use lib.Dec.{eqb}
 use lib.IntN.{pos}
-use lib.Ieee.{Float, binary64, neg, add, sub, mul, div, lt, ofInt}
+use lib.Ieee.{Float, binary64, neg, sub, mul, div, lt, ofInt}
 use Rattle.numbers.specs.Literals.{one, two, tiny}
 use Rattle.numbers.specs.Clamps.{plusZero}
 use Rattle.numbers.specs.Sizes.{absolute}
@@ -13,14 +13,11 @@ use Rattle.numbers.specs.Sums.{addedUp}
 use Rattle.refusals.specs.Outcome.{Outcome, line, judged}
 use Rattle.refusals.specs.Table.{badTime, tooManyPeriods}
 use Rattle.elementary.specs.Exp.{exp}
-use Rattle.yield_curve.specs.Segments.{segmentEnding, flatOutside, Ends, endsOf}
-use Rattle.yield_curve.specs.Curve.{curveLines, askedLines}
+use Rattle.curves.specs.Segments.{segmentEnding, flatOutside, endsOf}
+use Rattle.curves.specs.Curve.{curveLines, askedLines}
+use Rattle.curves.specs.Formulas.{alongYields}
 
--- "YieldCurve y0 + w·(y1-y0)", w = (t-t0)/(t1-t0)
-unfoldable pub alongYields : Ends → Float → Float
-alongYields e t =
-    add binary64 (e .r0) (mul binary64 (div binary64 (sub binary64 t (e .t0)) (sub binary64 (e .t1) (e .t0))) (sub binary64 (e .r1) (e .r0)))
-
+-- flat outside, and between the knots "YieldCurve y0 + w·(y1-y0)" along the segment that ends at an inner knot
 unfoldable pub yieldOf : List Float → List Float → Float → Float
 yieldOf times rates t = flatOutside times rates t (alongYields (endsOf times rates (segmentEnding times t)) t)
 

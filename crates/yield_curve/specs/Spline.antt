@@ -9,8 +9,8 @@ use Rattle.numbers.specs.Literals.{two, three, tenToMinus15}
 use Rattle.numbers.specs.Clamps.{plusZero}
 use Rattle.numbers.specs.Sizes.{absolute}
 use Rattle.refusals.specs.Outcome.{Outcome, judged}
-use Rattle.yield_curve.specs.Segments.{segmentEnding, flatOutside, knot}
-use Rattle.yield_curve.specs.Curve.{askedLines}
+use Rattle.curves.specs.Segments.{segmentEnding, flatOutside, knot}
+use Rattle.curves.specs.Curve.{askedLines}
 use Rattle.yield_curve.specs.Linear.{yieldOf}
 
 -- "the 1e-15 guard"

@@ -5,14 +5,14 @@ ghost use lib.ListN.{length};
 ghost use lib.Ieee.{binary64, add, mul};
 ghost use Rattle.numbers.specs.Literals.{one};
 ghost use Rattle.elementary.specs.Exp.{exp};
-ghost use Rattle.yield_curve.specs.Segments.{knot};
+ghost use Rattle.curves.specs.Segments.{knot};
 ghost use Rattle.yield_curve.specs.Fit.{slopeAt, humpAt, leastSquares, fitted, fit, fitOutcome};
 ghost use Rattle.yield_curve.specs.inner.Loadings.{loadingExponent};
 use crate::nelson_siegel::Loadings;
 use crate::nelson_siegel::NelsonSiegel;
-use crate::segments::knot_at;
 use crate::solve::Equation;
 use crate::solve::System;
+use curves::segments::knot_at;
 use elementary::exp::exp_each;
 use refusals::Verdict;
 
@@ -136,7 +136,7 @@ fn fit_points(times: &[f64], rates: &[f64]) -> NelsonSiegel
 pub fn fit(times: &[f64], rates: &[f64]) -> FitAnswer
     ensures { λ r. ⌜ fitOutcome r ≡ fit (now (times .entry)) (now (rates .entry)) ⌝ }
 {
-    match crate::curve::judge_curve(times, rates) {
+    match curves::curve::judge_curve(times, rates) {
         Verdict::Refused(refusal) => FitAnswer::Refused(refusal),
         Verdict::Accepted => FitAnswer::Given(fit_points(times, rates)),
     }

@@ -1,51 +1,40 @@
 // The yield curve: linear interpolation, discount factors, forward rates and par yields.
 ghost use mathlib.Core.Path.{_≡_};
 ghost use mathlib.Core.Bool.{_||_};
-ghost use Prim.Native.Nat.{ℕ, suc};
+ghost use Prim.Native.Nat.{ℕ, suc, _+_, _<_, _≤_};
+ghost use lib.ListN.{length};
 ghost use lib.IntN.{pos};
-ghost use lib.Ieee.{binary64, mul, ofInt};
+ghost use lib.Ieee.{Float, binary64, mul, ofInt};
 ghost use Rattle.numbers.specs.Sums.{addedUp};
 ghost use Rattle.refusals.specs.Answers.{numberOutcome};
 ghost use Rattle.refusals.specs.Table.{badTime, tooManyPeriods};
-ghost use Rattle.yield_curve.specs.Linear.{alongYields, yieldOf, discountOf, forwardOf, halfYears, parOf, linearInterpolate, discountFactor, forwardRate, parYield};
-use crate::curve::bad_time;
-use crate::curve::judge_asked;
-use crate::segments::Ends;
-use crate::segments::ends_of;
-use crate::segments::knot_at;
-use crate::segments::last_knot;
-use crate::segments::segment_ending;
+ghost use Rattle.curves.specs.Segments.{Rising, knot};
+ghost use Rattle.yield_curve.specs.Linear.{yieldOf, discountOf, forwardOf, halfYears, parOf, linearInterpolate, discountFactor, forwardRate, parYield};
+use curves::curve::bad_time;
+use curves::curve::judge_asked;
+use curves::kinds::Kind;
+use curves::runs::factors_after;
 use numbers::sizes::absolute_value;
 use refusals::Number;
 use refusals::Verdict;
 
-// y0 + w·(y1-y0).
-pub(crate) fn along_yields(e: Ends, t: f64) -> f64
-    ensures { λ r. ⌜ r ≡ alongYields (record { t0 = e .t0; t1 = e .t1; r0 = e .r0; r1 = e .r1 }) t ⌝ }
-{
-    e.r0 + (t - e.t0) / (e.t1 - e.t0) * (e.r1 - e.r0)
-}
-
-// The yield at a time, whatever the lists are.
+// The yield at a time.
 pub(crate) fn yield_of(times: &[f64], rates: &[f64], t: f64) -> f64
+    requires { ⌜ Rising (now times) ⌝ }
     ensures { λ r. ⌜ r ≡ yieldOf (now (times .entry)) (now (rates .entry)) t ⌝ }
 {
-    if t <= knot_at(times, 0) {
-        return knot_at(rates, 0);
-    }
-    if last_knot(times) <= t {
-        return last_knot(rates);
-    }
-    along_yields(ends_of(times, rates, segment_ending(times, t)), t)
+    curves::lookups::rate_of(Kind::YieldCurve, times, rates, t)
 }
 
-pub(crate) fn discount_of(times: &[f64], rates: &[f64], t: f64) -> f64
+fn discount_of(times: &[f64], rates: &[f64], t: f64) -> f64
+    requires { ⌜ Rising (now times) ⌝ }
     ensures { λ r. ⌜ r ≡ discountOf (now (times .entry)) (now (rates .entry)) t ⌝ }
 {
-    elementary::exp::exp(-yield_of(times, rates, t) * t)
+    curves::lookups::discount_of(Kind::YieldCurve, times, rates, t)
 }
 
-pub(crate) fn forward_of(times: &[f64], rates: &[f64], t1: f64, t2: f64) -> f64
+fn forward_of(times: &[f64], rates: &[f64], t1: f64, t2: f64) -> f64
+    requires { ⌜ Rising (now times) ⌝ }
     ensures { λ r. ⌜ r ≡ forwardOf (now (times .entry)) (now (rates .entry)) t1 t2 ⌝ }
 {
     let y1 = yield_of(times, rates, t1);
@@ -61,20 +50,45 @@ fn half_years(t: f64) -> u32
     numbers::whole::nearest_whole(t * 2.0)
 }
 
-// The discount factors of so many dates, dt apart, added left to right from +0.
-fn discount_sum(times: &[f64], rates: &[f64], dt: f64, count: u32) -> f64
-    ensures { λ r. ⌜ r ≡ addedUp (λ (i : ℕ). discountOf (now (times .entry)) (now (rates .entry)) (mul binary64 (ofInt binary64 (pos (suc i))) dt)) count ⌝ }
+// So many numbers added left to right to the sum of the terms before.
+fn added_on(factors: &[f64], count: usize, before: f64) -> f64
+    requires { ⌜ count ≤ length (now factors) ⌝ }
+    ensures { λ r. ⌜ ((term : ℕ → Float) (k : ℕ) → before ≡ addedUp term k → ((j : ℕ) → j < count → knot (now (factors .entry)) j ≡ term (k + j)) → r ≡ addedUp term (k + count)) ⌝ }
 {
-    let mut sum = 0.0;
-    let mut k: u32 = 0;
-    while k < count {
-        k += 1;
-        sum = sum + discount_of(times, rates, k as f64 * dt);
+    let mut sum = before;
+    let mut j: usize = 0;
+    while j < count {
+        sum = sum + factors[j];
+        j += 1;
     }
     sum
 }
 
+// At most 64 discount factors more, of the dates after the first ones.
+fn add_run(times: &[f64], rates: &[f64], dt: f64, sum: f64, first: u32, count: usize) -> f64
+    requires { ⌜ (count ≤ 64) × (first + count < 4294967296) × Rising (now times) × (sum ≡ addedUp (λ (i : ℕ). discountOf (now times) (now rates) (mul binary64 (ofInt binary64 (pos (suc i))) dt)) first) ⌝ }
+    ensures { λ r. ⌜ r ≡ addedUp (λ (i : ℕ). discountOf (now (times .entry)) (now (rates .entry)) (mul binary64 (ofInt binary64 (pos (suc i))) dt)) (first + count) ⌝ }
+{
+    let factors = factors_after(Kind::YieldCurve, dt, times, rates, first, count);
+    added_on(&factors, count, sum)
+}
+
+// The discount factors of so many dates, dt apart, added left to right from +0, 64 at a time.
+fn discount_sum(times: &[f64], rates: &[f64], dt: f64, count: u32) -> f64
+    requires { ⌜ Rising (now times) ⌝ }
+    ensures { λ r. ⌜ r ≡ addedUp (λ (i : ℕ). discountOf (now (times .entry)) (now (rates .entry)) (mul binary64 (ofInt binary64 (pos (suc i))) dt)) count ⌝ }
+{
+    let mut sum = 0.0;
+    let mut k: u32 = 0;
+    while count - k >= 64 {
+        sum = add_run(times, rates, dt, sum, k, 64);
+        k += 64;
+    }
+    add_run(times, rates, dt, sum, k, (count - k) as usize)
+}
+
 fn par_of(times: &[f64], rates: &[f64], t: f64) -> f64
+    requires { ⌜ Rising (now times) ⌝ }
     ensures { λ r. ⌜ r ≡ parOf (now (times .entry)) (now (rates .entry)) t ⌝ }
 {
     let count = half_years(t);
@@ -110,19 +124,13 @@ fn bad_maturity(t: f64) -> bool
 pub fn linear_interpolate(times: &[f64], rates: &[f64], t: f64) -> Number
     ensures { λ r. ⌜ numberOutcome r ≡ linearInterpolate (now (times .entry)) (now (rates .entry)) t ⌝ }
 {
-    match judge_asked(times, rates, bad_time(t)) {
-        Verdict::Refused(refusal) => Number::Refused(refusal),
-        Verdict::Accepted => Number::Given(yield_of(times, rates, t)),
-    }
+    curves::lookups::rate_at(Kind::YieldCurve, times, rates, t)
 }
 
 pub fn discount_factor(times: &[f64], rates: &[f64], t: f64) -> Number
     ensures { λ r. ⌜ numberOutcome r ≡ discountFactor (now (times .entry)) (now (rates .entry)) t ⌝ }
 {
-    match judge_asked(times, rates, bad_time(t)) {
-        Verdict::Refused(refusal) => Number::Refused(refusal),
-        Verdict::Accepted => Number::Given(discount_of(times, rates, t)),
-    }
+    curves::lookups::discount_factor(Kind::YieldCurve, times, rates, t)
 }
 
 pub fn forward_rate(times: &[f64], rates: &[f64], t1: f64, t2: f64) -> Number

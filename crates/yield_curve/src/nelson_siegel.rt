@@ -2,7 +2,7 @@
 ghost use mathlib.Core.Path.{_≡_};
 ghost use Rattle.refusals.specs.Answers.{numberOutcome};
 ghost use Rattle.yield_curve.specs.NelsonSiegel.{slopeLoading, humpLoading, instantForward, yieldOn, forwardOn, yieldAt, forwardRateAt, metricsOf};
-use crate::curve::bad_time;
+use curves::curve::bad_time;
 use elementary::exp::exp;
 use refusals::Number;
 

@@ -6,16 +6,17 @@ ghost use lib.ListN.{length, getD};
 ghost use lib.Ieee.{nan, binary64, sub, lt};
 ghost use Rattle.numbers.specs.Sizes.{absolute};
 ghost use Rattle.refusals.specs.Answers.{numberOutcome};
-ghost use Rattle.yield_curve.specs.Segments.{knot};
+ghost use Rattle.curves.specs.Segments.{knot, Rising};
 ghost use Rattle.yield_curve.specs.Spline.{guard, slope, bend, mu, z, cAt, cubic, splineOf, cubicSplineInterpolate};
-use crate::curve::bad_time;
-use crate::curve::judge_asked;
 use crate::linear::yield_of;
-use crate::segments::knot_after;
-use crate::segments::knot_at;
-use crate::segments::last_knot;
-use crate::segments::no_knot;
-use crate::segments::segment_ending;
+use curves::curve::bad_time;
+use curves::curve::judge_asked;
+use curves::halving::segment;
+use curves::segments::Rule;
+use curves::segments::knot_after;
+use curves::segments::knot_at;
+use curves::segments::last_knot;
+use curves::segments::no_knot;
 use numbers::sizes::absolute_value;
 use refusals::Number;
 use refusals::Verdict;
@@ -130,7 +131,7 @@ fn cubic(times: &[f64], rates: &[f64], i: usize, t: f64) -> f64
 
 // The spline at a time, for at most 120 knots; fewer than three make a straight line.
 fn spline_of(times: &[f64], rates: &[f64], t: f64) -> f64
-    requires { ⌜ length (now times) ≤ 120 ⌝ }
+    requires { ⌜ (length (now times) ≤ 120) × Rising (now times) ⌝ }
     ensures { λ r. ⌜ r ≡ splineOf (now (times .entry)) (now (rates .entry)) t ⌝ }
 {
     if times.len() < 3 {
@@ -142,7 +143,7 @@ fn spline_of(times: &[f64], rates: &[f64], t: f64) -> f64
     if last_knot(times) <= t {
         return last_knot(rates);
     }
-    let i = segment_ending(times, t);
+    let i = segment(Rule::Ending, times, t);
     if i < times.len() - 1 {
         return cubic(times, rates, i, t);
     }

@@ -9,6 +9,7 @@ use lib.IntN.{pos}
 use lib.ListN.{length}
 use lib.Ieee.{Float, binary64, lt, le, ofInt}
 use Rattle.numbers.specs.Sums.{addedUp}
+use Rattle.curves.specs.Segments.{Rising}
 use Rattle.swaps.specs.declared.knots.Knot.{Knot}
 use Rattle.swaps.specs.Discount.{discountOf}
 use Rattle.swaps.specs.Bootstrap.{dates, date, couponAt, parError, middle}
@@ -37,8 +38,9 @@ module _ (tenors earlier : List Float) (k : Knot) where
   abbrev pub errorOf : Float → Float
   errorOf r = parError tenors (withRate earlier r) (k .tenor) (k .par)
 
-  -- the sum of the settled coupons is the same whatever rate is tried
+  -- its tenors rise, and the sum of the settled coupons is the same whatever rate is tried
   pub record Ready : Type 0 where
+    pub rising : Rising tenors
     pub counted : k .dates ≡ dates (k .tenor)
     pub within : k .settled ≤ k .dates
     pub summed : (r : Float) → k .sum ≡ addedUp (couponAt tenors (withRate earlier r) (k .tenor) (k .par)) (k .settled)

@@ -1,35 +1,23 @@
--- A run of payment dates, worked out together: where the search for a date's segment may begin, what each discount factor is the exp of, and the sums up to a payment.
+-- A run of payment dates, worked out together: what each discount factor is the exp of, and the sums up to a payment.
 -- Definitions only. Assumes nothing.
 use mathlib.Core.Path.{_≡_}
-use mathlib.Core.Bool.{false, cond}
 use mathlib.Core.List.{List}
-use Prim.Native.Nat.{ℕ, suc, _+_, _-_, _<_, _≤_}
-use lib.IntN.{pos}
-use lib.ListN.{length}
-use lib.Ieee.{Float, binary64, neg, mul, le, ofInt}
-use Rattle.numbers.specs.Clamps.{plusZero}
+use Prim.Native.Nat.{ℕ, _+_, _<_}
+use lib.Ieee.{Float}
 use Rattle.numbers.specs.Sums.{addedUp}
-use Rattle.yield_curve.specs.Segments.{knot}
+use Rattle.curves.specs.declared.kinds.Kind.the-variants as kind-is
+use Rattle.curves.specs.Segments.{knot}
+use Rattle.curves.specs.Kinds.{exponentAt}
+use Rattle.curves.specs.Runs.{dateAfter}
 use Rattle.swaps.specs.declared.Swap.{Swap}
 use Rattle.swaps.specs.declared.legs.PaymentSums.{PaymentSums}
-use Rattle.swaps.specs.Discount.{zeroRateOf, discountOf}
+use Rattle.swaps.specs.Discount.{discountOf}
 use Rattle.swaps.specs.Legs.{factorAt, floatingPayment}
 use Rattle.swaps.specs.inner.LegSums.{fixedTerm, annuityTerm, timedTerm}
 
--- a time is beyond the first i segments
-abbrev pub Beyond : List Float → Float → ℕ → Type 0
-Beyond tenors t i = (i ≤ length tenors - 1) × ((j : ℕ) → j < i → le t (knot tenors (suc j)) ≡ false)
-
--- what the discount factor at a time is the exp of, 0 at or before time 0
-abbrev pub exponentAt : Float → Float → Float
-exponentAt rate t = cond (le t plusZero) plusZero (mul binary64 (neg rate) t)
-
-abbrev pub exponentOf : List Float → List Float → Float → Float
-exponentOf tenors zeros t = exponentAt (zeroRateOf tenors zeros t) t
-
--- the date after the k-th of those that are dt apart
-abbrev pub dateAfter : Float → ℕ → Float
-dateAfter dt k = mul binary64 (ofInt binary64 (pos (suc k))) dt
+-- what the discount factor at a time is the exp of, by the zero rate there
+abbrev pub exponentOf : Float → Float → Float
+exponentOf rate t = exponentAt kind-is.DiscountCurve rate t
 
 -- so many discount factors, of the dates after the first ones
 abbrev pub FactorsAfter : Float → List Float → List Float → ℕ → ℕ → List Float → Type 0

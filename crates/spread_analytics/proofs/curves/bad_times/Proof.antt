@@ -1,7 +1,7 @@
 -- `spread_analytics::curves::bad_times` meets its contract. Assumes nothing.
 use mathlib.Core.Path.{sym, _∙_}
 use Rattle.refusals.specs.Table.{badTime}
-use Rattle.yield_curve.proofs.Choices.{by-first, by-second}
+use Rattle.curves.proofs.Choices.{by-first, by-second}
 use borrow.Author.Needs.{needs}
 use Rattle.spread_analytics.proofs.curves.bad_times.Statement.{statement}
 use Rattle.spread_analytics.proofs.curves.bad_times.Tie as tie

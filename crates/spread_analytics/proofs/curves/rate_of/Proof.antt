@@ -1,8 +1,8 @@
 -- `spread_analytics::curves::rate_of` meets its contract: flat before the first knot and past the last, and between them by the segment that serves t. Assumes nothing.
 use mathlib.Core.Path.{ap, _∙_}
 use denote.Ref.{now}
-use Rattle.yield_curve.specs.Segments.{Ends, endsOf}
-use Rattle.yield_curve.proofs.Flat.{before-first, past-last, inside, ends-are}
+use Rattle.curves.specs.Segments.{Ends, endsOf}
+use Rattle.curves.proofs.Flat.{before-first, past-last, inside, ends-are}
 use Rattle.spread_analytics.specs.Curves.{alongRates, rateOf}
 use borrow.Author.Needs.{needs}
 use Rattle.spread_analytics.proofs.curves.rate_of.Statement.{statement}

@@ -11,7 +11,7 @@ use lib.ListN.{length, length-take, length-drop}
 use lib.Ieee.{Float}
 use Rattle.elementary.proofs.PartWay.{partWay, at-start, at-end, map-same, part-further}
 use Rattle.spread_analytics.specs.Curves.{rateOf}
-use Rattle.yield_curve.specs.Lists.{rateOrExponent}
+use Rattle.curves.specs.Lists.{rateOrExponent}
 use Rattle.spread_analytics.proofs.curves_each.answer_each.Statement.{statement}
 use Rattle.spread_analytics.proofs.curves_each.answer_each.Tie as tie
 

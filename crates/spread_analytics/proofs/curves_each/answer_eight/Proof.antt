@@ -8,12 +8,12 @@ use denote.Ref.{now}
 use lib.ListN.{length, length-set}
 use lib.Ieee.{Float}
 use Rattle.elementary.proofs.PartWay.{partWay, at-start, one-further, next-of, at-end, map-same}
-use Rattle.yield_curve.specs.Segments.{segmentStarting, flatOutside, endsOf}
+use Rattle.curves.specs.Segments.{segmentStarting, flatOutside, endsOf}
 use Rattle.spread_analytics.specs.Curves.{alongRates, rateOf}
-use Rattle.yield_curve.specs.Lists.{rateOrExponent}
-use Rattle.yield_curve.proofs.Flat.{ends-are}
-use Rattle.yield_curve.proofs.Halvings.{eight-start}
-use Rattle.yield_curve.proofs.Listing.{lane-rate, one-answer}
+use Rattle.curves.specs.Lists.{rateOrExponent}
+use Rattle.curves.proofs.Flat.{ends-are}
+use Rattle.curves.proofs.Halvings.{eight-start}
+use Rattle.curves.proofs.Listing.{lane-rate, one-answer}
 use Rattle.spread_analytics.proofs.curves_each.answer_eight.Statement.{statement}
 use Rattle.spread_analytics.proofs.curves_each.answer_eight.Tie as tie
 

@@ -9,8 +9,8 @@ use lib.ListN.{length, length-set}
 use lib.Ieee.{Float}
 use Rattle.elementary.proofs.PartWay.{partWay, at-start, one-further, next-of, at-end, map-same}
 use Rattle.spread_analytics.specs.Curves.{rateOf}
-use Rattle.yield_curve.specs.Lists.{rateOrExponent}
-use Rattle.yield_curve.proofs.Listing.{one-answer}
+use Rattle.curves.specs.Lists.{rateOrExponent}
+use Rattle.curves.proofs.Listing.{one-answer}
 use Rattle.spread_analytics.proofs.curves_each.answer_one_by_one.Statement.{statement}
 use Rattle.spread_analytics.proofs.curves_each.answer_one_by_one.Tie as tie
 

@@ -7,8 +7,8 @@ use borrow.Author.Needs.{needs}
 use Rattle.refusals.specs.Answers.{verdictOutcome}
 use Rattle.elementary.specs.Exp.{exp}
 use Rattle.spread_analytics.specs.Curves.{rateOf, discountOf}
-use Rattle.yield_curve.specs.Lists.{rateOrExponent}
-use Rattle.yield_curve.proofs.Listing.{some-knots, in-rising-order, all-accepted, after-accepted, after-refused, map-twice}
+use Rattle.curves.specs.Lists.{rateOrExponent}
+use Rattle.curves.proofs.Listing.{some-knots, in-rising-order, all-accepted, after-accepted, after-refused, map-twice}
 use Rattle.spread_analytics.proofs.curves_each.discount_factor_at_each.Statement.{statement}
 use Rattle.spread_analytics.proofs.curves_each.discount_factor_at_each.Tie as tie
 

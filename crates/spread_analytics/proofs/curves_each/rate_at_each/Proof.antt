@@ -3,7 +3,7 @@ use mathlib.Core.Path.{_≡_, sym, ap, _∙_}
 use borrow.Author.Needs.{needs}
 use Rattle.refusals.specs.Answers.{verdictOutcome}
 use Rattle.spread_analytics.specs.Curves.{rateOf}
-use Rattle.yield_curve.proofs.Listing.{some-knots, in-rising-order, all-accepted, after-accepted, after-refused, rates-themselves}
+use Rattle.curves.proofs.Listing.{some-knots, in-rising-order, all-accepted, after-accepted, after-refused, rates-themselves}
 use Rattle.spread_analytics.proofs.curves_each.rate_at_each.Statement.{statement}
 use Rattle.spread_analytics.proofs.curves_each.rate_at_each.Tie as tie
 

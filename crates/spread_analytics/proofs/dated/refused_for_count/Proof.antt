@@ -4,7 +4,7 @@ use denote.Ref.{now}
 use Rattle.refusals.specs.Outcome.{Outcome, refused}
 use Rattle.refusals.proofs.Judging.{followed}
 use Rattle.refusals.proofs.Verdicts.{refused-by, accepted-by, refused-as}
-use Rattle.yield_curve.specs.Curve.{curveLines}
+use Rattle.curves.specs.Curve.{curveLines}
 use Rattle.spread_analytics.proofs.TooMany.{too-many}
 use borrow.Author.Needs.{needs}
 use Rattle.spread_analytics.proofs.dated.refused_for_count.Statement.{statement}

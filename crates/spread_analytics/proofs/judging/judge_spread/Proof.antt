@@ -3,7 +3,7 @@ use mathlib.Core.Path.{_∙_}
 use mathlib.Core.List.{[], _∷_}
 use denote.Ref.{now}
 use Rattle.refusals.proofs.Verdicts.{refused-as}
-use Rattle.yield_curve.specs.Curve.{curveLines}
+use Rattle.curves.specs.Curve.{curveLines}
 use Rattle.refusals.proofs.LaterLines.{refused-first, accepted-first}
 use Rattle.spread_analytics.proofs.SpreadVerdict.{timesLine, amountsLine, refused-4, in-parts}
 use borrow.Author.Needs.{needs}

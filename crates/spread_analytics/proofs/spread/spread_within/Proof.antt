@@ -7,10 +7,10 @@ use lib.ListN.{length}
 use lib.Ieee.{Float}
 use denote.Ref.{now}
 use Rattle.numbers.specs.Literals.{twoThousand, minusFiveHundred}
-use Rattle.yield_curve.specs.Segments.{knot}
+use Rattle.curves.specs.Segments.{knot}
 use Rattle.spread_analytics.specs.Curves.{rateOf}
 use Rattle.spread_analytics.specs.Spread.{errorAt, spreadWithin}
-use Rattle.yield_curve.proofs.Filling.{Holds}
+use Rattle.curves.proofs.Filling.{Holds}
 use Rattle.spread_analytics.proofs.Halvings.{no-turn, close, lower-half, upper-half}
 use native.Mathlib.Omega.{arith}
 use Rattle.spread_analytics.proofs.spread.spread_within.Statement.{statement}

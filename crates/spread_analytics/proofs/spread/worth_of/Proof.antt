@@ -7,7 +7,7 @@ use denote.Ref.{now}
 use lib.ListN.{length, length-take, length-drop}
 use lib.Ieee.{Float, binary64, mul}
 use Rattle.numbers.specs.Sums.{addedUp}
-use Rattle.yield_curve.specs.Segments.{knot}
+use Rattle.curves.specs.Segments.{knot}
 use Rattle.spread_analytics.specs.Spread.{factorOf, worthOf}
 use Rattle.spread_analytics.proofs.CarriedOn.{block-length, worth-terms, to-end}
 use Rattle.spread_analytics.proofs.spread.worth_of.Statement.{statement}

@@ -3,7 +3,7 @@ use mathlib.Core.Path.{ap, _∙_}
 use lib.Ieee.{Float, binary64, neg, add, mul}
 use denote.Ref.{now}
 use Rattle.elementary.specs.Exp.{exp}
-use Rattle.yield_curve.specs.Segments.{knot}
+use Rattle.curves.specs.Segments.{knot}
 use borrow.Author.Needs.{needs}
 use Rattle.spread_analytics.proofs.worth.factors_of.Statement.{statement}
 use Rattle.spread_analytics.proofs.worth.factors_of.Tie as tie

@@ -2,11 +2,11 @@
 use mathlib.Core.Path.{_≡_, refl}
 use Prim.Native.Nat.{ℕ, _-_, _≤_}
 use lib.ListN.{length, length-set}
-use Rattle.yield_curve.specs.Segments.{knot}
+use Rattle.curves.specs.Segments.{knot}
 use borrow.Author.Count.{below-none}
 use denote.Ref.{now}
 use Rattle.spread_analytics.specs.Curves.{rateOf}
-use Rattle.yield_curve.proofs.Filling.{Holds, placed}
+use Rattle.curves.proofs.Filling.{Holds, placed}
 use native.Mathlib.Omega.{arith}
 use Rattle.spread_analytics.proofs.worth.keep_rates.Statement.{statement}
 use Rattle.spread_analytics.proofs.worth.keep_rates.Tie as tie

@@ -7,7 +7,7 @@ use lib.Seq.{length-take-le}
 use lib.Ieee.{Float}
 use denote.Ref.{now}
 use Rattle.elementary.specs.Exp.{exp}
-use Rattle.yield_curve.specs.Segments.{knot}
+use Rattle.curves.specs.Segments.{knot}
 use Rattle.numbers.proofs.Mapped.{mapped-at}
 use borrow.Author.Needs.{needs}
 use native.Mathlib.Omega.{arith}

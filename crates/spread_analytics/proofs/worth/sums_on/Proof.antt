@@ -3,7 +3,7 @@ use mathlib.Core.Path.{_≡_}
 use Prim.Native.Nat.{ℕ, _-_, _≤_}
 use lib.ListN.{length}
 use lib.Ieee.{binary64, mul}
-use Rattle.yield_curve.specs.Segments.{knot}
+use Rattle.curves.specs.Segments.{knot}
 use Rattle.spread_analytics.proofs.CarriedOn.{Carried, nothing-yet, further, all-of}
 use native.Mathlib.Omega.{arith}
 use Rattle.spread_analytics.proofs.worth.sums_on.Statement.{statement}

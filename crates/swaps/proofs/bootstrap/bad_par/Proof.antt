@@ -1,6 +1,6 @@
 -- `swaps::bootstrap::bad_par` meets its contract. Assumes nothing.
 use mathlib.Core.Path.{sym, _∙_}
-use Rattle.yield_curve.proofs.Choices.{by-first, by-second}
+use Rattle.curves.proofs.Choices.{by-first, by-second}
 use borrow.Author.Needs.{needs}
 use Rattle.swaps.proofs.bootstrap.bad_par.Statement.{statement}
 use Rattle.swaps.proofs.bootstrap.bad_par.Tie as tie

@@ -1,7 +1,7 @@
 -- `swaps::bootstrap::judge_pars` meets its contract: the tests are lines 4, 5 and 6, in that order. Assumes nothing.
 use mathlib.Core.Path.{sym, _∙_}
 use Rattle.refusals.proofs.Verdicts.{refused-as}
-use Rattle.yield_curve.proofs.CurveLines.{at-most-120}
+use Rattle.curves.proofs.CurveLines.{at-most-120}
 use Rattle.swaps.proofs.ParLines.{refused-4, refused-5, by-line-6}
 use borrow.Author.Needs.{needs}
 use Rattle.swaps.proofs.bootstrap.judge_pars.Statement.{statement}

@@ -1,5 +1,5 @@
 -- `swaps::discount::rate_at` meets its contract: the verdict on the curve and the time is its answer's. Assumes nothing.
-use Rattle.yield_curve.proofs.CurveLines.{answer-refused, answer-given}
+use Rattle.curves.proofs.CurveLines.{answer-refused, answer-given}
 use Rattle.swaps.specs.Discount.{rateAt}
 use borrow.Author.Needs.{needs}
 use Rattle.swaps.proofs.discount.rate_at.Statement.{statement}

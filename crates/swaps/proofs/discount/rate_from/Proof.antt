@@ -1,7 +1,7 @@
 -- `swaps::discount::rate_from` meets its contract: flat before the first knot and past the last, and between them by the segment that ends at or after the time. Assumes nothing.
 use mathlib.Core.Path.{ap, _∙_}
-use Rattle.yield_curve.specs.Segments.{Ends, endsOf}
-use Rattle.yield_curve.proofs.Flat.{before-first, past-last, inside, ends-are}
+use Rattle.curves.specs.Segments.{Ends, endsOf}
+use Rattle.curves.proofs.Flat.{before-first, past-last, inside, ends-are}
 use Rattle.swaps.specs.Discount.{alongZeros, zeroRateOf}
 use borrow.Author.Needs.{needs}
 use Rattle.swaps.proofs.discount.rate_from.Statement.{statement}

@@ -8,12 +8,12 @@ use denote.Ref.{now}
 use lib.ListN.{length, length-set}
 use lib.Ieee.{Float}
 use Rattle.elementary.proofs.PartWay.{partWay, at-start, one-further, next-of, at-end, map-same}
-use Rattle.yield_curve.specs.Segments.{segmentEnding, flatOutside, endsOf}
+use Rattle.curves.specs.Segments.{segmentEnding, flatOutside, endsOf}
 use Rattle.swaps.specs.Discount.{alongZeros, zeroRateOf}
 use Rattle.swaps.specs.inner.DiscountEach.{zeroOrExponent}
-use Rattle.yield_curve.proofs.Flat.{ends-are}
-use Rattle.yield_curve.proofs.Halvings.{eight-end}
-use Rattle.yield_curve.proofs.Listing.{lane-rate}
+use Rattle.curves.proofs.Flat.{ends-are}
+use Rattle.curves.proofs.Halvings.{eight-end}
+use Rattle.curves.proofs.Listing.{lane-rate}
 use Rattle.swaps.proofs.DiscountList.{one-answer}
 use Rattle.swaps.proofs.discount_each.answer_eight.Statement.{statement}
 use Rattle.swaps.proofs.discount_each.answer_eight.Tie as tie

@@ -8,7 +8,7 @@ use Rattle.refusals.specs.Answers.{verdictOutcome}
 use Rattle.elementary.specs.Exp.{exp}
 use Rattle.swaps.specs.Discount.{zeroRateOf, discountOf}
 use Rattle.swaps.specs.inner.DiscountEach.{zeroOrExponent}
-use Rattle.yield_curve.proofs.Listing.{some-knots, in-rising-order, all-accepted, after-accepted, after-refused}
+use Rattle.curves.proofs.Listing.{some-knots, in-rising-order, all-accepted, after-accepted, after-refused}
 use Rattle.swaps.proofs.DiscountList.{factors}
 use Rattle.swaps.proofs.discount_each.discount_factor_at_each.Statement.{statement}
 use Rattle.swaps.proofs.discount_each.discount_factor_at_each.Tie as tie

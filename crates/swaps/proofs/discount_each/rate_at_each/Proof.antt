@@ -3,7 +3,7 @@ use mathlib.Core.Path.{_≡_, sym, ap, _∙_}
 use borrow.Author.Needs.{needs}
 use Rattle.refusals.specs.Answers.{verdictOutcome}
 use Rattle.swaps.specs.Discount.{zeroRateOf}
-use Rattle.yield_curve.proofs.Listing.{some-knots, in-rising-order, all-accepted, after-accepted, after-refused}
+use Rattle.curves.proofs.Listing.{some-knots, in-rising-order, all-accepted, after-accepted, after-refused}
 use Rattle.swaps.proofs.DiscountList.{rates-themselves}
 use Rattle.swaps.proofs.discount_each.rate_at_each.Statement.{statement}
 use Rattle.swaps.proofs.discount_each.rate_at_each.Tie as tie

@@ -3,7 +3,7 @@ use mathlib.Core.Path.{_∙_, ap}
 use mathlib.Core.Bool.{cond}
 use mathlib.Core.Logic.{⊎-elim}
 use lib.Ieee.{Float}
-use Rattle.yield_curve.proofs.Choices.{taken, left}
+use Rattle.curves.proofs.Choices.{taken, left}
 use Rattle.swaps.specs.inner.DiscountEach.{zeroOrExponent}
 use Rattle.swaps.proofs.discount_each.zero_or_exponent.Statement.{statement}
 use Rattle.swaps.proofs.discount_each.zero_or_exponent.Tie as tie

@@ -6,7 +6,7 @@ use native.Mathlib.Omega.{arith}
 use lib.Ieee.{Float}
 use Rattle.numbers.specs.Literals.{one}
 use Rattle.numbers.specs.Sums.{addedUp}
-use Rattle.yield_curve.proofs.Adding.{one-more}
+use Rattle.curves.proofs.Adding.{one-more}
 use Rattle.swaps.specs.Bootstrap.{couponAt}
 use Rattle.swaps.specs.inner.Runs.{FactorsAfter}
 use Rattle.swaps.proofs.Coupons.{whole-coupon}

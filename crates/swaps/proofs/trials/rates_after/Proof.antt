@@ -4,7 +4,7 @@ use mathlib.Core.List.{map}
 use Prim.Native.Nat.{ℕ}
 use native.Mathlib.Numerals.{add-one}
 use lib.Ieee.{Float}
-use Rattle.yield_curve.specs.Segments.{knot}
+use Rattle.curves.specs.Segments.{knot}
 use Rattle.swaps.specs.inner.Knots.{withRate}
 use Rattle.swaps.proofs.TriedRates.{each-past}
 use borrow.Author.Needs.{needs}

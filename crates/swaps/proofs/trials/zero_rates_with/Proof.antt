@@ -2,7 +2,7 @@
 use mathlib.Core.Path.{_∙_}
 use Prim.Native.Nat.{suc}
 use lib.Ieee.{Float}
-use Rattle.yield_curve.specs.Segments.{knot}
+use Rattle.curves.specs.Segments.{knot}
 use Rattle.swaps.specs.inner.Knots.{withRate}
 use Rattle.swaps.proofs.TriedRates.{each-before, each-after, each-between}
 use borrow.Author.Needs.{needs}

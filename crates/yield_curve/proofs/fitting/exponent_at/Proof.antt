@@ -1,5 +1,5 @@
 -- `yield_curve::fitting::exponent_at` meets its contract. Assumes nothing.
-use Rattle.yield_curve.proofs.Choices.{taken, left}
+use Rattle.curves.proofs.Choices.{taken, left}
 use Rattle.yield_curve.proofs.fitting.exponent_at.Statement.{statement}
 use Rattle.yield_curve.proofs.fitting.exponent_at.Tie as tie
 

@@ -4,7 +4,7 @@ use mathlib.Core.List.{[]}
 use Rattle.refusals.specs.Answers.{verdictOutcome}
 use Rattle.refusals.proofs.Verdicts.{refused-by, accepted-by}
 use Rattle.yield_curve.specs.Fit.{fit}
-use Rattle.yield_curve.proofs.CurveLines.{accepted-at-most-120}
+use Rattle.curves.proofs.CurveLines.{accepted-at-most-120}
 use borrow.Author.Needs.{needs}
 use Rattle.yield_curve.proofs.fitting.fit.Statement.{statement}
 use Rattle.yield_curve.proofs.fitting.fit.Tie as tie

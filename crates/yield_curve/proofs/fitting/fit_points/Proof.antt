@@ -3,7 +3,7 @@ use mathlib.Core.Path.{ap, _∙_}
 use borrow.Author.Tests.{eq-eqb, ne-eqb}
 use Rattle.yield_curve.specs.Solve.{solved}
 use Rattle.yield_curve.specs.Fit.{fitted}
-use Rattle.yield_curve.proofs.Choices.{taken, left}
+use Rattle.curves.proofs.Choices.{taken, left}
 use borrow.Author.Needs.{needs}
 use Rattle.yield_curve.proofs.fitting.fit_points.Statement.{statement}
 use Rattle.yield_curve.proofs.fitting.fit_points.Tie as tie

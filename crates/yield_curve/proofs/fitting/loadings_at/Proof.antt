@@ -7,7 +7,7 @@ use Rattle.elementary.specs.Exp.{exp}
 use Rattle.yield_curve.specs.NelsonSiegel.{soon, scaled, slopeLoading, humpLoading}
 use Rattle.yield_curve.specs.Fit.{decayFitted, slopeAt, humpAt}
 use Rattle.yield_curve.specs.inner.Loadings.{loadingExponent}
-use Rattle.yield_curve.proofs.Choices.{taken, left}
+use Rattle.curves.proofs.Choices.{taken, left}
 use Rattle.yield_curve.proofs.fitting.loadings_at.Statement.{statement}
 use Rattle.yield_curve.proofs.fitting.loadings_at.Tie as tie
 

@@ -4,9 +4,9 @@ use Prim.Native.Nat.{ℕ, _-_, _≤_}
 use native.Mathlib.Omega.{arith}
 use borrow.Author.Count.{below-none}
 use lib.ListN.{length, length-set}
-use Rattle.yield_curve.specs.Segments.{knot}
+use Rattle.curves.specs.Segments.{knot}
 use Rattle.yield_curve.specs.inner.Loadings.{loadingExponent}
-use Rattle.yield_curve.proofs.Filling.{Holds, placed}
+use Rattle.curves.proofs.Filling.{Holds, placed}
 use Rattle.yield_curve.proofs.fitting.put_exponents.Statement.{statement}
 use Rattle.yield_curve.proofs.fitting.put_exponents.Tie as tie
 

@@ -3,7 +3,7 @@ use mathlib.Core.Path.{sym, ap, _∙_}
 use lib.Dec.{ltb}
 use Rattle.refusals.specs.Table.{badTime, tooManyPeriods}
 use Rattle.yield_curve.specs.Linear.{halfYears}
-use Rattle.yield_curve.proofs.Choices.{by-first, by-second}
+use Rattle.curves.proofs.Choices.{by-first, by-second}
 use borrow.Author.Needs.{needs}
 use Rattle.yield_curve.proofs.linear.bad_maturity.Statement.{statement}
 use Rattle.yield_curve.proofs.linear.bad_maturity.Tie as tie

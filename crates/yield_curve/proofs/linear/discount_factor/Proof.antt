@@ -1,6 +1,6 @@
 -- `yield_curve::linear::discount_factor` meets its contract: the verdict on the curve and on what is asked decides which answer it is. Assumes nothing.
 use Rattle.yield_curve.specs.Linear.{discountFactor}
-use Rattle.yield_curve.proofs.CurveLines.{answer-refused, answer-given}
+use Rattle.curves.proofs.CurveLines.{answer-refused, answer-given}
 use borrow.Author.Needs.{needs}
 use Rattle.yield_curve.proofs.linear.discount_factor.Statement.{statement}
 use Rattle.yield_curve.proofs.linear.discount_factor.Tie as tie

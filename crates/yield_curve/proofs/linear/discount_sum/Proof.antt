@@ -7,7 +7,7 @@ use lib.IntN.{pos}
 use lib.Ieee.{binary64, mul, ofInt}
 use Rattle.numbers.specs.Sums.{addedUp}
 use Rattle.yield_curve.specs.Linear.{discountOf}
-use Rattle.yield_curve.proofs.Adding.{one-more}
+use Rattle.curves.proofs.Adding.{one-more}
 use borrow.Author.Needs.{needs}
 use Rattle.yield_curve.proofs.linear.discount_sum.Statement.{statement}
 use Rattle.yield_curve.proofs.linear.discount_sum.Tie as tie

@@ -1,6 +1,6 @@
 -- `yield_curve::linear::forward_rate` meets its contract: the verdict on the curve and on what is asked decides which answer it is. Assumes nothing.
 use Rattle.yield_curve.specs.Linear.{forwardRate}
-use Rattle.yield_curve.proofs.CurveLines.{answer-refused, answer-given}
+use Rattle.curves.proofs.CurveLines.{answer-refused, answer-given}
 use borrow.Author.Needs.{needs}
 use Rattle.yield_curve.proofs.linear.forward_rate.Statement.{statement}
 use Rattle.yield_curve.proofs.linear.forward_rate.Tie as tie

@@ -1,6 +1,6 @@
 -- `yield_curve::linear::linear_interpolate` meets its contract: the verdict on the curve and on what is asked decides which answer it is. Assumes nothing.
 use Rattle.yield_curve.specs.Linear.{linearInterpolate}
-use Rattle.yield_curve.proofs.CurveLines.{answer-refused, answer-given}
+use Rattle.curves.proofs.CurveLines.{answer-refused, answer-given}
 use borrow.Author.Needs.{needs}
 use Rattle.yield_curve.proofs.linear.linear_interpolate.Statement.{statement}
 use Rattle.yield_curve.proofs.linear.linear_interpolate.Tie as tie

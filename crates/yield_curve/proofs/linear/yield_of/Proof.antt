@@ -1,8 +1,8 @@
 -- `yield_curve::linear::yield_of` meets its contract: flat before the first knot and past the last, and between them by the segment that serves t. Assumes nothing.
 use mathlib.Core.Path.{ap, _∙_}
-use Rattle.yield_curve.specs.Segments.{Ends, endsOf}
+use Rattle.curves.specs.Segments.{Ends, endsOf}
 use Rattle.yield_curve.specs.Linear.{alongYields, yieldOf}
-use Rattle.yield_curve.proofs.Flat.{before-first, past-last, inside, ends-are}
+use Rattle.curves.proofs.Flat.{before-first, past-last, inside, ends-are}
 use borrow.Author.Needs.{needs}
 use Rattle.yield_curve.proofs.linear.yield_of.Statement.{statement}
 use Rattle.yield_curve.proofs.linear.yield_of.Tie as tie

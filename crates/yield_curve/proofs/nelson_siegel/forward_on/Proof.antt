@@ -1,7 +1,7 @@
 -- `yield_curve::nelson_siegel::forward_on` meets its contract. Assumes nothing.
 use mathlib.Core.Path.{_∙_}
 use Rattle.yield_curve.specs.NelsonSiegel.{forwardOn}
-use Rattle.yield_curve.proofs.Choices.{taken, left}
+use Rattle.curves.proofs.Choices.{taken, left}
 use borrow.Author.Needs.{needs}
 use Rattle.yield_curve.proofs.nelson_siegel.forward_on.Statement.{statement}
 use Rattle.yield_curve.proofs.nelson_siegel.forward_on.Tie as tie

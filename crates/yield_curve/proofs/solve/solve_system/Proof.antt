@@ -2,7 +2,7 @@
 use mathlib.Core.Path.{sym, ap, _∙_}
 use Rattle.yield_curve.specs.declared.solve.System.{System}
 use Rattle.yield_curve.specs.Solve.{small, pivotedB, clearedA, solvedA, solved}
-use Rattle.yield_curve.proofs.Choices.{taken, left}
+use Rattle.curves.proofs.Choices.{taken, left}
 use borrow.Author.Needs.{needs}
 use Rattle.yield_curve.proofs.solve.solve_system.Statement.{statement}
 use Rattle.yield_curve.proofs.solve.solve_system.Tie as tie

@@ -1,7 +1,7 @@
 -- `yield_curve::solve::solve_y` meets its contract. Assumes nothing.
 use mathlib.Core.Path.{sym, ap, _∙_}
 use Rattle.yield_curve.specs.Solve.{solvedB, solvedA}
-use Rattle.yield_curve.proofs.Choices.{taken, left}
+use Rattle.curves.proofs.Choices.{taken, left}
 use borrow.Author.Needs.{needs}
 use Rattle.yield_curve.proofs.solve.solve_y.Statement.{statement}
 use Rattle.yield_curve.proofs.solve.solve_y.Tie as tie

@@ -1,7 +1,7 @@
 -- `yield_curve::solve::solve_z` meets its contract. Assumes nothing.
 use mathlib.Core.Path.{sym, _∙_}
 use Rattle.yield_curve.specs.Solve.{solvedB}
-use Rattle.yield_curve.proofs.Choices.{taken, left}
+use Rattle.curves.proofs.Choices.{taken, left}
 use borrow.Author.Needs.{needs}
 use Rattle.yield_curve.proofs.solve.solve_z.Statement.{statement}
 use Rattle.yield_curve.proofs.solve.solve_z.Tie as tie

@@ -2,7 +2,7 @@
 use mathlib.Core.Path.{sym, ap, _∙_}
 use Rattle.refusals.specs.Answers.{verdictOutcome}
 use Rattle.yield_curve.specs.Spline.{cubicSplineInterpolate}
-use Rattle.yield_curve.proofs.CurveLines.{accepted-at-most-120, answer-refused, answer-given}
+use Rattle.curves.proofs.CurveLines.{accepted-at-most-120, answer-refused, answer-given}
 use borrow.Author.Needs.{needs}
 use Rattle.yield_curve.proofs.spline.cubic_spline_interpolate.Statement.{statement}
 use Rattle.yield_curve.proofs.spline.cubic_spline_interpolate.Tie as tie

@@ -2,7 +2,7 @@
 use mathlib.Core.Path.{sym, ap, _∙_}
 use lib.Ieee.{Float, lt}
 use Rattle.yield_curve.specs.Spline.{guard}
-use Rattle.yield_curve.proofs.Choices.{taken, left}
+use Rattle.curves.proofs.Choices.{taken, left}
 use borrow.Author.Needs.{needs}
 use Rattle.yield_curve.proofs.spline.guarded.Statement.{statement}
 use Rattle.yield_curve.proofs.spline.guarded.Tie as tie

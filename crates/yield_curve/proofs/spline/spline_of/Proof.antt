@@ -4,16 +4,16 @@ use Prim.Native.Nat.{ℕ}
 use native.Mathlib.Omega.{arith}
 use lib.Ieee.{binary64, sub}
 use borrow.Author.Tests.{lt-ltb, le-ltb}
-use Rattle.yield_curve.specs.Segments.{knot}
+use Rattle.curves.specs.Segments.{knot}
 use Rattle.yield_curve.specs.Spline.{cubic, splineOf}
-use Rattle.yield_curve.proofs.Choices.{taken, left}
-use Rattle.yield_curve.proofs.Flat.{before-first, past-last, inside}
+use Rattle.curves.proofs.Choices.{taken, left}
+use Rattle.curves.proofs.Flat.{before-first, past-last, inside}
 use Rattle.yield_curve.proofs.Splines.{no-segment}
 use borrow.Author.Tests.{lt-ltb, le-ltb}
-use Rattle.yield_curve.specs.Segments.{knot}
+use Rattle.curves.specs.Segments.{knot}
 use Rattle.yield_curve.specs.Spline.{cubic, splineOf}
-use Rattle.yield_curve.proofs.Choices.{taken, left}
-use Rattle.yield_curve.proofs.Flat.{before-first, past-last, inside}
+use Rattle.curves.proofs.Choices.{taken, left}
+use Rattle.curves.proofs.Flat.{before-first, past-last, inside}
 use Rattle.yield_curve.proofs.Splines.{no-segment}
 use borrow.Author.Needs.{needs}
 use Rattle.yield_curve.proofs.spline.spline_of.Statement.{statement}

@@ -6,7 +6,7 @@ use native.Mathlib.Omega.{arith}
 use lib.ListN.{length, length-set, replicate}
 use Rattle.numbers.specs.Clamps.{plusZero}
 use Rattle.yield_curve.specs.Spline.{mu, z}
-use Rattle.yield_curve.proofs.Filling.{Holds, one-place, placed}
+use Rattle.curves.proofs.Filling.{Holds, one-place, placed}
 use Rattle.yield_curve.proofs.spline.sweep_up.Statement.{statement}
 use Rattle.yield_curve.proofs.spline.sweep_up.Tie as tie
 

@@ -1,0 +1,56 @@
+-- The three kinds of curve: the rate by the segment that serves, and the exp of each exponent is the discount factor, at or before time 0 too. Assumes nothing.
+use mathlib.Core.Path.{_≡_, refl, sym, ap, _∙_}
+use mathlib.Core.Bool.{Bool, true, false, cond}
+use mathlib.Core.List.{List, [], _∷_, map}
+use Prim.Native.Nat.{ℕ}
+use lib.Ieee.{Float, binary64, neg, mul, le}
+use Rattle.numbers.specs.Literals.{one}
+use Rattle.numbers.specs.Clamps.{plusZero}
+use Rattle.numbers.proofs.Zeros.{plus-zero}
+use Rattle.elementary.specs.Exp.{exp}
+use Rattle.elementary.proofs.Laws.{exp-of-zero}
+use Rattle.elementary.proofs.PartWay.{map-alike}
+use Rattle.curves.specs.declared.kinds.Kind.{Kind}
+use Rattle.curves.specs.declared.kinds.Kind.the-variants as kind-is
+use Rattle.curves.specs.Segments.{Ends, endsOf, segmentBy, flatOutside}
+use Rattle.curves.specs.Kinds.{ruleOf, along, rateOn, discounted, discountOn, exponentAt}
+use Rattle.curves.specs.inner.Exponents.{rateOrExponent, answerOn}
+
+-- ---- discount factors
+exp-of-either : (b : Bool) (x : Float) → exp (cond b plusZero x) ≡ cond b one (exp x)
+exp-of-either true x = ap exp plus-zero ∙ exp-of-zero false
+exp-of-either false x = refl
+
+pub exp-of-exponent : (kind : Kind) (rate t : Float) → exp (exponentAt kind rate t) ≡ discounted kind rate t
+unfolding exponentAt discounted
+exp-of-exponent kind-is.YieldCurve rate t = refl
+exp-of-exponent kind-is.DiscountCurve rate t = exp-of-either (le t plusZero) (mul binary64 (neg rate) t)
+exp-of-exponent kind-is.SpreadCurve rate t = refl
+
+-- ---- one answer
+module _ (kind : Kind) (times rates : List Float) where
+  -- the rate by the segment that serves
+  pub by-segment : (t : Float) (i : ℕ) (e : Ends) (between r : Float) → i ≡ segmentBy (ruleOf kind) times t → e ≡ endsOf times rates i → between ≡ along kind e t
+      → r ≡ flatOutside times rates t between → r ≡ rateOn kind times rates t
+  unfolding rateOn
+  by-segment t i e between r is-i is-e is-between is-r =
+      is-r ∙ ap (flatOutside times rates t) (is-between ∙ ap (λ (g : Ends). along kind g t) (is-e ∙ ap (endsOf times rates) is-i))
+
+  pub one-answer : (exponent : Bool) (t x rate r : Float) → x ≡ t → rate ≡ rateOn kind times rates x → r ≡ rateOrExponent kind exponent rate x → r ≡ answerOn kind exponent times rates t
+  unfolding answerOn
+  one-answer exponent t x rate r is-x is-rate is-r = is-r ∙ rw (is-rate, is-x)
+
+  -- ---- a list of answers
+  pub rates-themselves : (asked : List Float) → map (answerOn kind false times rates) asked ≡ map (rateOn kind times rates) asked
+  unfolding answerOn rateOrExponent
+  rates-themselves asked = refl
+
+  map-twice : (f g : Float → Float) (xs : List Float) → map f (map g xs) ≡ map (λ (x : Float). f (g x)) xs
+  map-twice f g [] = refl
+  map-twice f g (x ∷ xs) = ap (λ (r : List Float). f (g x) ∷ r) (map-twice f g xs)
+
+  pub exps-of-answers : (asked : List Float) → map exp (map (answerOn kind true times rates) asked) ≡ map (discountOn kind times rates) asked
+  unfolding answerOn rateOrExponent discountOn
+  exps-of-answers asked =
+      map-twice exp (answerOn kind true times rates) asked
+      ∙ map-alike (λ (t : Float). exp (answerOn kind true times rates t)) (discountOn kind times rates) (λ t. exp-of-exponent kind (rateOn kind times rates t) t) asked

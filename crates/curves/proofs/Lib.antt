@@ -1,0 +1,15 @@
+pub mod Choices
+pub mod Adding
+pub mod Filling
+pub mod Serving
+pub mod Halvings
+pub mod Flat
+pub mod KnotLine
+pub mod InOrder
+pub mod CurveLines
+pub mod Answers
+pub mod Listing
+pub mod GivenPlaces
+pub mod AtKnots
+pub mod Noughts
+pub mod Exactly

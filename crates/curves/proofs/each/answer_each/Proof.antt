@@ -1,0 +1,60 @@
+-- `curves::each::answer_each` meets its contract: the times before `at` have given way to their answers. Assumes nothing.
+use mathlib.Core.Path.{_≡_, refl, _∙_}
+use Prim.Native.Nat.{_-_, _≤_}
+use native.Mathlib.Omega.{arith}
+use borrow.Author.Needs.{needs}
+use borrow.Rule.Slice.PartMut.{same-len-mid}
+use lib.ListN.{length, length-take, length-drop}
+use Rattle.elementary.proofs.PartWay.{Passed, none-passed, all-passed, part-passed}
+use Rattle.curves.specs.Segments.{Rising}
+use Rattle.curves.specs.inner.Exponents.{answerOn}
+use Rattle.curves.proofs.each.answer_each.Statement.{statement}
+use Rattle.curves.proofs.each.answer_each.Tie as tie
+
+abbrev Inv-loop : tie.InvT-loop
+Inv-loop kind exponents times rates asked₀ at₀ asked at =
+    (at ≤ length asked₀) × (length asked ≡ length asked₀) × (Rising times → Passed (answerOn kind exponents times rates) (length asked₀) asked₀ asked at)
+
+abbrev μ-loop : tie.MeasureT-loop
+μ-loop kind exponents times rates asked₀ at₀ asked at = length asked₀ - at
+
+loop-holds : tie.Need-loop-holds Inv-loop μ-loop
+loop-holds c = (omega arith, refl, λ rises. none-passed _ _ _)
+
+answer-eight-requires : tie.Need-answer-eight-requires Inv-loop μ-loop
+answer-eight-requires c κs = let at = c .before .before in simp (length-take, length-drop) (omega (arith, at .loop .inv .1))
+
+loop-again : tie.Need-loop-again Inv-loop μ-loop
+loop-again c = ?
+
+same-length : tie.Need-same-length Inv-loop μ-loop
+same-length c =
+    let at = c .before .before .before .before .before in
+    same-len-mid (at .loop .at) (length (at .loop .asked) - at .loop .at) (at .loop .asked) (c .before .before .answer-one-by-one .last .1 .1 .1 .1 .0) (c .before .before .answer-one-by-one .kept .1 .1 .1 .1 .0) ∙ at .loop .inv .1
+
+returns : tie.Need-returns Inv-loop μ-loop
+returns c rises = ?
+
+pub answer-each-spec : {M : Type 1} → statement M
+answer-each-spec =
+    tie.close
+    (tie.spec
+    Inv-loop
+    μ-loop
+    loop-holds
+    (λ c. search needs)
+    (λ c. search needs)
+    (λ c. search needs)
+    (λ c. search needs)
+    (λ c. search needs)
+    (λ c. search needs)
+    answer-eight-requires
+    (λ c. search needs)
+    loop-again
+    (λ c. search needs)
+    (λ c. search needs)
+    (λ c. search needs)
+    (λ c. search needs)
+    (λ c κs. search needs)
+    same-length
+    returns)

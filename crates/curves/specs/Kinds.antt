@@ -1,0 +1,52 @@
+-- What the three kinds of curve differ in: by which rule a segment serves, the formula along it, and what the discount factor is at or before time 0. Definitions only. Assumes nothing.
+use mathlib.Core.Bool.{cond}
+use mathlib.Core.List.{List}
+use lib.Ieee.{Float, binary64, neg, mul, le}
+use Rattle.numbers.specs.Literals.{one}
+use Rattle.numbers.specs.Clamps.{plusZero}
+use Rattle.elementary.specs.Exp.{exp}
+use Rattle.refusals.specs.Outcome.{Outcome, judged}
+use Rattle.curves.specs.declared.segments.Rule.{Rule}
+use Rattle.curves.specs.declared.segments.Rule.the-variants as rule-is
+use Rattle.curves.specs.declared.kinds.Kind.{Kind}
+use Rattle.curves.specs.declared.kinds.Kind.the-variants as kind-is
+use Rattle.curves.specs.Segments.{Ends, endsOf, segmentBy, flatOutside}
+use Rattle.curves.specs.Curve.{askedLines}
+use Rattle.curves.specs.Formulas.{alongYields, alongZeros, alongRates}
+
+-- at an inner knot the yield and the discount curve go by the segment that ends there, the spread curves by the one that starts there
+unfoldable pub ruleOf : Kind → Rule
+ruleOf kind-is.YieldCurve = rule-is.Ending
+ruleOf kind-is.DiscountCurve = rule-is.Ending
+ruleOf kind-is.SpreadCurve = rule-is.Starting
+
+unfoldable pub along : Kind → Ends → Float → Float
+along kind-is.YieldCurve = alongYields
+along kind-is.DiscountCurve = alongZeros
+along kind-is.SpreadCurve = alongRates
+
+-- the rate at a time, flat outside
+unfoldable pub rateOn : Kind → List Float → List Float → Float → Float
+rateOn kind times rates t = flatOutside times rates t (along kind (endsOf times rates (segmentBy (ruleOf kind) times t)) t)
+
+-- exp(-r·t), and of a discount curve 1 at or before time 0
+unfoldable pub discounted : Kind → Float → Float → Float
+discounted kind-is.YieldCurve rate t = exp (mul binary64 (neg rate) t)
+discounted kind-is.DiscountCurve rate t = cond (le t plusZero) one (exp (mul binary64 (neg rate) t))
+discounted kind-is.SpreadCurve rate t = exp (mul binary64 (neg rate) t)
+
+unfoldable pub discountOn : Kind → List Float → List Float → Float → Float
+discountOn kind times rates t = discounted kind (rateOn kind times rates t) t
+
+-- what it is the exp of: -r·t, and of a discount curve +0 at or before time 0
+unfoldable pub exponentAt : Kind → Float → Float → Float
+exponentAt kind-is.YieldCurve rate t = mul binary64 (neg rate) t
+exponentAt kind-is.DiscountCurve rate t = cond (le t plusZero) plusZero (mul binary64 (neg rate) t)
+exponentAt kind-is.SpreadCurve rate t = mul binary64 (neg rate) t
+
+-- ---- what a lookup answers
+unfoldable pub rateAnswer : Kind → List Float → List Float → Float → Outcome Float
+rateAnswer kind times rates t = judged (askedLines times rates t) (rateOn kind times rates t)
+
+unfoldable pub discountAnswer : Kind → List Float → List Float → Float → Outcome Float
+discountAnswer kind times rates t = judged (askedLines times rates t) (discountOn kind times rates t)

@@ -1,0 +1,171 @@
+// A list of lookups on one curve: the curve and the times are judged once, and each time gives way to its answer.
+ghost use mathlib.Core.Path.{_≡_};
+ghost use mathlib.Core.Bool.{true};
+ghost use mathlib.Core.List.{[], _∷_, map};
+ghost use Prim.Native.Nat.{ℕ, _<_};
+ghost use lib.ListN.{length, getD};
+ghost use lib.Ieee.{nan};
+ghost use lib.Ieee.Scale.{finite};
+ghost use Rattle.refusals.specs.Outcome.{judged};
+ghost use Rattle.refusals.specs.Answers.{verdictOutcome};
+ghost use Rattle.refusals.specs.Table.{badTime};
+ghost use Rattle.refusals.specs.Places.{placed};
+ghost use Rattle.curves.specs.Segments.{Rising};
+ghost use Rattle.curves.specs.Kinds.{rateOn, discountOn};
+ghost use Rattle.curves.specs.Lists.{eachOutcome, eachAfter};
+ghost use Rattle.curves.specs.inner.Exponents.{rateOrExponent, answerOn};
+use crate::curve::bad_time;
+use crate::curve::judge_curve;
+use crate::curve::one_unless;
+use crate::formulas::along;
+use crate::halving::eight_segments;
+use crate::kinds::Kind;
+use crate::kinds::rule_of;
+use crate::lookups::exponent_at;
+use crate::lookups::rate_of;
+use crate::segments::ends_of;
+use crate::segments::flat_outside;
+use elementary::exp::exp_each;
+use numbers::sizes::is_finite;
+use refusals::Verdict;
+use refusals::refuse_at;
+
+// Whether each is finite; all are asked alike, so that several are asked at once.
+fn all_finite(asked: &[f64]) -> bool
+    ensures { λ r. ⌜ (r ≡ true → (k : ℕ) → k < length (now (asked .entry)) → finite (getD (now (asked .entry)) k nan) ≡ true) ⌝ }
+{
+    let mut found: u64 = 0;
+    let mut i: usize = 0;
+    while i < asked.len() {
+        found = found + one_unless(is_finite(asked[i]));
+        i += 1;
+    }
+    found == 0
+}
+
+// Line 7, at the first time that is not finite.
+fn judge_times(asked: &[f64]) -> Verdict
+    ensures { λ r. ⌜ verdictOutcome r ≡ placed (judged ((record { number = 7; causes = map badTime (now (asked .entry)) }) ∷ []) tt) ⌝ }
+{
+    if all_finite(asked) {
+        return Verdict::Accepted;
+    }
+    let mut i: usize = 0;
+    while i < asked.len() {
+        if bad_time(asked[i]) {
+            return Verdict::Refused(refuse_at(7, i));
+        }
+        i += 1;
+    }
+    Verdict::Accepted
+}
+
+// Lines 4, 5 and 6 of the curve, and then 7 of each time.
+pub fn judge_each(times: &[f64], rates: &[f64], asked: &[f64]) -> Verdict
+    ensures { λ r. ⌜ verdictOutcome r ≡ eachOutcome (now (times .entry)) (now (rates .entry)) (now (asked .entry)) ⌝ }
+{
+    match judge_curve(times, rates) {
+        Verdict::Refused(refusal) => Verdict::Refused(refusal),
+        Verdict::Accepted => judge_times(asked),
+    }
+}
+
+// A rate, or what the discount factor at its time is the exp of.
+fn rate_or_exponent(kind: Kind, exponent: bool, rate: f64, t: f64) -> f64
+    ensures { λ r. ⌜ r ≡ rateOrExponent kind exponent rate t ⌝ }
+{
+    if exponent { exponent_at(kind, rate, t) } else { rate }
+}
+
+// Eight answers, by the segments that halving finds.
+fn answer_eight(kind: Kind, exponents: bool, times: &[f64], rates: &[f64], asked: &mut [f64])
+    requires { ⌜ length (now asked) ≡ 8 ⌝ }
+    ensures { λ _. ⌜ (Rising (now (times .entry)) → now (asked .exit) ≡ map (answerOn kind exponents (now (times .entry)) (now (rates .entry))) (now (asked .entry))) ⌝ }
+{
+    let segments = eight_segments(rule_of(kind), times, asked);
+    let mut j: usize = 0;
+    while j < 8 {
+        let t = asked[j];
+        let between = along(kind, ends_of(times, rates, segments[j]), t);
+        let rate = flat_outside(times, rates, t, between);
+        asked[j] = rate_or_exponent(kind, exponents, rate, t);
+        j += 1;
+    }
+}
+
+// Answers one at a time.
+fn answer_one_by_one(
+    kind: Kind,
+    exponents: bool,
+    times: &[f64],
+    rates: &[f64],
+    asked: &mut [f64],
+)
+    ensures { λ _. ⌜ (Rising (now (times .entry)) → now (asked .exit) ≡ map (answerOn kind exponents (now (times .entry)) (now (rates .entry))) (now (asked .entry))) ⌝ }
+{
+    let mut j: usize = 0;
+    while j < asked.len() {
+        let t = asked[j];
+        asked[j] = rate_or_exponent(kind, exponents, rate_of(kind, times, rates, t), t);
+        j += 1;
+    }
+}
+
+// All answers, eight at a time.
+fn answer_each(kind: Kind, exponents: bool, times: &[f64], rates: &[f64], asked: &mut [f64])
+    ensures { λ _. ⌜ (Rising (now (times .entry)) → now (asked .exit) ≡ map (answerOn kind exponents (now (times .entry)) (now (rates .entry))) (now (asked .entry))) ⌝ }
+{
+    let mut at: usize = 0;
+    while asked.len() - at >= 8 {
+        let end = at + 8;
+        answer_eight(kind, exponents, times, rates, &mut asked[at..end]);
+        at = end;
+    }
+    answer_one_by_one(kind, exponents, times, rates, &mut asked[at..]);
+}
+
+// The rate at each time, on a curve whose times rise.
+pub fn rates_of(kind: Kind, times: &[f64], rates: &[f64], asked: &mut [f64])
+    ensures { λ _. ⌜ (Rising (now (times .entry)) → now (asked .exit) ≡ map (rateOn kind (now (times .entry)) (now (rates .entry))) (now (asked .entry))) ⌝ }
+{
+    answer_each(kind, false, times, rates, asked);
+}
+
+// The discount factor at each time, on a curve whose times rise.
+pub fn discounts_of(kind: Kind, times: &[f64], rates: &[f64], asked: &mut [f64])
+    ensures { λ _. ⌜ (Rising (now (times .entry)) → now (asked .exit) ≡ map (discountOn kind (now (times .entry)) (now (rates .entry))) (now (asked .entry))) ⌝ }
+{
+    answer_each(kind, true, times, rates, asked);
+    exp_each(asked);
+}
+
+// The rate at each time.
+pub fn rate_at_each(kind: Kind, times: &[f64], rates: &[f64], asked: &mut [f64]) -> Verdict
+    ensures { λ r. ⌜ (verdictOutcome r ≡ eachOutcome (now (times .entry)) (now (rates .entry)) (now (asked .entry))) × (now (asked .exit) ≡ eachAfter (rateOn kind (now (times .entry)) (now (rates .entry))) (now (times .entry)) (now (rates .entry)) (now (asked .entry))) ⌝ }
+{
+    match judge_each(times, rates, asked) {
+        Verdict::Refused(refusal) => Verdict::Refused(refusal),
+        Verdict::Accepted => {
+            rates_of(kind, times, rates, asked);
+            Verdict::Accepted
+        }
+    }
+}
+
+// The discount factor at each time.
+pub fn discount_factor_at_each(
+    kind: Kind,
+    times: &[f64],
+    rates: &[f64],
+    asked: &mut [f64],
+) -> Verdict
+    ensures { λ r. ⌜ (verdictOutcome r ≡ eachOutcome (now (times .entry)) (now (rates .entry)) (now (asked .entry))) × (now (asked .exit) ≡ eachAfter (discountOn kind (now (times .entry)) (now (rates .entry))) (now (times .entry)) (now (rates .entry)) (now (asked .entry))) ⌝ }
+{
+    match judge_each(times, rates, asked) {
+        Verdict::Refused(refusal) => Verdict::Refused(refusal),
+        Verdict::Accepted => {
+            discounts_of(kind, times, rates, asked);
+            Verdict::Accepted
+        }
+    }
+}

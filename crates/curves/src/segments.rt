@@ -1,0 +1,88 @@
+// The segments of a curve: the rules by which one serves a time, its ends, and what is flat outside.
+ghost use mathlib.Core.Path.{_≡_};
+ghost use Prim.Native.Nat.{suc};
+ghost use lib.Ieee.{nan};
+ghost use Rattle.curves.specs.Segments.{knot, lastOf, flatOutside};
+
+// The two times of a segment, and the two rates.
+pub struct Ends {
+    pub t0: f64,
+    pub t1: f64,
+    pub r0: f64,
+    pub r1: f64,
+}
+
+// Which segment serves an inner knot: the one that ends there, or the one that starts there.
+pub enum Rule {
+    Ending,
+    Starting,
+}
+
+// What is read where there is no knot.
+pub fn no_knot() -> f64
+    ensures { λ r. ⌜ r ≡ nan ⌝ }
+{
+    0.0 / 0.0
+}
+
+// The knot i, from 0.
+pub fn knot_at(xs: &[f64], i: usize) -> f64
+    ensures { λ r. ⌜ r ≡ knot (now (xs .entry)) i ⌝ }
+{
+    if i < xs.len() { xs[i] } else { no_knot() }
+}
+
+// The knot after i.
+pub fn knot_after(xs: &[f64], i: usize) -> f64
+    ensures { λ r. ⌜ r ≡ knot (now (xs .entry)) (suc i) ⌝ }
+{
+    if i < xs.len() {
+        knot_at(xs, i + 1)
+    } else {
+        no_knot()
+    }
+}
+
+pub fn last_knot(xs: &[f64]) -> f64
+    ensures { λ r. ⌜ r ≡ lastOf (now (xs .entry)) ⌝ }
+{
+    if xs.len() > 0 {
+        xs[xs.len() - 1]
+    } else {
+        no_knot()
+    }
+}
+
+pub fn ends_of(times: &[f64], rates: &[f64], i: usize) -> Ends
+    ensures { λ e. ⌜ (e .t0 ≡ knot (now (times .entry)) i) × (e .t1 ≡ knot (now (times .entry)) (suc i)) × (e .r0 ≡ knot (now (rates .entry)) i) × (e .r1 ≡ knot (now (rates .entry)) (suc i)) ⌝ }
+{
+    if i < times.len() {
+        let next = i + 1;
+        if next < times.len() {
+            if next < rates.len() {
+                return Ends {
+                    t0: times[i],
+                    t1: times[next],
+                    r0: rates[i],
+                    r1: rates[next],
+                };
+            }
+        }
+    }
+    Ends {
+        t0: knot_at(times, i),
+        t1: knot_after(times, i),
+        r0: knot_at(rates, i),
+        r1: knot_after(rates, i),
+    }
+}
+
+// Flat before the first knot and past the last, and between them what is said; chosen last of all, so that many can be worked out at once.
+pub fn flat_outside(times: &[f64], rates: &[f64], t: f64, between: f64) -> f64
+    ensures { λ r. ⌜ r ≡ flatOutside (now (times .entry)) (now (rates .entry)) t between ⌝ }
+{
+    let first = knot_at(rates, 0);
+    let last = last_knot(rates);
+    let after = if last_knot(times) <= t { last } else { between };
+    if t <= knot_at(times, 0) { first } else { after }
+}
