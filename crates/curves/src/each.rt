@@ -2,7 +2,7 @@
 ghost use mathlib.Core.Path.{_≡_};
 ghost use mathlib.Core.Bool.{true};
 ghost use mathlib.Core.List.{[], _∷_, map};
-ghost use Prim.Native.Nat.{ℕ, _<_};
+ghost use Prim.Native.Nat.{ℕ, _<_, _≤_};
 ghost use lib.ListN.{length, getD};
 ghost use lib.Ieee.{nan};
 ghost use lib.Ieee.Scale.{finite};
@@ -111,6 +111,46 @@ fn answer_one_by_one(
     }
 }
 
+// The times, and zeros behind them.
+fn filled_up(asked: &[f64]) -> [f64; 8]
+    requires { ⌜ length (now asked) ≤ 8 ⌝ }
+    ensures { λ r. ⌜ (length r ≡ 8) × ((k : ℕ) → k < length (now (asked .entry)) → getD r k nan ≡ getD (now (asked .entry)) k nan) ⌝ }
+{
+    let mut room = [0.0; 8];
+    let mut j: usize = 0;
+    while j < asked.len() {
+        room[j] = asked[j];
+        j += 1;
+    }
+    room
+}
+
+// Up to eight answers at once, in room for eight.
+fn answer_few(kind: Kind, exponents: bool, times: &[f64], rates: &[f64], asked: &mut [f64])
+    requires { ⌜ length (now asked) ≤ 8 ⌝ }
+    ensures { λ _. ⌜ (Rising (now (times .entry)) → now (asked .exit) ≡ map (answerOn kind exponents (now (times .entry)) (now (rates .entry))) (now (asked .entry))) ⌝ }
+{
+    let mut room = filled_up(asked);
+    answer_eight(kind, exponents, times, rates, &mut room);
+    let mut j: usize = 0;
+    while j < asked.len() {
+        asked[j] = room[j];
+        j += 1;
+    }
+}
+
+// Fewer than eight: one or two are quicker one by one.
+fn answer_last(kind: Kind, exponents: bool, times: &[f64], rates: &[f64], asked: &mut [f64])
+    requires { ⌜ length (now asked) ≤ 8 ⌝ }
+    ensures { λ _. ⌜ (Rising (now (times .entry)) → now (asked .exit) ≡ map (answerOn kind exponents (now (times .entry)) (now (rates .entry))) (now (asked .entry))) ⌝ }
+{
+    if asked.len() <= 2 {
+        answer_one_by_one(kind, exponents, times, rates, asked);
+    } else {
+        answer_few(kind, exponents, times, rates, asked);
+    }
+}
+
 // All answers, eight at a time.
 fn answer_each(kind: Kind, exponents: bool, times: &[f64], rates: &[f64], asked: &mut [f64])
     ensures { λ _. ⌜ (Rising (now (times .entry)) → now (asked .exit) ≡ map (answerOn kind exponents (now (times .entry)) (now (rates .entry))) (now (asked .entry))) ⌝ }
@@ -121,7 +161,7 @@ fn answer_each(kind: Kind, exponents: bool, times: &[f64], rates: &[f64], asked:
         answer_eight(kind, exponents, times, rates, &mut asked[at..end]);
         at = end;
     }
-    answer_one_by_one(kind, exponents, times, rates, &mut asked[at..]);
+    answer_last(kind, exponents, times, rates, &mut asked[at..]);
 }
 
 // The rate at each time, on a curve whose times rise.

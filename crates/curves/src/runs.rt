@@ -34,7 +34,23 @@ fn put_dates(dt: f64, first: u32, dates: &mut [f64])
     }
 }
 
-// So many discount factors of the dates after the first ones; the places up to a whole eight are looked up too, so that none is looked up alone.
+// The discount factors there.
+fn put_factors(
+    kind: Kind,
+    dt: f64,
+    times: &[f64],
+    rates: &[f64],
+    first: u32,
+    factors: &mut [f64],
+)
+    requires { ⌜ first + length (now factors) < 4294967296 ⌝ }
+    ensures { λ _. ⌜ (Rising (now (times .entry)) → FactorsAfter kind dt (now (times .entry)) (now (rates .entry)) first (length (now (factors .exit))) (now (factors .exit))) ⌝ }
+{
+    put_dates(dt, first, factors);
+    discounts_of(kind, times, rates, factors);
+}
+
+// So many discount factors of the dates after the first ones.
 pub fn factors_after(
     kind: Kind,
     dt: f64,
@@ -47,8 +63,6 @@ pub fn factors_after(
 {
     let mut factors = [0.0; 64];
     let taken = taken_of(first, count);
-    put_dates(dt, first, &mut factors[..taken]);
-    let eights = (taken + 7) / 8 * 8;
-    discounts_of(kind, times, rates, &mut factors[..eights]);
+    put_factors(kind, dt, times, rates, first, &mut factors[..taken]);
     factors
 }

@@ -1,7 +1,7 @@
 // What cash flows are worth over a curve and a spread: the curve's rates at the flows' times, their factors, and sums over them.
 ghost use mathlib.Core.Path.{_≡_};
 ghost use mathlib.Core.List.{List};
-ghost use Prim.Native.Nat.{ℕ, _+_, _%_, _<_, _≤_};
+ghost use Prim.Native.Nat.{ℕ, _+_, _<_, _≤_};
 ghost use lib.ListN.{length};
 ghost use lib.Ieee.{Float, binary64, neg, add, mul};
 ghost use Rattle.numbers.specs.Sums.{addedUp};
@@ -15,14 +15,6 @@ use crate::units::to_decimal;
 use curves::kinds::Kind;
 use elementary::exp::exp_each;
 
-// How many places so many times take in whole eights.
-fn whole_eights(count: usize, room: usize) -> usize
-    requires { ⌜ (count ≤ room) × (room % 8 ≡ 0) ⌝ }
-    ensures { λ r. ⌜ (count ≤ r) × (r ≤ room) ⌝ }
-{
-    (count + 7) / 8 * 8
-}
-
 // The flows' times, in the first places of a room.
 fn copy_times(times: &[f64], room: &mut [f64])
     requires { ⌜ length (now times) ≤ length (now room) ⌝ }
@@ -35,14 +27,14 @@ fn copy_times(times: &[f64], room: &mut [f64])
     }
 }
 
-// The curve's rates at the flows' times, kept so that they are looked up once; the places up to a whole eight are looked up too.
+// The curve's rates at the flows' times, kept so that they are looked up once.
 pub(crate) fn keep_rates(times: &[f64], tenors: &[f64], rates: &[f64], kept: &mut [f64])
-    requires { ⌜ (length (now times) ≤ length (now kept)) × (length (now kept) % 8 ≡ 0) × Rising (now tenors) ⌝ }
+    requires { ⌜ (length (now times) ≤ length (now kept)) × Rising (now tenors) ⌝ }
     ensures { λ _. ⌜ ((i : ℕ) → i < length (now (times .entry)) → knot (now (kept .exit)) i ≡ rateOf (now (tenors .entry)) (now (rates .entry)) (knot (now (times .entry)) i)) ⌝ }
 {
     copy_times(times, kept);
-    let eights = whole_eights(times.len(), kept.len());
-    curves::each::rates_of(Kind::SpreadCurve, tenors, rates, &mut kept[..eights]);
+    let count = times.len();
+    curves::each::rates_of(Kind::SpreadCurve, tenors, rates, &mut kept[..count]);
 }
 
 // What the factors are the exps of: the rate and the spread, negated, times the time.
