@@ -13,3 +13,4 @@ pub mod GivenPlaces
 pub mod AtKnots
 pub mod Noughts
 pub mod Exactly
+pub mod Tight

@@ -1,3 +1,4 @@
+pub mod YieldKind
 pub mod Forwards
 pub mod Pars
 pub mod Pivots

@@ -1,6 +1,7 @@
 -- `yield_curve::linear::forward_rate` meets its contract: the verdict on the curve and on what is asked decides which answer it is. Assumes nothing.
 use Rattle.yield_curve.specs.Linear.{forwardRate}
 use Rattle.curves.proofs.CurveLines.{answer-refused, answer-given}
+use Rattle.curves.proofs.Listing.{accepted-rises}
 use borrow.Author.Needs.{needs}
 use Rattle.yield_curve.proofs.linear.forward_rate.Statement.{statement}
 use Rattle.yield_curve.proofs.linear.forward_rate.Tie as tie
@@ -18,7 +19,10 @@ enum-told : tie.Need-enum-told
 enum-told c = search needs
 
 forward-of-requires : tie.Need-forward-of-requires
-forward-of-requires c κs = search needs
+forward-of-requires c κs =
+    let judge = c .before .before in
+    let a = judge .before .before .before .before .args in
+    accepted-rises (a .times .now) (a .rates .now) _ _ (judge .judge-asked .ensures) (c .enum-told .given .1)
 
 returns : tie.Need-returns
 unfolding forwardRate

@@ -8,7 +8,7 @@ half-years-requires : tie.Need-half-years-requires
 half-years-requires c κs = search needs
 
 yield-of-requires : tie.Need-yield-of-requires
-yield-of-requires c κs = search needs
+yield-of-requires c κs = c .before .before .before .before .pre
 
 returns : tie.Need-returns
 returns c =
@@ -20,7 +20,7 @@ int-to-float-dt : tie.Need-int-to-float-dt
 int-to-float-dt c = search needs
 
 discount-sum-requires : tie.Need-discount-sum-requires
-discount-sum-requires c κs = search needs
+discount-sum-requires c κs = c .before .before .before .before .before .pre
 
 absolute-value-requires : tie.Need-absolute-value-requires
 absolute-value-requires c κs = search needs
@@ -34,7 +34,7 @@ returns-2 c =
     too-small (a .times .now) (a .rates .now) (a .t) _ (count .half-years .ensures) _ (sum .discount-sum .ensures) (some .if1 .left) _ (c .before .absolute-value .ensures) (c .if2 .taken)
 
 discount-of-requires : tie.Need-discount-of-requires
-discount-of-requires c κs = search needs
+discount-of-requires c κs = c .before .before .before .before .before .before .before .before .pre
 
 returns-3 : tie.Need-returns-3
 returns-3 c =

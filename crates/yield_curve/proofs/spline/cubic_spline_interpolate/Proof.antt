@@ -3,6 +3,7 @@ use mathlib.Core.Path.{sym, ap, _∙_}
 use Rattle.refusals.specs.Answers.{verdictOutcome}
 use Rattle.yield_curve.specs.Spline.{cubicSplineInterpolate}
 use Rattle.curves.proofs.CurveLines.{accepted-at-most-120, answer-refused, answer-given}
+use Rattle.curves.proofs.Listing.{in-rising-order}
 use borrow.Author.Needs.{needs}
 use Rattle.yield_curve.proofs.spline.cubic_spline_interpolate.Statement.{statement}
 use Rattle.yield_curve.proofs.spline.cubic_spline_interpolate.Tie as tie
@@ -23,7 +24,8 @@ spline-of-requires : tie.Need-spline-of-requires
 spline-of-requires c κs =
     let judge = c .before .before in
     let a = judge .before .before .before .before .args in
-    accepted-at-most-120 (a .times .now) (a .rates .now) _ (sym (ap verdictOutcome (c .enum-told .given .1)) ∙ judge .judge-asked .ensures)
+    let good = sym (ap verdictOutcome (c .enum-told .given .1)) ∙ judge .judge-asked .ensures in
+    (accepted-at-most-120 (a .times .now) (a .rates .now) _ good, in-rising-order (a .times .now) (a .rates .now) _ good)
 
 returns : tie.Need-returns
 unfolding cubicSplineInterpolate

@@ -4,13 +4,7 @@ use Prim.Native.Nat.{ℕ}
 use native.Mathlib.Omega.{arith}
 use lib.Ieee.{binary64, sub}
 use borrow.Author.Tests.{lt-ltb, le-ltb}
-use Rattle.curves.specs.Segments.{knot}
-use Rattle.yield_curve.specs.Spline.{cubic, splineOf}
-use Rattle.curves.proofs.Choices.{taken, left}
-use Rattle.curves.proofs.Flat.{before-first, past-last, inside}
-use Rattle.yield_curve.proofs.Splines.{no-segment}
-use borrow.Author.Tests.{lt-ltb, le-ltb}
-use Rattle.curves.specs.Segments.{knot}
+use Rattle.curves.specs.Segments.{knot, segmentBy}
 use Rattle.yield_curve.specs.Spline.{cubic, splineOf}
 use Rattle.curves.proofs.Choices.{taken, left}
 use Rattle.curves.proofs.Flat.{before-first, past-last, inside}
@@ -20,7 +14,7 @@ use Rattle.yield_curve.proofs.spline.spline_of.Statement.{statement}
 use Rattle.yield_curve.proofs.spline.spline_of.Tie as tie
 
 yield-of-requires : tie.Need-yield-of-requires
-yield-of-requires c κs = search needs
+yield-of-requires c κs = c .before .before .before .pre .1
 
 returns : tie.Need-returns
 unfolding splineOf
@@ -55,8 +49,8 @@ returns-3 c =
     past-last (a .times .now) (a .rates .now) (a .t) _ _ (read .knot-at .ensures) (last .before .if2 .left) _ (last .last-knot .ensures) _ (c .last-knot2 .ensures) (c .before .if3 .taken)
     ∙ left _ _ _ (le-ltb _ 3 (read .before .if1 .left))
 
-segment-ending-requires : tie.Need-segment-ending-requires
-segment-ending-requires c κs = search needs
+segment-requires : tie.Need-segment-requires
+segment-requires c κs = search needs
 
 sub-if4 : tie.Need-sub-if4
 sub-if4 c = search needs
@@ -65,14 +59,15 @@ cubic-requires : tie.Need-cubic-requires
 cubic-requires c κs = search needs
 
 returns-4 : tie.Need-returns-4
-unfolding splineOf
+unfolding splineOf segmentBy
 returns-4 c =
     let served = c .before .before in
     let last = served .before .before in
     let read = last .before .before in
-    let a = read .before .before .before .before .args in
+    let start = read .before .before .before .before in
+    let a = start .args in
     inside (a .times .now) (a .rates .now) (a .t) _ _ (read .knot-at .ensures) (last .before .if2 .left) _ (last .last-knot .ensures) _
-    (c .cubic .ensures ∙ ap (λ (i : ℕ). cubic (a .times .now) (a .rates .now) i (sub binary64 (a .t) (knot (a .times .now) i))) (served .segment-ending .ensures))
+    (c .cubic .ensures ∙ ap (λ (i : ℕ). cubic (a .times .now) (a .rates .now) i (sub binary64 (a .t) (knot (a .times .now) i))) (served .segment .ensures (start .pre .1)))
     (served .before .if3 .left)
     ∙ left _ _ _ (le-ltb _ 3 (read .before .if1 .left))
 
@@ -80,15 +75,16 @@ no-knot-requires : tie.Need-no-knot-requires
 no-knot-requires c κs = search needs
 
 returns-5 : tie.Need-returns-5
-unfolding splineOf
+unfolding splineOf segmentBy
 returns-5 c =
     let served = c .before .before in
     let last = served .before .before in
     let read = last .before .before in
-    let a = read .before .before .before .before .args in
+    let start = read .before .before .before .before in
+    let a = start .args in
     inside (a .times .now) (a .rates .now) (a .t) _ _ (read .knot-at .ensures) (last .before .if2 .left) _ (last .last-knot .ensures) _
     (c .no-knot .ensures ∙ no-segment (a .times .now) (a .rates .now) _ _ (omega arith)
-    ∙ ap (λ (i : ℕ). cubic (a .times .now) (a .rates .now) i (sub binary64 (a .t) (knot (a .times .now) i))) (served .segment-ending .ensures))
+    ∙ ap (λ (i : ℕ). cubic (a .times .now) (a .rates .now) i (sub binary64 (a .t) (knot (a .times .now) i))) (served .segment .ensures (start .pre .1)))
     (served .before .if3 .left)
     ∙ left _ _ _ (le-ltb _ 3 (read .before .if1 .left))
 
@@ -104,7 +100,7 @@ spline-of-spec =
     last-knot-requires
     last-knot-requires-2
     returns-3
-    segment-ending-requires
+    segment-requires
     sub-if4
     cubic-requires
     returns-4

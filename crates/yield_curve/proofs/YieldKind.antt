@@ -1,0 +1,25 @@
+-- The yield curve is the first of the three kinds: its definitions are the kind's. Assumes nothing.
+use mathlib.Core.Path.{_≡_, refl}
+use mathlib.Core.List.{List}
+use lib.Ieee.{Float}
+use Rattle.curves.specs.declared.kinds.Kind.the-variants as kind-is
+use Rattle.curves.specs.Segments.{segmentBy}
+use Rattle.curves.specs.Kinds.{ruleOf, along, rateOn, discounted, discountOn, rateAnswer, discountAnswer}
+use Rattle.yield_curve.specs.Linear.{yieldOf, discountOf, linearInterpolate, discountFactor}
+
+module _ (times rates : List Float) (t : Float) where
+  pub yield-on : rateOn kind-is.YieldCurve times rates t ≡ yieldOf times rates t
+  unfolding rateOn ruleOf along segmentBy yieldOf
+  yield-on = refl
+
+  pub discount-on : discountOn kind-is.YieldCurve times rates t ≡ discountOf times rates t
+  unfolding discountOn discounted rateOn ruleOf along segmentBy discountOf yieldOf
+  discount-on = refl
+
+  pub yield-answer : rateAnswer kind-is.YieldCurve times rates t ≡ linearInterpolate times rates t
+  unfolding rateAnswer rateOn ruleOf along segmentBy linearInterpolate yieldOf
+  yield-answer = refl
+
+  pub discount-answer : discountAnswer kind-is.YieldCurve times rates t ≡ discountFactor times rates t
+  unfolding discountAnswer discountOn discounted rateOn ruleOf along segmentBy discountFactor discountOf yieldOf
+  discount-answer = refl
