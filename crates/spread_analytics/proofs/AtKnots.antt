@@ -20,10 +20,11 @@ use Rattle.refusals.proofs.Verdicts.{verdict}
 use Rattle.elementary.proofs.Unrounded.{nonzero, nonzero-between, nought, add-nought}
 use Rattle.curves.specs.Segments.{knot, lastOf, Ends, endsOf}
 use Rattle.curves.specs.Curve.{curveLines}
+use Rattle.curves.specs.Formulas.{alongRates}
 use Rattle.curves.proofs.AtKnots.{Floats, earlier, rate-finite, time-amount, segment-that-starts, at-an-inner-knot, at-the-first-knot, at-the-last-knot}
 use Rattle.curves.proofs.Listing.{same-length}
 use Rattle.curves.proofs.Noughts.{minus, zero-or-not, add-noughts, times-nought, no-product, nought-over-plus, plus-between, minus-is-below, nothing-below, same-number}
-use Rattle.spread_analytics.specs.Curves.{alongRates, rateOf}
+use Rattle.spread_analytics.specs.Curves.{rateOf}
 
 -- ---- x less a zero: a finite number, with a minus where it is below 0, if the zero is -0
 module _ (x : Float) (f : T (fits binary64 x)) (h : T (finite x)) where

@@ -12,7 +12,7 @@ use Rattle.refusals.specs.Table.{badTime, badNumber}
 use Rattle.refusals.proofs.Judging.{exactly}
 use Rattle.curves.specs.Curve.{curveLines, askedLines}
 use Rattle.curves.specs.Lists.{eachLines, eachOutcome}
-use Rattle.yield_curve.proofs.Exactly as of-a-curve
+use Rattle.curves.proofs.Exactly as of-a-curve
 use Rattle.spread_analytics.specs.Curves.{rateAt, discountFactor, forwardRate}
 use Rattle.spread_analytics.specs.Flows.{flowLines, bondCashFlows}
 use Rattle.spread_analytics.specs.Spread.{spreadLines, pvCashFlows, zSpread, durationConvexity}
@@ -31,7 +31,7 @@ module _ (tenors rates : List Float) where
   unfolding forwardRate above
   forward-refused-exactly t1 t2 = exactly _ (curveLines tenors rates ++ line 7 (badTime t1 || badTime t2) ∷ []) tt
 
-  -- a list of times: `rate_at_each` and `discount_factor_at_each` give the yield curve's one outcome
+  -- a list of times: `rate_at_each` and `discount_factor_at_each` give the one outcome of every curve
   module _ (asked : List Float) where
     pub each-refused-exactly : length asked ≤ 4294967295 → ExactlyWhen (eachLines tenors rates asked) (eachOutcome tenors rates asked)
     each-refused-exactly = of-a-curve.each-refused-exactly tenors rates asked

@@ -1,3 +1,4 @@
+pub mod SpreadKind
 pub mod FlatOutside
 pub mod AtKnots
 pub mod LinesInParts

@@ -1,4 +1,4 @@
--- The lines of cash flows over a curve, asked one after the other, and what is known once they accept: the lists of flows are equally long, and no longer than 1,200. Assumes nothing.
+-- The lines of cash flows over a curve, asked one after the other, and what is known once they accept: the lists of flows are equally long, and no longer than 1,200, and the curve's tenors rise. Assumes nothing.
 use mathlib.Core.Path.{_≡_, refl, sym, ap, _∙_}
 use mathlib.Core.Bool.{Bool, true, false, not, _||_}
 use mathlib.Core.List.{List, [], _∷_, _++_, map}
@@ -14,8 +14,10 @@ use Rattle.refusals.specs.Outcome.{Outcome, refused, accepted, Line, alone}
 use Rattle.refusals.specs.Table.{unequal, tooManyFlows, badTime, badNumber}
 use Rattle.refusals.proofs.Judging.{none-is, passed}
 use Rattle.refusals.proofs.Verdicts.{verdict}
+use Rattle.curves.specs.Segments.{Rising}
 use Rattle.curves.specs.Curve.{curveLines}
 use Rattle.curves.proofs.CurveLines.{caused}
+use Rattle.curves.proofs.Listing.{accepted-rises}
 use Rattle.spread_analytics.specs.Spread.{spreadLines}
 use Rattle.spread_analytics.proofs.ItemLine.{itemLine}
 
@@ -69,12 +71,13 @@ module _ (times amounts tenors rates : List Float) (bad : Bool) where
   in-parts h = rw (equal _ _ h)
 
   pub flows-listed : (x : Verdict) → x ≡ verdict-is.Accepted → verdictOutcome x ≡ verdict (spreadLines times amounts tenors rates bad)
-      → (length times ≡ length amounts) × (length times ≤ 1200)
+      → (length times ≡ length amounts) × (length times ≤ 1200) × Rising tenors
   flows-listed x h e =
       let after-4 = passed tt tt _ _ (sym (ap verdictOutcome h) ∙ e) in
       let after-5 = passed tt tt _ _ (after-4 .1) in
       let after-6 = passed tt tt _ _ (after-5 .1) in
-      (same _ _ (either _ (unequal (length tenors) (length rates)) (none-is (after-4 .0) 0)), at-most-1200 times _ (after-6 .1))
+      let paired = same _ _ (either _ (unequal (length tenors) (length rates)) (none-is (after-4 .0) 0)) in
+      (paired, at-most-1200 times _ (after-6 .1), accepted-rises tenors rates _ x (e ∙ sym (in-parts paired)) h)
 
 -- a bad price, told by a test of its own
 pub by-price : (times amounts tenors rates : List Float) {told bad : Bool} {o : Outcome Unit} → told ≡ bad

@@ -18,14 +18,14 @@ use Rattle.spread_analytics.specs.Spread.{pvCashFlows, zSpread, duration
 use Rattle.spread_analytics.specs.Dated.{timesOf, amountsOf}
 use Rattle.spread_analytics.proofs.units.to_decimal.Kinds as to-decimal-kinds
 use Rattle.spread_analytics.proofs.units.to_decimal.Reads as to-decimal
-use Rattle.spread_analytics.proofs.curves.rate_at.Kinds as rate-at-kinds
-use Rattle.spread_analytics.proofs.curves.rate_at.Reads as rate-at
-use Rattle.spread_analytics.proofs.curves.swap_rate_at.Kinds as swap-rate-at-kinds
-use Rattle.spread_analytics.proofs.curves.swap_rate_at.Reads as swap-rate-at
-use Rattle.spread_analytics.proofs.curves.discount_factor.Kinds as discount-factor-kinds
-use Rattle.spread_analytics.proofs.curves.discount_factor.Reads as discount-factor
-use Rattle.spread_analytics.proofs.curves.forward_rate.Kinds as forward-rate-kinds
-use Rattle.spread_analytics.proofs.curves.forward_rate.Reads as forward-rate
+use Rattle.spread_analytics.proofs.rate_curves.rate_at.Kinds as rate-at-kinds
+use Rattle.spread_analytics.proofs.rate_curves.rate_at.Reads as rate-at
+use Rattle.spread_analytics.proofs.rate_curves.swap_rate_at.Kinds as swap-rate-at-kinds
+use Rattle.spread_analytics.proofs.rate_curves.swap_rate_at.Reads as swap-rate-at
+use Rattle.spread_analytics.proofs.rate_curves.discount_factor.Kinds as discount-factor-kinds
+use Rattle.spread_analytics.proofs.rate_curves.discount_factor.Reads as discount-factor
+use Rattle.spread_analytics.proofs.rate_curves.forward_rate.Kinds as forward-rate-kinds
+use Rattle.spread_analytics.proofs.rate_curves.forward_rate.Reads as forward-rate
 use Rattle.spread_analytics.proofs.spread.pv_cash_flows.Kinds as pv-cash-flows-kinds
 use Rattle.spread_analytics.proofs.spread.pv_cash_flows.Reads as pv-cash-flows
 use Rattle.spread_analytics.proofs.spread.z_spread.Kinds as z-spread-kinds

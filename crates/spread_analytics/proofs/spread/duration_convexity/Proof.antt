@@ -23,7 +23,8 @@ sensitivity-of-requires : tie.Need-sensitivity-of-requires
 sensitivity-of-requires c κs =
     let j = c .before .before in
     let a = j .before .before .before .before .before .args in
-    (flows-listed (now (a .times)) (now (a .amounts)) (now (a .tenors)) (now (a .rates)) false _ (c .enum-told .given .1) (j .judge-spread .ensures)) .0
+    let known = flows-listed (now (a .times)) (now (a .amounts)) (now (a .tenors)) (now (a .rates)) false _ (c .enum-told .given .1) (j .judge-spread .ensures) in
+    (known .0, known .2)
 
 returns : tie.Need-returns
 unfolding durationConvexity

@@ -9,7 +9,7 @@ use lib.Ieee.{Float, binary64, mul}
 use Rattle.numbers.specs.Sums.{addedUp}
 use Rattle.curves.specs.Segments.{knot}
 use Rattle.spread_analytics.specs.Spread.{factorOf, worthOf}
-use Rattle.spread_analytics.proofs.CarriedOn.{block-length, worth-term, timed-term, squared-term, to-end}
+use Rattle.spread_analytics.proofs.CarriedOn.{worth-term, timed-term, squared-term, to-end}
 use Rattle.spread_analytics.proofs.spread.sums_over.Statement.{statement}
 use Rattle.spread_analytics.proofs.spread.sums_over.Tie as tie
 
@@ -47,8 +47,9 @@ part-factors-of-end c = search needs
 
 factors-of-requires : tie.Need-factors-of-requires Inv-loop μ-loop
 factors-of-requires c κs =
-    let e = c .before .end-of-block .ensures in
-    simp (length-take, length-drop) (omega (arith, e .0, e .1, e .2))
+    let b = c .before in
+    let e = b .end-of-block .ensures in
+    (simp (length-take, length-drop) (omega (arith, e .0, e .1, e .2)), b .before .before .before .before .before .before .before .before .pre .1)
 
 mul-sums-on : tie.Need-mul-sums-on Inv-loop μ-loop
 mul-sums-on c = search needs
@@ -72,7 +73,7 @@ part-sums-on-start-2 : tie.Need-part-sums-on-start-2 Inv-loop μ-loop
 part-sums-on-start-2 c = search needs
 
 part-sums-on-end-2 : tie.Need-part-sums-on-end-2 Inv-loop μ-loop
-part-sums-on-end-2 c = omega (arith, c .before .before .before .end-of-block .ensures .1, c .before .before .before .before .before .before .before .before .before .before .before .pre)
+part-sums-on-end-2 c = omega (arith, c .before .before .before .end-of-block .ensures .1, c .before .before .before .before .before .before .before .before .before .before .before .pre .0)
 
 slice-aggregate-sums-on : tie.Need-slice-aggregate-sums-on Inv-loop μ-loop
 slice-aggregate-sums-on c = sym (c .before .before .before .factors-of .ensures .0)
@@ -82,7 +83,7 @@ sums-on-requires c κs =
     let f = c .before .before .before in
     let b = f .before .before in
     let e = b .end-of-block .ensures in
-    let p = b .before .before .before .before .before .before .before .before .pre in
+    let p = b .before .before .before .before .before .before .before .before .pre .0 in
     (simp (length-take, length-drop) (omega (arith, e .0, e .1, e .2, p)), simp (length-take, length-drop) (omega (arith, e .0, e .1, e .2, f .factors-of .ensures .0)))
 
 loop-less : tie.Need-loop-less Inv-loop μ-loop
@@ -107,9 +108,9 @@ loop-again c =
     let g = f .factors-of .ensures .1 in
     let n = to-end times a e h l in (
       l,
-      c .sums-on .ensures .0 _ a (at .loop .inv .1) (worth-term times amounts tenors rates factors s a e h l (start .pre) g) ∙ ap (addedUp _) n,
-      c .sums-on .ensures .1 .0 _ a (at .loop .inv .2) (timed-term times amounts tenors rates factors s a e h l (start .pre) g) ∙ ap (addedUp _) n,
-      c .sums-on .ensures .1 .1 _ a (at .loop .inv .3) (squared-term times amounts tenors rates factors s a e h l (start .pre) g) ∙ ap (addedUp _) n,
+      c .sums-on .ensures .0 _ a (at .loop .inv .1) (worth-term times amounts tenors rates factors s a e h l (start .pre .0) g) ∙ ap (addedUp _) n,
+      c .sums-on .ensures .1 .0 _ a (at .loop .inv .2) (timed-term times amounts tenors rates factors s a e h l (start .pre .0) g) ∙ ap (addedUp _) n,
+      c .sums-on .ensures .1 .1 _ a (at .loop .inv .3) (squared-term times amounts tenors rates factors s a e h l (start .pre .0) g) ∙ ap (addedUp _) n,
     )
 
 returns : tie.Need-returns Inv-loop μ-loop

@@ -9,7 +9,7 @@ use lib.Ieee.{Float, binary64, mul}
 use Rattle.numbers.specs.Sums.{addedUp}
 use Rattle.curves.specs.Segments.{knot}
 use Rattle.spread_analytics.specs.Spread.{factorOf, worthOf}
-use Rattle.spread_analytics.proofs.CarriedOn.{block-length, worth-terms, to-end}
+use Rattle.spread_analytics.proofs.CarriedOn.{worth-terms, to-end}
 use Rattle.spread_analytics.proofs.spread.worth_of.Statement.{statement}
 use Rattle.spread_analytics.proofs.spread.worth_of.Tie as tie
 
@@ -43,8 +43,9 @@ part-factors-of-end c = search needs
 
 factors-of-requires : tie.Need-factors-of-requires Inv-loop μ-loop
 factors-of-requires c κs =
-    let e = c .before .end-of-block .ensures in
-    simp (length-take, length-drop) (omega (arith, e .0, e .1, e .2))
+    let b = c .before in
+    let e = b .end-of-block .ensures in
+    (simp (length-take, length-drop) (omega (arith, e .0, e .1, e .2)), b .before .before .before .before .before .before .before .before .pre .1)
 
 mul-discounted-on : tie.Need-mul-discounted-on Inv-loop μ-loop
 mul-discounted-on c = search needs
@@ -56,7 +57,7 @@ part-discounted-on-start : tie.Need-part-discounted-on-start Inv-loop μ-loop
 part-discounted-on-start c = search needs
 
 part-discounted-on-end : tie.Need-part-discounted-on-end Inv-loop μ-loop
-part-discounted-on-end c = omega (arith, c .before .before .end-of-block .ensures .1, c .before .before .before .before .before .before .before .before .before .before .pre)
+part-discounted-on-end c = omega (arith, c .before .before .end-of-block .ensures .1, c .before .before .before .before .before .before .before .before .before .before .pre .0)
 
 slice-aggregate-discounted-on : tie.Need-slice-aggregate-discounted-on Inv-loop μ-loop
 slice-aggregate-discounted-on c = sym (c .before .before .factors-of .ensures .0)
@@ -82,9 +83,9 @@ loop-again c =
     let e = b .end-of-block .result in
     let h : a ≤ e = omega (arith, b .end-of-block .ensures .0) in
     let l : e ≤ length times = b .end-of-block .ensures .1 in
-    let m : e ≤ length amounts = omega (arith, l, start .pre) in (
+    let m : e ≤ length amounts = omega (arith, l, start .pre .0) in (
       l,
-      c .discounted-on .ensures _ a (at .loop .inv .1) (worth-terms times amounts (now (start .args .tenors)) (now (start .args .rates)) (f .factors-of .result) (at .before .to-decimal .result .0) a e h l (start .pre) (f .factors-of .ensures .1))
+      c .discounted-on .ensures _ a (at .loop .inv .1) (worth-terms times amounts (now (start .args .tenors)) (now (start .args .rates)) (f .factors-of .result) (at .before .to-decimal .result .0) a e h l (start .pre .0) (f .factors-of .ensures .1))
           ∙ ap (addedUp _) (to-end amounts a e h m),
     )
 

@@ -1,13 +1,14 @@
--- `spread_analytics::curves::forward_rate` meets its contract: the verdict on the curve is its answer's. Assumes nothing.
+-- `spread_analytics::rate_curves::forward_rate` meets its contract: the verdict on the curve is its answer's. Assumes nothing.
 use mathlib.Core.Path.{ap, _∙_}
 use denote.Ref.{now}
 use Rattle.refusals.specs.Outcome.{accepted}
 use Rattle.refusals.proofs.Verdicts.{refused-by, accepted-by}
+use Rattle.curves.proofs.Listing.{accepted-rises}
 use Rattle.spread_analytics.specs.Curves.{forwardRate}
 use Rattle.spread_analytics.proofs.LinesInParts.{by-cause}
 use borrow.Author.Needs.{needs}
-use Rattle.spread_analytics.proofs.curves.forward_rate.Statement.{statement}
-use Rattle.spread_analytics.proofs.curves.forward_rate.Tie as tie
+use Rattle.spread_analytics.proofs.rate_curves.forward_rate.Statement.{statement}
+use Rattle.spread_analytics.proofs.rate_curves.forward_rate.Tie as tie
 
 bad-times-requires : tie.Need-bad-times-requires
 bad-times-requires c κs = search needs
@@ -22,7 +23,10 @@ enum-told : tie.Need-enum-told
 enum-told c = search needs
 
 forward-of-requires : tie.Need-forward-of-requires
-forward-of-requires c κs = search needs
+forward-of-requires c κs =
+    let j = c .before .before in
+    let a = j .before .before .before .before .args in
+    accepted-rises (now (a .tenors)) (now (a .rates)) _ _ (j .judge-asked .ensures) (c .enum-told .given .1)
 
 returns : tie.Need-returns
 unfolding forwardRate

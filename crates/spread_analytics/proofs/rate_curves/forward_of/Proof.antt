@@ -1,9 +1,9 @@
--- `spread_analytics::curves::forward_of` meets its contract: the tests pick the case. Assumes nothing.
+-- `spread_analytics::rate_curves::forward_of` meets its contract: the tests pick the case. Assumes nothing.
 use mathlib.Core.Path.{sym}
 use Rattle.spread_analytics.specs.Curves.{forwardOf}
 use borrow.Author.Needs.{needs}
-use Rattle.spread_analytics.proofs.curves.forward_of.Statement.{statement}
-use Rattle.spread_analytics.proofs.curves.forward_of.Tie as tie
+use Rattle.spread_analytics.proofs.rate_curves.forward_of.Statement.{statement}
+use Rattle.spread_analytics.proofs.rate_curves.forward_of.Tie as tie
 
 absolute-value-requires : tie.Need-absolute-value-requires
 absolute-value-requires c κs = search needs

@@ -1,10 +1,10 @@
--- `spread_analytics::curves::bad_times` meets its contract. Assumes nothing.
+-- `spread_analytics::rate_curves::bad_times` meets its contract. Assumes nothing.
 use mathlib.Core.Path.{sym, _∙_}
 use Rattle.refusals.specs.Table.{badTime}
 use Rattle.curves.proofs.Choices.{by-first, by-second}
 use borrow.Author.Needs.{needs}
-use Rattle.spread_analytics.proofs.curves.bad_times.Statement.{statement}
-use Rattle.spread_analytics.proofs.curves.bad_times.Tie as tie
+use Rattle.spread_analytics.proofs.rate_curves.bad_times.Statement.{statement}
+use Rattle.spread_analytics.proofs.rate_curves.bad_times.Tie as tie
 
 bad-time-requires : tie.Need-bad-time-requires
 bad-time-requires c κs = search needs
