@@ -38,7 +38,7 @@ sound-after before (t ∷ ts) [] e none k h = absurd (omega arith)
 sound-after before (t ∷ ts) (r ∷ rs) e none zero h = later (badKnot t r) (lt before t) (none 0)
 sound-after before (t ∷ ts) (r ∷ rs) e none (suc k) h = sound-after t ts rs (omega arith) (λ q. none (suc q)) k (omega arith)
 
-rising : (times rates : List Float) → length times ≡ length rates → ((q : ℕ) → getD (badKnots times rates) q false ≡ false) → Rising times
+pub rising : (times rates : List Float) → length times ≡ length rates → ((q : ℕ) → getD (badKnots times rates) q false ≡ false) → Rising times
 unfolding badKnots
 rising [] rates e none k h = absurd (omega arith)
 rising (t ∷ ts) [] e none k h = absurd (omega arith)

@@ -17,9 +17,10 @@ use Rattle.numbers.specs.Literals.{one}
 use Rattle.elementary.proofs.Unrounded.{nonzero, nonzero-between, nonzero-finite, nought, nought-add, mul-one, div-itself}
 use Rattle.curves.specs.Segments.{knot, lastOf, Ends, endsOf}
 use Rattle.curves.specs.Curve.{curveLines}
+use Rattle.curves.specs.Formulas.{share, alongZeros}
 use Rattle.curves.proofs.AtKnots.{Floats, earlier, rate-finite, time-amount, segment-that-ends, at-an-inner-knot, at-the-first-knot, at-the-last-knot}
 use Rattle.curves.proofs.Noughts.{minus, add-noughts, times-nought, same-number}
-use Rattle.swaps.specs.Discount.{share, alongZeros, zeroRateOf}
+use Rattle.swaps.specs.Discount.{zeroRateOf}
 
 -- ---- a segment at its end, where w is 1: the rate before it counts for a zero
 module _ (e : Ends) (a : T (amount binary64 (e .t0))) (b : T (amount binary64 (e .t1))) (l : T (lt (e .t0) (e .t1))) (h : T (finite (e .r0))) (f : T (fits binary64 (e .r1))) where

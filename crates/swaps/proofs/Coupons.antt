@@ -17,10 +17,10 @@ use Rattle.numbers.proofs.Sums.{same-added}
 use Rattle.numbers.proofs.Comparing.{clash, compared-itself}
 use Rattle.elementary.proofs.Unrounded.{mul-one}
 use Rattle.curves.specs.Segments.{knot, lastOf}
+use Rattle.curves.specs.Runs.{dateAfter}
 use Rattle.swaps.specs.Discount.{discountOf}
 use Rattle.swaps.specs.Bootstrap.{date, couponAt}
 use Rattle.swaps.specs.inner.Knots.{withRate, WholeTo, SettledTo}
-use Rattle.swaps.specs.inner.Runs.{dateAfter}
 use Rattle.swaps.proofs.TriedRates.{same-discount}
 
 pub later-date : (T : Float) (k : ℕ) → (k ≡ 0 → ⊥) → lowered (ofInt binary64 (pos k)) T ≡ date T k

@@ -12,7 +12,7 @@ use Rattle.refusals.specs.Table.{badCode}
 use Rattle.refusals.proofs.Judging.{exactly}
 use Rattle.curves.specs.Curve.{askedLines}
 use Rattle.curves.specs.Lists.{eachLines, eachOutcome}
-use Rattle.yield_curve.proofs.Exactly as of-a-curve
+use Rattle.curves.proofs.Exactly as of-a-curve
 use Rattle.swaps.specs.declared.Swap.{Swap}
 use Rattle.swaps.specs.Codes.{lastCode, dayCountOf}
 use Rattle.swaps.specs.Discount.{rateAt, discountFactor}
@@ -33,7 +33,7 @@ module _ (tenors zeros : List Float) where
   unfolding discountFactor above
   discount-refused-exactly t = exactly _ (askedLines tenors zeros t) tt
 
-  -- a list of times: `rate_at_each` and `discount_factor_at_each` give the yield curve's one outcome
+  -- a list of times: `rate_at_each` and `discount_factor_at_each` give the one outcome of any curve
   module _ (asked : List Float) where
     pub each-refused-exactly : length asked ≤ 4294967295 → ExactlyWhen (eachLines tenors zeros asked) (eachOutcome tenors zeros asked)
     each-refused-exactly = of-a-curve.each-refused-exactly tenors zeros asked

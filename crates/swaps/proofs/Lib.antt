@@ -1,9 +1,7 @@
-pub mod Onward
+pub mod DiscountKind
 pub mod Eights
 pub mod Thirds
 pub mod TriedCoupons
-pub mod RunFactors
-pub mod DiscountList
 pub mod PaymentSums
 pub mod Writing
 pub mod Values

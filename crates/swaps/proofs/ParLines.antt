@@ -2,7 +2,7 @@
 use mathlib.Core.Path.{_≡_, refl, ap, _∙_}
 use mathlib.Core.Bool.{Bool, true, false, cond, not, _||_}
 use mathlib.Core.List.{List, [], _∷_, map}
-use Prim.Native.Nat.{ℕ, _+_, _<_, _≤_}
+use Prim.Native.Nat.{ℕ, zero, suc, _+_, _<_, _≤_}
 use native.Mathlib.Numerals.{add-one}
 use native.Mathlib.Omega.{arith}
 use lib.ListN.{length, getD, drop, drop-of-length-le}
@@ -13,8 +13,10 @@ use Rattle.refusals.specs.Outcome.{Outcome, refused, accepted, Line, firstOr, j
 use Rattle.refusals.specs.Table.{unequal, badKnotCount, badKnot, badKnotsAfter, badKnots, badTenor}
 use Rattle.refusals.proofs.Judging.{none-is, passed}
 use Rattle.refusals.proofs.Verdicts.{verdict}
+use Rattle.curves.specs.Segments.{Rising}
 use Rattle.curves.proofs.CurveLines.{caused, clear, at-most-120}
 use Rattle.curves.proofs.KnotLine.{after-all}
+use Rattle.curves.proofs.Listing.{rising}
 use Rattle.swaps.specs.Bootstrap.{eitherOf, parLines}
 
 -- the line of the knots and tenors
@@ -52,6 +54,17 @@ pub ended : (tenors pars : List Float) (before : Float) (i : ℕ) → length ten
 unfolding firstOr badKnotsAfter
 ended tenors pars before i h = rw (drop-of-length-le tenors h)
 
+-- where neither of two causes stands, the first does not
+neither : (a b : Bool) → (a || b) ≡ false → a ≡ false
+neither true b e = e
+neither false b e = refl
+
+none-of-first : (xs ys : List Bool) → ((q : ℕ) → getD (eitherOf xs ys) q false ≡ false) → (q : ℕ) → getD xs q false ≡ false
+none-of-first [] ys none q = refl
+none-of-first (x ∷ xs) [] none q = none q
+none-of-first (x ∷ xs) (y ∷ ys) none zero = neither x y (none 0)
+none-of-first (x ∷ xs) (y ∷ ys) none (suc q) = none-of-first xs ys (λ p. none (suc p)) q
+
 -- ---- lines 4 and 5 first
 different : (m n : ℕ) → (m ≡ n → ⊥) → unequal m n ≡ true
 unfolding unequal
@@ -71,7 +84,7 @@ module _ (tenors pars : List Float) where
   pub by-line-6 : length tenors ≡ length pars → badKnotCount (length tenors) ≡ false → verdict (knotLine tenors pars ∷ []) ≡ verdict (parLines tenors pars)
   by-line-6 h b = clear tt 5 _ (knotLine tenors pars ∷ []) b ∙ clear tt 4 _ _ (equal _ _ h)
 
-  -- what is accepted has as many rates as tenors, and at most 120
+  -- what is accepted has as many rates as tenors, and at most 120 ..
   same-count : unequal (length tenors) (length pars) ≡ false → length tenors ≡ length pars
   unfolding unequal
   same-count e = eqb-true _ _ (not-false _ e)
@@ -81,3 +94,9 @@ module _ (tenors pars : List Float) where
       let equal = passed tt tt _ _ e in
       let counted = passed tt tt _ _ (equal .1) in
       (same-count (none-is (equal .0) 0), at-most-120 _ (none-is (counted .0) 0))
+
+  -- .. and its tenors rise
+  pub accepted-tenors-rise : accepted tt ≡ verdict (parLines tenors pars) → Rising tenors
+  accepted-tenors-rise e =
+      let from-6 = passed tt tt _ _ (passed tt tt _ _ e .1) .1 in
+      rising tenors pars (accepted-counts e .0) (none-of-first (badKnots tenors pars) (map badTenor tenors) (none-is (passed tt tt _ _ from-6 .0)))

@@ -8,6 +8,7 @@ use lib.Ieee.{Float, binary64, add, sub, mul, div, ofInt}
 use Rattle.numbers.specs.Literals.{one}
 use Rattle.numbers.specs.Clamps.{plusZero}
 use Rattle.numbers.specs.Sums.{addedUp}
+use Rattle.curves.specs.Runs.{dateAfter}
 use Rattle.curves.proofs.Adding.{one-more}
 use Rattle.swaps.specs.declared.Swap.{Swap}
 use Rattle.swaps.specs.declared.legs.PaymentSums.{PaymentSums}
@@ -15,7 +16,7 @@ use Rattle.swaps.specs.Swap.{period, fraction, payDate}
 use Rattle.swaps.specs.Legs.{factorAt, fixedPayment, forward, floatingPayment}
 use Rattle.swaps.specs.inner.LegSums.{fixedTerm, annuityTerm, timedTerm}
 use Rattle.swaps.specs.Discount.{discountOf}
-use Rattle.swaps.specs.inner.Runs.{dateAfter, FactorsAfter, Summed}
+use Rattle.swaps.specs.inner.Runs.{FactorsAfter, Summed}
 
 -- what a payment adds
 module _ (notional dt part payment date factor : Float) where

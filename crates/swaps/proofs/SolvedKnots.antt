@@ -1,7 +1,7 @@
 -- The knots of a bootstrap solved one after the other: what stands in front of the two rooms is the tenors and the zero rates up to there. Assumes nothing.
-use mathlib.Core.Path.{_≡_, sym, ap, _∙_}
+use mathlib.Core.Path.{_≡_, sym, ap, _∙_, subst}
 use mathlib.Core.List.{List, [], _∷_, _++_}
-use Prim.Native.Nat.{ℕ, suc, _+_, _-_, _<_}
+use Prim.Native.Nat.{ℕ, suc, _+_, _-_, _<_, _≤_}
 use native.Mathlib.Numerals.{add-one}
 use native.Mathlib.Omega.{arith}
 use lib.ListN.{length, take, set, getD}
@@ -9,7 +9,7 @@ use lib.Seq.{length-take-le, take-suc-set, take-length, getD-take}
 use lib.Ieee.{Float, binary64, nan, add}
 use Rattle.numbers.specs.Literals.{one}
 use Rattle.elementary.specs.Ln.{ln}
-use Rattle.curves.specs.Segments.{knot, lastOf}
+use Rattle.curves.specs.Segments.{knot, lastOf, Rising}
 use Rattle.swaps.specs.Bootstrap.{parError, solvedOr, nextZero, zerosUpTo}
 
 last-taken : (tenors : List Float) (i : ℕ) → i < length tenors → lastOf (take (suc i) tenors) ≡ knot tenors i
@@ -17,6 +17,15 @@ last-taken tenors i h =
     let counted : length (take (suc i) tenors) ≡ suc i = length-take-le (suc i) tenors h in
     let at : length (take (suc i) tenors) - 1 ≡ i = omega arith in
     ap (knot (take (suc i) tenors)) at ∙ getD-take (suc i) tenors i nan (omega arith)
+
+-- a front of tenors that rise rises, and so does a room with that front
+pub front-rises : (tenors room : List Float) (i : ℕ) → i < length tenors → take (i + 1) room ≡ take (i + 1) tenors → Rising tenors → Rising (take (i + 1) room)
+front-rises tenors room i h put rises = subst Rising (sym put) (in-front (i + 1) (omega arith))
+  where
+    in-front : (n : ℕ) → n ≤ length tenors → Rising (take n tenors)
+    in-front n few k less =
+        let counted : length (take n tenors) ≡ n = length-take-le n tenors few in
+        rw (getD-take n tenors k nan (omega arith), getD-take n tenors (suc k) nan (omega arith)) (rises k (omega arith))
 
 module _ (tenors pars room zeros : List Float) (i : ℕ) (h : i < length tenors) (g : i < length zeros) (put : take (i + 1) room ≡ take (i + 1) tenors) where
   pub one-knot-more : length (take (i + 1) room) ≡ length (take i zeros) + 1

@@ -10,12 +10,16 @@ use lib.Seq.{getD-append-seam}
 use lib.Ieee.{Float, nan, le}
 use Rattle.elementary.specs.Exp.{exp}
 use Rattle.elementary.proofs.PartWay.{copies, map-alike, map-same}
-use Rattle.curves.specs.Segments.{segmentEnding, knot, lastOf, flatOutside, Ends, endsOf}
+use Rattle.curves.specs.declared.segments.Rule.the-variants as rule-is
+use Rattle.curves.specs.Segments.{segmentEnding, segmentBy, knot, lastOf, flatOutside, Ends, endsOf}
+use Rattle.curves.specs.Formulas.{alongZeros}
+use Rattle.curves.specs.inner.Halving.{passes}
+use Rattle.curves.proofs.Serving.{by-rule, serves-before}
 use Rattle.curves.proofs.Flat.{before-first, past-last, inside, ends-are}
 use Rattle.swaps.specs.inner.Knots.{withRate}
-use Rattle.swaps.specs.Discount.{alongZeros, zeroRateOf, discountOf}
-use Rattle.swaps.specs.inner.Runs.{exponentAt}
-use Rattle.swaps.proofs.RunFactors.{exp-of-exponent}
+use Rattle.swaps.specs.Discount.{zeroRateOf, discountOf}
+use Rattle.swaps.specs.inner.Runs.{exponentOf}
+use Rattle.swaps.proofs.DiscountKind.{exp-is-discount}
 
 -- what is neither true nor false
 never : {Any : Type 0} (b : Bool) → b ≡ true → b ≡ false → Any
@@ -43,18 +47,10 @@ earlier-kept (x ∷ xs) r zero h = refl
 earlier-kept (x ∷ xs) r (suc i) h = earlier-kept xs r i (λ e. h (ap suc e))
 
 -- ---- a time at or before the knot m is served by a segment that ends there or before
-pub served-before : (ts : List Float) (t : Float) (m : ℕ) → m < length ts → (m ≡ 0 → ⊥) → le t (knot ts m) ≡ true → suc (segmentEnding ts t) ≤ m
-unfolding segmentEnding
-served-before [] t m h n e = absurd (omega arith)
-served-before (a ∷ []) t m h n e = absurd (omega arith)
-served-before (a ∷ b ∷ ts) t zero h n e = absurd (n refl)
-served-before (a ∷ b ∷ ts) t (suc m) h n e = go (le t b) refl (λ later. served-before (b ∷ ts) t m (omega arith) later e)
-  where
-    go : (first : Bool) → le t b ≡ first → ((m ≡ 0 → ⊥) → suc (segmentEnding (b ∷ ts) t) ≤ m) → suc (cond first 0 (suc (segmentEnding (b ∷ ts) t))) ≤ suc m
-    go true f onward = omega arith
-    go false f onward =
-        let g = onward (λ z. never (le t b) (ap (λ (k : ℕ). le t (knot (b ∷ ts) k)) (sym z) ∙ e) f) in
-        omega arith
+served-before : (ts : List Float) (t : Float) (m : ℕ) → m < length ts → (m ≡ 0 → ⊥) → le t (knot ts m) ≡ true → suc (segmentEnding ts t) ≤ m
+unfolding segmentBy passes
+served-before ts t zero h n e = absurd (n refl)
+served-before ts t (suc m) h n e = let served : segmentEnding ts t ≤ m = serves-before (by-rule rule-is.Ending t) ts m h e in omega arith
 
 -- ---- before the knot before the last, any rate that is tried gives what the earlier ones give
 module _ (tenors xs : List Float) (t : Float) (same : length tenors ≡ length xs + 1) (some : 1 < length tenors) where
@@ -125,6 +121,6 @@ module _ (tenors xs rates : List Float) (t : Float) where
 
 -- and their discount factors
 pub each-discount : (tenors xs : List Float) (t : Float) (rates : List Float)
-    → map exp (map (λ (x : Float). exponentAt x t) (map (λ (r : Float). zeroRateOf tenors (withRate xs r) t) rates)) ≡ map (λ (r : Float). discountOf tenors (withRate xs r) t) rates
+    → map exp (map (λ (x : Float). exponentOf x t) (map (λ (r : Float). zeroRateOf tenors (withRate xs r) t) rates)) ≡ map (λ (r : Float). discountOf tenors (withRate xs r) t) rates
 each-discount tenors xs t [] = refl
-each-discount tenors xs t (r ∷ rates) = ap₂ (λ (y : Float) (ys : List Float). y ∷ ys) (exp-of-exponent tenors (withRate xs r) t) (each-discount tenors xs t rates)
+each-discount tenors xs t (r ∷ rates) = ap₂ (λ (y : Float) (ys : List Float). y ∷ ys) (exp-is-discount tenors (withRate xs r) t) (each-discount tenors xs t rates)

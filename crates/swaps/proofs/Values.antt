@@ -1,22 +1,27 @@
--- What is worked out from the legs is what the definitions say; and a swap that is accepted has at most 120 knots in either list. Assumes nothing.
-use mathlib.Core.Path.{_≡_}
-use mathlib.Core.Bool.{Bool, false, cond}
-use mathlib.Core.List.{List}
+-- What is worked out from the legs is what the definitions say; and a swap that is accepted has a curve that rises, with at most 120 knots in either list. Assumes nothing.
+use mathlib.Core.Path.{_≡_, sym, ap, _∙_}
+use mathlib.Core.Bool.{Bool, cond, _||_}
+use mathlib.Core.List.{List, [], _∷_, _++_}
 use Prim.Native.Nat.{_≤_}
 use native.Mathlib.Omega.{arith}
 use lib.ListN.{length}
 use lib.Ieee.{Float, binary64, add, sub, div, eq}
-use borrow.Author.Tests.{eqb-true, not-false}
 use Rattle.numbers.specs.Literals.{one}
 use Rattle.numbers.specs.Clamps.{plusZero}
-use Rattle.refusals.specs.Outcome.{accepted}
-use Rattle.refusals.specs.Table.{unequal}
-use Rattle.refusals.proofs.Judging.{none-is, passed}
+use Rattle.refusals.specs.declared.Verdict.{Verdict}
+use Rattle.refusals.specs.declared.Verdict.the-variants as verdict-is
+use Rattle.refusals.specs.Answers.{verdictOutcome}
+use Rattle.refusals.specs.Outcome.{accepted, Line, line}
+use Rattle.refusals.specs.Table.{badTime, tooManyPeriods, badFrequency, badNumber}
+use Rattle.refusals.proofs.Judging.{passed}
 use Rattle.refusals.proofs.Verdicts.{verdict}
-use Rattle.curves.proofs.CurveLines.{at-most-120}
+use Rattle.curves.specs.Segments.{Rising}
+use Rattle.curves.specs.Curve.{curveLines}
+use Rattle.curves.proofs.CurveLines.{accepted-at-most-120}
+use Rattle.curves.proofs.Listing.{same-length, in-rising-order}
 use Rattle.swaps.specs.declared.Swap.{Swap}
 use Rattle.swaps.specs.Discount.{zeroRateOf}
-use Rattle.swaps.specs.Swap.{perYear, swapLines}
+use Rattle.swaps.specs.Swap.{perYear, payments, swapLines}
 use Rattle.swaps.specs.Valuation.{bumped, pointValue}
 use Rattle.swaps.specs.inner.LegSums.{annuity}
 use Rattle.swaps.specs.Legs.{lastFactor, fixedLeg, floatingLeg, netValue, parRate, weightedSum, duration}
@@ -44,15 +49,19 @@ module _ (s : Swap) (tenors zeros : List Float) where
   unfolding pointValue
   point-is receivesFixed h b = rw (h, b)
 
-  same-count : unequal (length tenors) (length zeros) ≡ false → length tenors ≡ length zeros
-  unfolding unequal
-  same-count e = eqb-true _ _ (not-false _ e)
+  -- ---- a swap that is accepted: the lines after its curve's are those of its terms
+  abbrev termLines : List Line
+  termLines = line 7 (badTime (s .tenor) || tooManyPeriods (payments s)) ∷ line 8 (badFrequency (s .frequency)) ∷ line 9 (badNumber (s .«fixed_rate»)) ∷ []
 
-  pub few-knots : accepted tt ≡ verdict (swapLines s tenors zeros) → length zeros ≤ 120
-  few-knots e =
-      let notional = passed tt tt _ _ e in
-      let equal = passed tt tt _ _ (notional .1) in
-      let counted = passed tt tt _ _ (equal .1) in
-      let few : length tenors ≤ 120 = at-most-120 _ (none-is (counted .0) 0) in
-      let same : length tenors ≡ length zeros = same-count (none-is (equal .0) 0) in
-      omega arith
+  module _ (x : Verdict) (judge : verdictOutcome x ≡ verdict (swapLines s tenors zeros)) (h : x ≡ verdict-is.Accepted) where
+    abbrev from-4 : accepted tt ≡ verdict (curveLines tenors zeros ++ termLines)
+    from-4 = passed tt tt _ _ (sym (ap verdictOutcome h) ∙ judge) .1
+
+    pub swap-rises : Rising tenors
+    swap-rises = in-rising-order tenors zeros termLines from-4
+
+    pub few-knots : length zeros ≤ 120
+    few-knots =
+        let same = same-length tenors zeros termLines from-4 in
+        let few = accepted-at-most-120 tenors zeros termLines from-4 in
+        omega arith

@@ -4,7 +4,7 @@ use lib.ListN.{length}
 use Rattle.refusals.proofs.Verdicts.{refused-by, accepted-by}
 use Rattle.swaps.specs.Bootstrap.{zerosUpTo, parLines, fromParRates}
 use Rattle.swaps.specs.Bootstrapped.{curveOf, bootstrapped}
-use Rattle.swaps.proofs.ParLines.{accepted-counts}
+use Rattle.swaps.proofs.ParLines.{accepted-counts, accepted-tenors-rise}
 use borrow.Author.Needs.{needs}
 use Rattle.swaps.proofs.bootstrap.from_par_rates.Statement.{statement}
 use Rattle.swaps.proofs.bootstrap.from_par_rates.Tie as tie
@@ -25,7 +25,9 @@ solved-curve-requires : tie.Need-solved-curve-requires
 solved-curve-requires c κs =
     let j = c .before .before in
     let a = j .before .before .before .args in
-    accepted-counts (a .tenors .now) (a .pars .now) (accepted-by _ _ _ (c .enum-told .given .1) (j .judge-pars .ensures))
+    let accepted = accepted-by _ _ _ (c .enum-told .given .1) (j .judge-pars .ensures) in
+    let counts = accepted-counts (a .tenors .now) (a .pars .now) accepted in
+    (counts .0, counts .1, accepted-tenors-rise (a .tenors .now) (a .pars .now) accepted)
 
 returns : tie.Need-returns
 unfolding curveOf bootstrapped fromParRates

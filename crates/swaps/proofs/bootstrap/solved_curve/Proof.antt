@@ -39,7 +39,8 @@ slice-aggregate-solve-knots-2 c = counted _ _ (second-fits (c .before .before))
 solve-knots-requires : tie.Need-solve-knots-requires
 solve-knots-requires c κs =
     let second = c .before .before in
-    (second .before .before .before .before .pre .0, sym (counted _ _ (first-fits (second .before))), sym (counted _ _ (second-fits second)))
+    let s = second .before .before .before .before in
+    (s .pre .0, sym (counted _ _ (first-fits (second .before))), sym (counted _ _ (second-fits second)), s .pre .2)
 
 returns : tie.Need-returns
 unfolding curveOf

@@ -1,23 +1,15 @@
--- `swaps::discount::discount_of` meets its contract: 1 at or before time 0. Assumes nothing.
+-- `swaps::discount::discount_of` meets its contract: the discount factor of a curve of its kind. Assumes nothing.
 use mathlib.Core.Path.{_∙_}
-use Rattle.swaps.specs.Discount.{discountOf}
 use borrow.Author.Needs.{needs}
+use Rattle.swaps.proofs.DiscountKind.{discount-is}
 use Rattle.swaps.proofs.discount.discount_of.Statement.{statement}
 use Rattle.swaps.proofs.discount.discount_of.Tie as tie
 
 returns : tie.Need-returns
-unfolding discountOf
-returns c = rw (c .if1 .taken)
-
-zero-rate-of-requires : tie.Need-zero-rate-of-requires
-zero-rate-of-requires c κs = search needs
-
-exp-requires : tie.Need-exp-requires
-exp-requires c κs = search needs
-
-returns-2 : tie.Need-returns-2
-unfolding discountOf
-returns-2 c = c .exp .ensures ∙ rw (c .before .zero-rate-of .ensures, c .before .before .if1 .left)
+returns c =
+    let s = c .before .before .before in
+    let a = s .args in
+    c .discount-of .ensures (s .pre) ∙ discount-is (a .tenors .now) (a .zeros .now) (a .t)
 
 pub discount-of-spec : {M : Type 1} → statement M
-discount-of-spec = tie.close (tie.spec returns zero-rate-of-requires exp-requires returns-2)
+discount-of-spec = tie.close (tie.spec (λ c κs. search needs) returns)

@@ -1,13 +1,15 @@
--- `swaps::discount::zero_rate_of` meets its contract: the search begins at the first segment. Assumes nothing.
-use Rattle.swaps.proofs.Onward.{none-passed}
+-- `swaps::discount::zero_rate_of` meets its contract: the rate of a curve of its kind. Assumes nothing.
+use mathlib.Core.Path.{_∙_}
+use borrow.Author.Needs.{needs}
+use Rattle.swaps.proofs.DiscountKind.{rate-is}
 use Rattle.swaps.proofs.discount.zero_rate_of.Statement.{statement}
 use Rattle.swaps.proofs.discount.zero_rate_of.Tie as tie
 
-rate-from-requires : tie.Need-rate-from-requires
-rate-from-requires c κs = let a = c .before .before .args in none-passed (a .tenors .now) (a .t)
-
 returns : tie.Need-returns
-returns c = c .rate-from .ensures .0
+returns c =
+    let s = c .before .before .before in
+    let a = s .args in
+    c .rate-of .ensures (s .pre) ∙ rate-is (a .tenors .now) (a .zeros .now) (a .t)
 
 pub zero-rate-of-spec : {M : Type 1} → statement M
-zero-rate-of-spec = tie.close (tie.spec rate-from-requires returns)
+zero-rate-of-spec = tie.close (tie.spec (λ c κs. search needs) returns)

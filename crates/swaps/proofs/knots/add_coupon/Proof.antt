@@ -21,19 +21,19 @@ date-requires : tie.Need-date-requires
 date-requires c κs = search needs
 
 discounts-with-requires : tie.Need-discounts-with-requires
-discounts-with-requires c κs = c .before .before .before .before .before .before .before .before .before .pre .1
+discounts-with-requires c κs = let s = c .before .before .before .before .before .before .before .before .before in (s .pre .1, s .pre .2)
 
 plus-each-requires : tie.Need-plus-each-requires
 plus-each-requires c κs =
     let s = c .before .before .before .before .before .before .before .before .before .before in
     let a = s .args in
-    ap length (s .pre .3) ∙ length-map (a .rates) (sumTo (a .tenors .now) (a .earlier .now) (a .knot) (a .k)) ∙ s .pre .1
+    ap length (s .pre .4) ∙ length-map (a .rates) (sumTo (a .tenors .now) (a .earlier .now) (a .knot) (a .k)) ∙ s .pre .1
 
 plus-each-requires-2 : tie.Need-plus-each-requires-2
 plus-each-requires-2 c κs =
     let s = c .before .before .before .before .before .before .before .before .before .before in
     let a = s .args in
-    ap length (s .pre .3) ∙ length-map (a .rates) (sumTo (a .tenors .now) (a .earlier .now) (a .knot) (a .k)) ∙ s .pre .1
+    ap length (s .pre .4) ∙ length-map (a .rates) (sumTo (a .tenors .now) (a .earlier .now) (a .knot) (a .k)) ∙ s .pre .1
 
 same-length : tie.Need-same-length
 same-length c = search needs
@@ -46,7 +46,7 @@ returns c =
     let dated = tested .before .before in
     let s = dated .before .before .before .before .before in
     let a = s .args in
-    one-coupon-more (a .tenors .now) (a .earlier .now) (a .knot) (a .rates) (s .pre .1) (a .k) _ _ _ _ (λ (x : Float). discountOf (a .tenors .now) (withRate (a .earlier .now) x) _) (s .pre .3) (found .discounts-with .ensures)
+    one-coupon-more (a .tenors .now) (a .earlier .now) (a .knot) (a .rates) (s .pre .1) (a .k) _ _ _ _ (λ (x : Float). discountOf (a .tenors .now) (withRate (a .earlier .now) x) _) (s .pre .4) (found .discounts-with .ensures)
     (λ x. coupon-before (a .tenors .now) (withRate (a .earlier .now) x) (a .knot .tenor) (a .knot .par) (a .k) _ _ (tested .if1 .taken) (dated .date .ensures) refl)
     (added .plus-each .ensures)
 
@@ -60,7 +60,7 @@ returns-2 c =
     let dated = tested .before .before in
     let s = dated .before .before .before .before .before in
     let a = s .args in
-    one-coupon-more (a .tenors .now) (a .earlier .now) (a .knot) (a .rates) (s .pre .1) (a .k) _ _ _ _ (lastAt (a .tenors .now) (a .earlier .now) (a .knot)) (s .pre .3) (s .pre .2)
+    one-coupon-more (a .tenors .now) (a .earlier .now) (a .knot) (a .rates) (s .pre .1) (a .k) _ _ _ _ (lastAt (a .tenors .now) (a .earlier .now) (a .knot)) (s .pre .4) (s .pre .3)
     (λ x. coupon-at-tenor (a .tenors .now) (withRate (a .earlier .now) x) (a .knot .tenor) (a .knot .par) (a .k) _ _ (tested .if1 .left) (dated .date .ensures) refl)
     (added .plus-each2 .ensures)
 

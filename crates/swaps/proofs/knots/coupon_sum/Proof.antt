@@ -25,7 +25,8 @@ sub-loop c = omega arith
 add-coupon-run-requires : tie.Need-add-coupon-run-requires Inv-loop μ-loop
 add-coupon-run-requires c κs =
     let head = c .before in
-    (omega arith, omega arith, λ j h. head .before .before .before .pre j (omega arith), head .loop .inv .1)
+    let s = head .before .before .before in
+    (omega arith, omega arith, s .pre .0, λ j h. s .pre .1 j (omega arith), head .loop .inv .1)
 
 add-k : tie.Need-add-k Inv-loop μ-loop
 add-k c = omega arith
@@ -45,7 +46,8 @@ cast-add-coupon-run c = omega arith
 add-coupon-run-requires-2 : tie.Need-add-coupon-run-requires-2 Inv-loop μ-loop
 add-coupon-run-requires-2 c κs =
     let head = c .before in
-    (omega arith, omega arith, λ j h. head .before .before .before .pre j (omega arith), head .loop .inv .1)
+    let s = head .before .before .before in
+    (omega arith, omega arith, s .pre .0, λ j h. s .pre .1 j (omega arith), head .loop .inv .1)
 
 returns : tie.Need-returns Inv-loop μ-loop
 returns c =

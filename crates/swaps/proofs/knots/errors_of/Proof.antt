@@ -19,7 +19,7 @@ abbrev μ-loop : tie.MeasureT-loop
     knot .dates - k
 
 discounts-with-requires : tie.Need-discounts-with-requires Inv-loop μ-loop
-discounts-with-requires c κs = c .before .before .pre .1
+discounts-with-requires c κs = let s = c .before .before in (s .pre .1, s .pre .0 .rising)
 
 loop-holds : tie.Need-loop-holds Inv-loop μ-loop
 loop-holds c =
@@ -38,7 +38,7 @@ add-coupon-requires : tie.Need-add-coupon-requires Inv-loop μ-loop
 add-coupon-requires c κs =
     let head = c .before .before .before in
     let s = head .before .before .before .before in
-    (omega arith, s .pre .1, head .before .discounts-with .ensures, head .loop .inv .1)
+    (omega arith, s .pre .1, s .pre .0 .rising, head .before .discounts-with .ensures, head .loop .inv .1)
 
 add-k : tie.Need-add-k Inv-loop μ-loop
 add-k c = omega arith

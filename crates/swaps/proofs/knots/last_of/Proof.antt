@@ -16,7 +16,7 @@ settled-at-requires : tie.Need-settled-at-requires
 settled-at-requires c κs = search needs
 
 coupon-sum-requires : tie.Need-coupon-sum-requires
-coupon-sum-requires c κs = settled-whole _ _ _ (c .settled-at .ensures .1)
+coupon-sum-requires c κs = (c .before .before .before .before .before .pre .1, settled-whole _ _ _ (c .settled-at .ensures .1))
 
 returns : tie.Need-returns
 unfolding dates
@@ -28,10 +28,11 @@ returns c =
       last .last-knot .ensures,
       refl,
       record {
+        rising = s .pre .1;
         counted = settled .before .ceiling-to-u32 .ensures;
         within = settled .settled-at .ensures .0;
         summed = λ r. c .coupon-sum .ensures
-            ∙ settled-sum (a .tenors .now) (a .earlier .now) _ _ _ (s .pre) (last .last-knot .ensures) (settled .settled-at .ensures .1) (settled .settled-at .ensures .2) r;
+            ∙ settled-sum (a .tenors .now) (a .earlier .now) _ _ _ (s .pre .0) (last .last-knot .ensures) (settled .settled-at .ensures .1) (settled .settled-at .ensures .2) r;
       },
     )
 

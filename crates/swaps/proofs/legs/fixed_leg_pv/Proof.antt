@@ -3,6 +3,7 @@ use mathlib.Core.Path.{ap, _∙_}
 use Rattle.refusals.specs.Outcome.{accepted}
 use Rattle.refusals.proofs.Verdicts.{refused-by, accepted-by}
 use Rattle.swaps.specs.Valuation.{fixedLegPv}
+use Rattle.swaps.proofs.Values.{swap-rises}
 use borrow.Author.Needs.{needs}
 use Rattle.swaps.proofs.legs.fixed_leg_pv.Statement.{statement}
 use Rattle.swaps.proofs.legs.fixed_leg_pv.Tie as tie
@@ -17,7 +18,10 @@ enum-told : tie.Need-enum-told
 enum-told c = search needs
 
 legs-of-requires : tie.Need-legs-of-requires
-legs-of-requires c κs = search needs
+legs-of-requires c κs =
+    let judge = c .before .before in
+    let a = judge .before .before .before .args in
+    swap-rises (a .swap) (a .tenors .now) (a .zeros .now) _ (judge .judge-swap .ensures) (c .enum-told .given .1)
 
 returns : tie.Need-returns
 unfolding fixedLegPv

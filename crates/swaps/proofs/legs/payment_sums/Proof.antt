@@ -27,7 +27,7 @@ sub-loop : tie.Need-sub-loop Inv-loop μ-loop
 sub-loop c = omega arith
 
 add-run-requires : tie.Need-add-run-requires Inv-loop μ-loop
-add-run-requires c κs = (omega arith, omega arith, c .before .loop .inv .1)
+add-run-requires c κs = (omega arith, omega arith, c .before .before .before .before .before .pre, c .before .loop .inv .1)
 
 add-k : tie.Need-add-k Inv-loop μ-loop
 add-k c = omega arith
@@ -45,7 +45,7 @@ cast-add-run : tie.Need-cast-add-run Inv-loop μ-loop
 cast-add-run c = omega arith
 
 add-run-requires-2 : tie.Need-add-run-requires-2 Inv-loop μ-loop
-add-run-requires-2 c κs = (omega arith, omega arith, c .before .loop .inv .1)
+add-run-requires-2 c κs = (omega arith, omega arith, c .before .before .before .before .before .pre, c .before .loop .inv .1)
 
 returns : tie.Need-returns Inv-loop μ-loop
 returns c =

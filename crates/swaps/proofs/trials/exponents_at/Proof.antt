@@ -2,14 +2,14 @@
 use Prim.Native.Nat.{_-_, _≤_}
 use native.Mathlib.Omega.{arith}
 use lib.Ieee.{Float}
-use Rattle.swaps.specs.inner.Runs.{exponentAt}
+use Rattle.swaps.specs.inner.Runs.{exponentOf}
 use Rattle.swaps.proofs.Eights.{MadeTo, none-made, one-made, all-made, each-alone}
 use borrow.Author.Needs.{needs}
 use Rattle.swaps.proofs.trials.exponents_at.Statement.{statement}
 use Rattle.swaps.proofs.trials.exponents_at.Tie as tie
 
 abbrev of-first : Float → Float → Float → Float
-of-first t a b = exponentAt a t
+of-first t a b = exponentOf a t
 
 abbrev Inv-loop : tie.InvT-loop
 Inv-loop t exponents₀ j₀ exponents j =
@@ -55,7 +55,7 @@ returns c =
     let l = c .before .loop in
     let s = c .before .before in
     let a = s .args in
-    each-alone (λ (x : Float). exponentAt x (a .t)) (a .rates) (l .exponents) (s .pre) (all-made (of-first (a .t)) (a .rates) (a .rates) (l .j) (l .exponents) (omega arith) (l .inv .1))
+    each-alone (λ (x : Float). exponentOf x (a .t)) (a .rates) (l .exponents) (s .pre) (all-made (of-first (a .t)) (a .rates) (a .rates) (l .j) (l .exponents) (omega arith) (l .inv .1))
 
 pub exponents-at-spec : {M : Type 1} → statement M
 exponents-at-spec =

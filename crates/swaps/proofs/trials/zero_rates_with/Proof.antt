@@ -2,7 +2,7 @@
 use mathlib.Core.Path.{_∙_}
 use Prim.Native.Nat.{suc}
 use lib.Ieee.{Float}
-use Rattle.curves.specs.Segments.{knot}
+use Rattle.curves.specs.Segments.{segmentBy, knot}
 use Rattle.swaps.specs.inner.Knots.{withRate}
 use Rattle.swaps.proofs.TriedRates.{each-before, each-after, each-between}
 use borrow.Author.Needs.{needs}
@@ -31,8 +31,8 @@ returns-2 c =
     let a = read .before .before .before .args in
     each-after (a .tenors .now) (a .earlier .now) (a .rates) (a .t) _ (read .knot-at .ensures) (last .before .if1 .left) _ (last .last-knot .ensures) (c .if2 .taken)
 
-segment-ending-requires : tie.Need-segment-ending-requires
-segment-ending-requires c κs = search needs
+segment-requires : tie.Need-segment-requires
+segment-requires c κs = search needs
 
 knot-at-requires-2 : tie.Need-knot-at-requires-2
 knot-at-requires-2 c κs = search needs
@@ -50,6 +50,7 @@ along-each-requires : tie.Need-along-each-requires
 along-each-requires c κs = search needs
 
 returns-3 : tie.Need-returns-3
+unfolding segmentBy
 returns-3 c =
     let r1 = c .before in
     let r0 = r1 .before in
@@ -60,10 +61,10 @@ returns-3 c =
     let read = last .before .before in
     let s = read .before .before .before in
     let a = s .args in
-    let i = served .segment-ending .result in
-    c .along-each .ensures (a .rates) (λ (x : Float). knot (withRate (a .earlier .now) x) i) (λ (x : Float). knot (withRate (a .earlier .now) x) (suc i)) (s .pre) (r0 .rates-with2 .ensures) (r1 .rates-after .ensures)
+    let i = served .segment .result in
+    c .along-each .ensures (a .rates) (λ (x : Float). knot (withRate (a .earlier .now) x) i) (λ (x : Float). knot (withRate (a .earlier .now) x) (suc i)) (s .pre .0) (r0 .rates-with2 .ensures) (r1 .rates-after .ensures)
     ∙ each-between (a .tenors .now) (a .earlier .now) (a .rates) (a .t) _ (read .knot-at .ensures) (last .before .if1 .left) _ (last .last-knot .ensures) (served .before .if2 .left)
-    i (served .segment-ending .ensures) _ _ (t0 .knot-at2 .ensures) (t1 .knot-after .ensures)
+    i (served .segment .ensures (s .pre .1)) _ _ (t0 .knot-at2 .ensures) (t1 .knot-after .ensures)
 
 pub zero-rates-with-spec : {M : Type 1} → statement M
 zero-rates-with-spec =
@@ -74,7 +75,7 @@ zero-rates-with-spec =
     returns
     last-knot-requires
     returns-2
-    segment-ending-requires
+    segment-requires
     knot-at-requires-2
     knot-after-requires
     rates-with-requires-2

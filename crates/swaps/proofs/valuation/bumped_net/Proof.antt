@@ -13,7 +13,7 @@ use Rattle.swaps.proofs.valuation.bumped_net.Statement.{statement}
 use Rattle.swaps.proofs.valuation.bumped_net.Tie as tie
 
 fits : (c : tie.After-empty-room) → length (c .before .before .before .args .zeros .now) ≤ length (c .empty-room .result)
-fits c = let few = c .before .before .before .pre in let room = of-120 (c .empty-room .result) (c .empty-room .ensures) in omega arith
+fits c = let few = c .before .before .before .pre .0 in let room = of-120 (c .empty-room .result) (c .empty-room .ensures) in omega arith
 
 empty-room-requires : tie.Need-empty-room-requires
 empty-room-requires c κs = search needs

@@ -3,7 +3,7 @@ use mathlib.Core.Path.{ap, _∙_}
 use Rattle.refusals.specs.Outcome.{accepted}
 use Rattle.refusals.proofs.Verdicts.{refused-by, accepted-by}
 use Rattle.swaps.specs.Valuation.{parSwapRate}
-use Rattle.swaps.proofs.Values.{par-is}
+use Rattle.swaps.proofs.Values.{par-is, swap-rises}
 use borrow.Author.Needs.{needs}
 use Rattle.swaps.proofs.valuation.par_swap_rate.Statement.{statement}
 use Rattle.swaps.proofs.valuation.par_swap_rate.Tie as tie
@@ -18,7 +18,10 @@ enum-told : tie.Need-enum-told
 enum-told c = search needs
 
 legs-of-requires : tie.Need-legs-of-requires
-legs-of-requires c κs = search needs
+legs-of-requires c κs =
+    let judge = c .before .before in
+    let a = judge .before .before .before .args in
+    swap-rises (a .swap) (a .tenors .now) (a .zeros .now) _ (judge .judge-swap .ensures) (c .enum-told .given .1)
 
 par-of-requires : tie.Need-par-of-requires
 par-of-requires c κs = search needs

@@ -2,8 +2,9 @@
 use mathlib.Core.Path.{ap, _∙_}
 use Rattle.refusals.specs.Outcome.{accepted}
 use Rattle.refusals.proofs.Verdicts.{refused-by, accepted-by}
+use Rattle.curves.specs.Segments.{Rising}
 use Rattle.swaps.specs.Valuation.{swapDuration}
-use Rattle.swaps.proofs.Values.{duration-is}
+use Rattle.swaps.proofs.Values.{duration-is, swap-rises}
 use borrow.Author.Needs.{needs}
 use Rattle.swaps.proofs.valuation.swap_duration.Statement.{statement}
 use Rattle.swaps.proofs.valuation.swap_duration.Tie as tie
@@ -17,11 +18,17 @@ enum-known-refusal c = search needs
 enum-told : tie.Need-enum-told
 enum-told c = search needs
 
+rises : (c : tie.After-enum-told) → Rising (c .before .before .before .before .before .args .tenors .now)
+rises c =
+    let judge = c .before .before in
+    let a = judge .before .before .before .args in
+    swap-rises (a .swap) (a .tenors .now) (a .zeros .now) _ (judge .judge-swap .ensures) (c .enum-told .given .1)
+
 legs-of-requires : tie.Need-legs-of-requires
-legs-of-requires c κs = search needs
+legs-of-requires c κs = rises c
 
 duration-of-requires : tie.Need-duration-of-requires
-duration-of-requires c κs = search needs
+duration-of-requires c κs = rises (c .before)
 
 returns : tie.Need-returns
 unfolding swapDuration

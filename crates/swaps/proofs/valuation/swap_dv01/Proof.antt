@@ -2,8 +2,9 @@
 use mathlib.Core.Path.{ap, _∙_}
 use Rattle.refusals.specs.Outcome.{accepted}
 use Rattle.refusals.proofs.Verdicts.{refused-by, accepted-by}
+use Rattle.curves.specs.Segments.{Rising}
 use Rattle.swaps.specs.Valuation.{swapDv01}
-use Rattle.swaps.proofs.Values.{net-is, point-is, few-knots}
+use Rattle.swaps.proofs.Values.{net-is, point-is, few-knots, swap-rises}
 use borrow.Author.Needs.{needs}
 use Rattle.swaps.proofs.valuation.swap_dv01.Statement.{statement}
 use Rattle.swaps.proofs.valuation.swap_dv01.Tie as tie
@@ -17,8 +18,14 @@ enum-known-refusal c = search needs
 enum-told : tie.Need-enum-told
 enum-told c = search needs
 
+rises : (c : tie.After-enum-told) → Rising (c .before .before .before .before .before .args .tenors .now)
+rises c =
+    let judge = c .before .before in
+    let a = judge .before .before .before .args in
+    swap-rises (a .swap) (a .tenors .now) (a .zeros .now) _ (judge .judge-swap .ensures) (c .enum-told .given .1)
+
 legs-of-requires : tie.Need-legs-of-requires
-legs-of-requires c κs = search needs
+legs-of-requires c κs = rises c
 
 net-requires : tie.Need-net-requires
 net-requires c κs = search needs
@@ -26,8 +33,9 @@ net-requires c κs = search needs
 bumped-net-requires : tie.Need-bumped-net-requires
 bumped-net-requires c κs =
     let told = c .before .before in
-    let a = told .before .before .before .before .before .args in
-    few-knots (a .swap) (a .tenors .now) (a .zeros .now) (accepted-by _ _ _ (told .enum-told .given .1) (told .before .before .judge-swap .ensures))
+    let judge = told .before .before in
+    let a = judge .before .before .before .args in
+    (few-knots (a .swap) (a .tenors .now) (a .zeros .now) _ (judge .judge-swap .ensures) (told .enum-told .given .1), rises told)
 
 returns : tie.Need-returns
 unfolding swapDv01

@@ -3,7 +3,7 @@ use mathlib.Core.Path.{ap, _∙_}
 use Rattle.refusals.specs.Outcome.{accepted}
 use Rattle.refusals.proofs.Verdicts.{refused-by, accepted-by}
 use Rattle.swaps.specs.Valuation.{valueSwap}
-use Rattle.swaps.proofs.Values.{few-knots}
+use Rattle.swaps.proofs.Values.{few-knots, swap-rises}
 use borrow.Author.Needs.{needs}
 use Rattle.swaps.proofs.valuation.value_swap.Statement.{statement}
 use Rattle.swaps.proofs.valuation.value_swap.Tie as tie
@@ -19,9 +19,12 @@ enum-told c = search needs
 
 valuation-of-requires : tie.Need-valuation-of-requires
 valuation-of-requires c κs =
-    let told = c in
-    let a = told .before .before .before .before .before .args in
-    few-knots (a .swap) (a .tenors .now) (a .zeros .now) (accepted-by _ _ _ (told .enum-told .given .1) (told .before .before .judge-swap .ensures))
+    let judge = c .before .before in
+    let a = judge .before .before .before .args in
+    let is = c .enum-told .given .1 in (
+      few-knots (a .swap) (a .tenors .now) (a .zeros .now) _ (judge .judge-swap .ensures) is,
+      swap-rises (a .swap) (a .tenors .now) (a .zeros .now) _ (judge .judge-swap .ensures) is,
+    )
 
 returns : tie.Need-returns
 unfolding valueSwap
