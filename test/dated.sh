@@ -11,7 +11,7 @@ for crate in spread_analytics $(sed -n 's/^spread_analytics://p' crates.txt); do
     cp -R "crates/$crate" "$room/crates/"
     grep "^$crate:" crates.txt >>"$room/crates.txt"
 done
-echo "dated_run: spread_analytics yield_curve refusals numbers io libc" >>"$room/crates.txt"
+echo "dated_run: spread_analytics curves refusals numbers io libc" >>"$room/crates.txt"
 
 cat >"$room/crates/dated_run/src/main.rt" <<'END'
 // Flows as one list of dated amounts and as two lists, over a curve: for each function a line for either.

@@ -12,8 +12,8 @@ use Rattle.elementary.proofs.Laws.{exp-of-zero}
 use Rattle.elementary.proofs.PartWay.{map-alike}
 use Rattle.curves.specs.declared.kinds.Kind.{Kind}
 use Rattle.curves.specs.declared.kinds.Kind.the-variants as kind-is
-use Rattle.curves.specs.Segments.{Ends, endsOf, segmentBy, flatOutside}
-use Rattle.curves.specs.Kinds.{ruleOf, along, rateOn, discounted, discountOn, exponentAt}
+use Rattle.curves.specs.Segments.{Ends, endsOf, flatOutside}
+use Rattle.curves.specs.Kinds.{servedBy, along, rateOn, discounted, discountOn, exponentAt}
 use Rattle.curves.specs.inner.Exponents.{rateOrExponent, answerOn}
 
 -- ---- discount factors
@@ -30,7 +30,7 @@ exp-of-exponent kind-is.SpreadCurve rate t = refl
 -- ---- one answer
 module _ (kind : Kind) (times rates : List Float) where
   -- the rate by the segment that serves
-  pub by-segment : (t : Float) (i : ℕ) (e : Ends) (between r : Float) → i ≡ segmentBy (ruleOf kind) times t → e ≡ endsOf times rates i → between ≡ along kind e t
+  pub by-segment : (t : Float) (i : ℕ) (e : Ends) (between r : Float) → i ≡ servedBy kind times t → e ≡ endsOf times rates i → between ≡ along kind e t
       → r ≡ flatOutside times rates t between → r ≡ rateOn kind times rates t
   unfolding rateOn
   by-segment t i e between r is-i is-e is-between is-r =

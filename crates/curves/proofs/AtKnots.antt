@@ -18,8 +18,8 @@ use Rattle.numbers.proofs.Comparing.{clash, lt-itself, le-itself, not-at-or-bel
 use Rattle.refusals.specs.Outcome.{accepted}
 use Rattle.refusals.specs.Table.{badKnot}
 use Rattle.refusals.proofs.Verdicts.{verdict}
-use Rattle.curves.specs.declared.segments.Rule.the-variants as rule-is
-use Rattle.curves.specs.Segments.{knot, lastOf, segmentEnding, segmentStarting, segmentBy, flatOutside, Rising}
+use Rattle.curves.specs.Segments.{knot, lastOf, segmentEnding, segmentStarting, flatOutside, Rising}
+use Rattle.curves.specs.inner.Halving.{ending, starting, segmentBy}
 use Rattle.curves.specs.inner.Halving.{passes as passes-by}
 use Rattle.curves.specs.Curve.{curveLines}
 use Rattle.curves.proofs.Serving.{by-rule, serves-before, passes-on, serves-after}
@@ -46,7 +46,7 @@ module _ (times rates : List Float) (good : verdict (curveLines times rates) ≡
   earlier j i h g =
       let e : suc j + (i - suc j) ≡ i = omega arith in
       ap (λ (n : ℕ). lt (knot times j) (knot times n)) (sym e)
-      ∙ passes-on (by-rule rule-is.Starting (knot times j)) times rises (i - suc j) (suc j) (omega arith) (rises j (omega arith))
+      ∙ passes-on (by-rule starting (knot times j)) times rises (i - suc j) (suc j) (omega arith) (rises j (omega arith))
 
   module _ (k : ℕ) (h : k < length times) where
     knot-is : (finite (knot times k) ≡ true) × (finite (knot rates k) ≡ true) × (lt (knot times k) plusZero ≡ false)
@@ -70,15 +70,15 @@ module _ (times rates : List Float) (good : verdict (curveLines times rates) ≡
     pub segment-that-ends : segmentEnding times t ≡ i
     unfolding segmentBy passes-by
     segment-that-ends =
-        let at-most : segmentEnding times t ≤ i = serves-before (by-rule rule-is.Ending t) times i (omega arith) (le-itself t (time-finite (suc i) (omega arith))) in
-        let at-least : i ≤ segmentEnding times t = serves-after (by-rule rule-is.Ending t) times rises i (omega arith) (not-at-or-below (knot times i) t (rises i (omega arith))) in
+        let at-most : segmentEnding times t ≤ i = serves-before (by-rule ending t) times i (omega arith) (le-itself t (time-finite (suc i) (omega arith))) in
+        let at-least : i ≤ segmentEnding times t = serves-after (by-rule ending t) times rises i (omega arith) (not-at-or-below (knot times i) t (rises i (omega arith))) in
         omega arith
 
     pub segment-that-starts : segmentStarting times t ≡ suc i
     unfolding segmentBy passes-by
     segment-that-starts =
-        let at-most : segmentStarting times t ≤ suc i = serves-before (by-rule rule-is.Starting t) times (suc i) inner (rises (suc i) inner) in
-        let at-least : suc i ≤ segmentStarting times t = serves-after (by-rule rule-is.Starting t) times rises (suc i) (omega arith) (lt-itself t) in
+        let at-most : segmentStarting times t ≤ suc i = serves-before (by-rule starting t) times (suc i) inner (rises (suc i) inner) in
+        let at-least : suc i ≤ segmentStarting times t = serves-after (by-rule starting t) times rises (suc i) (omega arith) (lt-itself t) in
         omega arith
 
     -- what is said between the ends is what is given

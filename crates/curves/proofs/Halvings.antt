@@ -10,9 +10,8 @@ use lib.ListN.{length, getD, set, replicate, length-map}
 use lib.Seq.{ext-getD, getD-set-same, getD-set-other}
 use lib.Ieee.{Float, nan}
 use borrow.Author.Tests.{lt-ltb, le-ltb, ltb-true, ltb-false, eqb-true, eqb-false}
-use Rattle.curves.specs.declared.segments.Rule.{Rule}
-use Rattle.curves.specs.Segments.{knot, segmentBy, Rising}
-use Rattle.curves.specs.inner.Halving.{passes, steppedOver, halvedFrom, halved}
+use Rattle.curves.specs.Segments.{knot, Rising}
+use Rattle.curves.specs.inner.Halving.{Rule, segmentBy, passes, steppedOver, halvedFrom, halved}
 use Rattle.curves.proofs.Serving.{FirstPassing, by-rule, serves-before, serves-inside, serves-after}
 
 -- ---- what halving finds
@@ -81,6 +80,12 @@ module _ (test : Float → Bool) (times : List Float) where
   unfolding halvedFrom
   last-turn base zero h = refl
   last-turn base (suc m) h = rw (le-ltb 1 (suc m) h)
+
+-- the segment of one of many times
+pub served-at : (serving : Float → ℕ) (k : ℕ) (asked : List Float) → k < length asked → getD (map serving asked) k 0 ≡ serving (getD asked k nan)
+served-at serving k [] h = absurd (omega arith)
+served-at serving zero (t ∷ asked) h = refl
+served-at serving (suc k) (t ∷ asked) h = served-at serving k asked (omega arith)
 
 -- ---- a lane: one time, and the knot that it has come to with so many knots left
 module _ (rule : Rule) (times : List Float) where
@@ -156,14 +161,8 @@ module _ (rule : Rule) (times : List Float) where
           rw (z, getD-set-same bases j b 0 (omega arith)) (lane-next _ count half (getD bases j 0) b h e (p .left j (omega arith) l) is)
       now-done k s false same apart = let z : k ≡ j → ⊥ = apart refl in other k z (p .done k (omega (arith, z)))
 
-  -- the segment of one of many times
-  pub served-at : (k : ℕ) (asked : List Float) → k < length asked → getD (map (segmentBy rule times) asked) k 0 ≡ segmentBy rule times (getD asked k nan)
-  served-at k [] h = absurd (omega arith)
-  served-at zero (t ∷ asked) h = refl
-  served-at (suc k) (t ∷ asked) h = served-at k asked (omega arith)
-
   pub all-end : (count : ℕ) (asked : List Float) (bases : List ℕ) → count ≤ 1 → length asked ≡ 8 → length bases ≡ 8 → Lanes count asked bases → Rising times
       → bases ≡ map (segmentBy rule times) asked
   all-end count asked bases h e b all rises =
       ext-getD 0 bases (map (segmentBy rule times) asked) (b ∙ sym e ∙ sym (length-map asked (segmentBy rule times)))
-      (λ k l. lane-end (getD asked k nan) count (getD bases k 0) h (all k (omega arith)) rises ∙ sym (served-at k asked (omega arith)))
+      (λ k l. lane-end (getD asked k nan) count (getD bases k 0) h (all k (omega arith)) rises ∙ sym (served-at (segmentBy rule times) k asked (omega arith)))

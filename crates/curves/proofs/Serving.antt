@@ -10,10 +10,8 @@ use lib.ListN.{length}
 use lib.Ieee.{Float, lt}
 use borrow.Author.Tests.{ltb-true, ltb-false}
 use Rattle.numbers.proofs.Comparing.{clash, lt-trans, le-lt-trans}
-use Rattle.curves.specs.declared.segments.Rule.{Rule}
-use Rattle.curves.specs.declared.segments.Rule.the-variants as rule-is
-use Rattle.curves.specs.Segments.{knot, segmentEnding, segmentStarting, segmentBy, Rising}
-use Rattle.curves.specs.inner.Halving.{passes}
+use Rattle.curves.specs.Segments.{knot, segmentEnding, segmentStarting, Rising}
+use Rattle.curves.specs.inner.Halving.{Rule, ending, starting, segmentBy, passes}
 
 -- the first segment, from 0, whose end passes; the last knot where none does
 pub record FirstPassing (test : Float → Bool) (serving : List Float → ℕ) : Type 0 where
@@ -25,8 +23,8 @@ pub record FirstPassing (test : Float → Bool) (serving : List Float → ℕ) :
 -- either rule is one
 pub by-rule : (rule : Rule) (t : Float) → FirstPassing (passes rule t) (λ (ts : List Float). segmentBy rule ts t)
 unfolding passes segmentBy segmentEnding segmentStarting
-by-rule rule-is.Ending t = record { none = refl; single = λ a. refl; first = λ a b ts. refl; later = λ a b. le-lt-trans t a b }
-by-rule rule-is.Starting t = record { none = refl; single = λ a. refl; first = λ a b ts. refl; later = λ a b. lt-trans t a b }
+by-rule ending t = record { none = refl; single = λ a. refl; first = λ a b ts. refl; later = λ a b. le-lt-trans t a b }
+by-rule starting t = record { none = refl; single = λ a. refl; first = λ a b ts. refl; later = λ a b. lt-trans t a b }
 
 module _ {test : Float → Bool} {serving : List Float → ℕ} (rule : FirstPassing test serving) where
   -- the segment that serves ends at or before a knot that passes

@@ -38,12 +38,12 @@ use Rattle.curves.proofs.each.judge_each.Kinds as judge-each-kinds
 use Rattle.curves.proofs.each.judge_each.Reads as judge-each
 use Rattle.curves.proofs.segments.no_knot.Kinds as no-knot-kinds
 use Rattle.curves.proofs.segments.no_knot.Reads as no-knot
-use Rattle.curves.proofs.kinds.rule_of.Kinds as rule-of-kinds
-use Rattle.curves.proofs.kinds.rule_of.Reads as rule-of
 use Rattle.curves.proofs.formulas.along.Kinds as along-kinds
 use Rattle.curves.proofs.formulas.along.Reads as along
-use Rattle.curves.proofs.halving.segment.Kinds as segment-kinds
-use Rattle.curves.proofs.halving.segment.Reads as segment
+use Rattle.curves.proofs.ending.segment.Kinds as segment-ending-kinds
+use Rattle.curves.proofs.ending.segment.Reads as segment-ending
+use Rattle.curves.proofs.starting.segment.Kinds as segment-starting-kinds
+use Rattle.curves.proofs.starting.segment.Reads as segment-starting
 use Rattle.curves.proofs.lookups.rate_of.Kinds as rate-of-kinds
 use Rattle.curves.proofs.lookups.rate_of.Reads as rate-of
 use Rattle.curves.proofs.lookups.exponent_at.Kinds as exponent-at-kinds
@@ -119,9 +119,6 @@ judge-each-determined κs a x y e e′ p q = verdict-one-to-one x y (p ∙ sym q
 pub no-knot-determined : Determined 0 no-knot-kinds.ps no-knot-kinds.r no-knot.Post
 no-knot-determined κs a x y e e′ p q = p ∙ sym q
 
-pub rule-of-determined : Determined 0 rule-of-kinds.ps rule-of-kinds.r rule-of.Post
-rule-of-determined κs a x y e e′ p q = p ∙ sym q
-
 pub along-determined : Determined 0 along-kinds.ps along-kinds.r along.Post
 along-determined κs a x y e e′ p q = p ∙ sym q
 
@@ -148,8 +145,11 @@ pub discount-factor-at-each-settled : Settled 3 discount-factor-at-each-kinds.ps
 discount-factor-at-each-settled κs a x y w w′ p q = ap (λ (l : List Float). (tt, (tt, (tt, (l, tt))))) (p .1 ∙ sym (q .1))
 
 -- ---- the finders, on times that rise
-pub segment-determined : DeterminedOn 1 segment-kinds.ps segment-kinds.r (λ κs a. Rising (now (a .1 .0))) segment.Post
-segment-determined κs a rises x y e e′ p q = p rises ∙ sym (q rises)
+pub segment-ending-determined : DeterminedOn 1 segment-ending-kinds.ps segment-ending-kinds.r (λ κs a. Rising (now (a .0))) segment-ending.Post
+segment-ending-determined κs a rises x y e e′ p q = p rises ∙ sym (q rises)
+
+pub segment-starting-determined : DeterminedOn 1 segment-starting-kinds.ps segment-starting-kinds.r (λ κs a. Rising (now (a .0))) segment-starting.Post
+segment-starting-determined κs a rises x y e e′ p q = p rises ∙ sym (q rises)
 
 pub rate-of-determined : DeterminedOn 2 rate-of-kinds.ps rate-of-kinds.r (λ κs a. Rising (now (a .1 .0))) rate-of.Post
 rate-of-determined κs a rises x y e e′ p q = p rises ∙ sym (q rises)

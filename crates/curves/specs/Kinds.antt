@@ -1,4 +1,5 @@
--- What the three kinds of curve differ in: by which rule a segment serves, the formula along it, and what the discount factor is at or before time 0. Definitions only. Assumes nothing.
+-- What the three kinds of curve differ in: which segment serves a time, the formula along it, and what the discount factor is at or before time 0. Definitions only. Assumes nothing.
+use Prim.Native.Nat.{ℕ}
 use mathlib.Core.Bool.{cond}
 use mathlib.Core.List.{List}
 use lib.Ieee.{Float, binary64, neg, mul, le}
@@ -6,19 +7,17 @@ use Rattle.numbers.specs.Literals.{one}
 use Rattle.numbers.specs.Clamps.{plusZero}
 use Rattle.elementary.specs.Exp.{exp}
 use Rattle.refusals.specs.Outcome.{Outcome, judged}
-use Rattle.curves.specs.declared.segments.Rule.{Rule}
-use Rattle.curves.specs.declared.segments.Rule.the-variants as rule-is
 use Rattle.curves.specs.declared.kinds.Kind.{Kind}
 use Rattle.curves.specs.declared.kinds.Kind.the-variants as kind-is
-use Rattle.curves.specs.Segments.{Ends, endsOf, segmentBy, flatOutside}
+use Rattle.curves.specs.Segments.{Ends, endsOf, segmentEnding, segmentStarting, flatOutside}
 use Rattle.curves.specs.Curve.{askedLines}
 use Rattle.curves.specs.Formulas.{alongYields, alongZeros, alongRates}
 
 -- at an inner knot the yield and the discount curve go by the segment that ends there, the spread curves by the one that starts there
-unfoldable pub ruleOf : Kind → Rule
-ruleOf kind-is.YieldCurve = rule-is.Ending
-ruleOf kind-is.DiscountCurve = rule-is.Ending
-ruleOf kind-is.SpreadCurve = rule-is.Starting
+unfoldable pub servedBy : Kind → List Float → Float → ℕ
+servedBy kind-is.YieldCurve = segmentEnding
+servedBy kind-is.DiscountCurve = segmentEnding
+servedBy kind-is.SpreadCurve = segmentStarting
 
 unfoldable pub along : Kind → Ends → Float → Float
 along kind-is.YieldCurve = alongYields
@@ -27,7 +26,7 @@ along kind-is.SpreadCurve = alongRates
 
 -- the rate at a time, flat outside
 unfoldable pub rateOn : Kind → List Float → List Float → Float → Float
-rateOn kind times rates t = flatOutside times rates t (along kind (endsOf times rates (segmentBy (ruleOf kind) times t)) t)
+rateOn kind times rates t = flatOutside times rates t (along kind (endsOf times rates (servedBy kind times t)) t)
 
 -- exp(-r·t), and of a discount curve 1 at or before time 0
 unfoldable pub discounted : Kind → Float → Float → Float

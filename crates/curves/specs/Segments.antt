@@ -5,8 +5,6 @@ use mathlib.Core.Bool.{true, cond}
 use mathlib.Core.List.{List, [], _∷_}
 use lib.ListN.{length, getD}
 use lib.Ieee.{Float, nan, lt, le}
-use Rattle.curves.specs.declared.segments.Rule.{Rule}
-use Rattle.curves.specs.declared.segments.Rule.the-variants as rule-is
 
 -- "Where t is an inner knot .. the segment that ends there": the first segment, from 0, that t is not beyond
 unfoldable pub segmentEnding : List Float → Float → ℕ
@@ -19,11 +17,6 @@ unfoldable pub segmentStarting : List Float → Float → ℕ
 segmentStarting [] t = 0
 segmentStarting (a ∷ []) t = 0
 segmentStarting (a ∷ b ∷ ts) t = cond (lt t b) 0 (suc (segmentStarting (b ∷ ts) t))
-
--- by either rule
-unfoldable pub segmentBy : Rule → List Float → Float → ℕ
-segmentBy rule-is.Ending times t = segmentEnding times t
-segmentBy rule-is.Starting times t = segmentStarting times t
 
 -- the knot i of a list, from 0, and the last one
 abbrev pub knot : List Float → ℕ → Float

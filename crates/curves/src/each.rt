@@ -18,9 +18,8 @@ use crate::curve::bad_time;
 use crate::curve::judge_curve;
 use crate::curve::one_unless;
 use crate::formulas::along;
-use crate::halving::eight_segments;
 use crate::kinds::Kind;
-use crate::kinds::rule_of;
+use crate::kinds::eight_on;
 use crate::lookups::exponent_at;
 use crate::lookups::rate_of;
 use crate::segments::ends_of;
@@ -82,7 +81,7 @@ fn answer_eight(kind: Kind, exponents: bool, times: &[f64], rates: &[f64], asked
     requires { ⌜ length (now asked) ≡ 8 ⌝ }
     ensures { λ _. ⌜ (Rising (now (times .entry)) → now (asked .exit) ≡ map (answerOn kind exponents (now (times .entry)) (now (rates .entry))) (now (asked .entry))) ⌝ }
 {
-    let segments = eight_segments(rule_of(kind), times, asked);
+    let segments = eight_on(kind, times, asked);
     let mut j: usize = 0;
     while j < 8 {
         let t = asked[j];

@@ -1,7 +1,9 @@
-// The three kinds of curve, and what they differ in but for the formula along a segment.
+// The three kinds of curve, and the segment that serves a time on each.
 ghost use mathlib.Core.Path.{_≡_};
-ghost use Rattle.curves.specs.Kinds.{ruleOf};
-use crate::segments::Rule;
+ghost use mathlib.Core.List.{map};
+ghost use lib.ListN.{length};
+ghost use Rattle.curves.specs.Segments.{Rising};
+ghost use Rattle.curves.specs.Kinds.{servedBy};
 
 pub enum Kind {
     YieldCurve,
@@ -9,13 +11,23 @@ pub enum Kind {
     SpreadCurve,
 }
 
-// By which rule a segment serves.
-pub fn rule_of(kind: Kind) -> Rule
-    ensures { λ r. ⌜ r ≡ ruleOf kind ⌝ }
+pub(crate) fn segment_on(kind: Kind, times: &[f64], t: f64) -> usize
+    ensures { λ r. ⌜ (Rising (now (times .entry)) → r ≡ servedBy kind (now (times .entry)) t) ⌝ }
 {
     match kind {
-        Kind::YieldCurve => Rule::Ending,
-        Kind::DiscountCurve => Rule::Ending,
-        Kind::SpreadCurve => Rule::Starting,
+        Kind::YieldCurve => crate::ending::segment(times, t),
+        Kind::DiscountCurve => crate::ending::segment(times, t),
+        Kind::SpreadCurve => crate::starting::segment(times, t),
+    }
+}
+
+pub(crate) fn eight_on(kind: Kind, times: &[f64], asked: &[f64]) -> [usize; 8]
+    requires { ⌜ length (now asked) ≡ 8 ⌝ }
+    ensures { λ r. ⌜ (Rising (now (times .entry)) → r ≡ map (servedBy kind (now (times .entry))) (now (asked .entry))) ⌝ }
+{
+    match kind {
+        Kind::YieldCurve => crate::ending::eight_segments(times, asked),
+        Kind::DiscountCurve => crate::ending::eight_segments(times, asked),
+        Kind::SpreadCurve => crate::starting::eight_segments(times, asked),
     }
 }

@@ -6,9 +6,8 @@ ghost use Rattle.curves.specs.Kinds.{rateOn, discountOn, exponentAt, rat
 use crate::curve::bad_time;
 use crate::curve::judge_asked;
 use crate::formulas::along;
-use crate::halving::segment;
 use crate::kinds::Kind;
-use crate::kinds::rule_of;
+use crate::kinds::segment_on;
 use crate::segments::ends_of;
 use crate::segments::knot_at;
 use crate::segments::last_knot;
@@ -26,11 +25,7 @@ pub fn rate_of(kind: Kind, times: &[f64], rates: &[f64], t: f64) -> f64
     if last_knot(times) <= t {
         return last_knot(rates);
     }
-    along(
-        kind,
-        ends_of(times, rates, segment(rule_of(kind), times, t)),
-        t,
-    )
+    along(kind, ends_of(times, rates, segment_on(kind, times, t)), t)
 }
 
 // What the discount factor at a time is the exp of, by the rate there.

@@ -1,4 +1,4 @@
-// The segments of a curve: the rules by which one serves a time, its ends, and what is flat outside.
+// The knots of a curve, the ends of a segment, and what is flat outside.
 ghost use mathlib.Core.Path.{_≡_};
 ghost use Prim.Native.Nat.{suc};
 ghost use lib.Ieee.{nan};
@@ -10,12 +10,6 @@ pub struct Ends {
     pub t1: f64,
     pub r0: f64,
     pub r1: f64,
-}
-
-// Which segment serves an inner knot: the one that ends there, or the one that starts there.
-pub enum Rule {
-    Ending,
-    Starting,
 }
 
 // What is read where there is no knot.

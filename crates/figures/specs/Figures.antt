@@ -23,7 +23,8 @@ use Rattle.bond.specs.declared.Frequency.the-variants.{Annual}
 use Rattle.bond.specs.Bonds.{periodCoupon, periods, badMaturity}
 use Rattle.bond.specs.Price.{periodRate, undiscounted, discount, discounted, priceOf, price}
 use Rattle.curves.specs.Segments.{segmentEnding, flatOutside}
-use Rattle.swaps.specs.Discount.{share, alongZeros, zeroRateOf, rateAt}
+use Rattle.curves.specs.Formulas.{share, alongZeros}
+use Rattle.swaps.specs.Discount.{zeroRateOf, rateAt}
 use Rattle.pool.specs.declared.speed.Speed.the-variants.{History}
 use Rattle.pool.specs.Speed.{smm}
 use Rattle.listing.specs.Digits.{hexDigits, decimalDigits, decimal}

@@ -89,10 +89,10 @@ pub(crate) fn answer(
 ) -> Number {
     let at = float_at(case, 5);
     match question {
-        701 => spread_analytics::curves::rate_at(first, second, at),
-        702 => spread_analytics::curves::swap_rate_at(first, second, at),
-        703 => spread_analytics::curves::discount_factor(first, second, at),
-        704 => spread_analytics::curves::forward_rate(first, second, at, float_at(case, 6)),
+        701 => spread_analytics::rate_curves::rate_at(first, second, at),
+        702 => spread_analytics::rate_curves::swap_rate_at(first, second, at),
+        703 => spread_analytics::rate_curves::discount_factor(first, second, at),
+        704 => spread_analytics::rate_curves::forward_rate(first, second, at, float_at(case, 6)),
         712 => decimal(at),
         _ => of_flows(question, first, second, third, fourth, at),
     }

@@ -26,7 +26,7 @@ pub(crate) enum BondIn {
 fn judge_uncoded(fields: BondRecord, beside: f64) -> Verdict
     ensures { λ r. ⌜ verdictOutcome r ≡ judged (uncodedLines fields beside) tt ⌝ }
 {
-    let bad_maturity = yield_curve::curve::bad_time(fields.maturity);
+    let bad_maturity = curves::curve::bad_time(fields.maturity);
     bond::bonds::judge_numbers(fields.face, bad_maturity, fields.coupon, beside)
 }
 

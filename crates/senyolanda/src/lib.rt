@@ -3,7 +3,6 @@
 // lent memory, which a refusal leaves as it was. include/senyolanda.h declares each.
 mod bonds;
 mod books;
-mod curves;
 mod dated;
 mod lists;
 mod loans;
@@ -15,3 +14,4 @@ mod results;
 mod spreads;
 mod swap_values;
 mod years;
+mod yield_curves;

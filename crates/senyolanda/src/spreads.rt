@@ -32,7 +32,7 @@ pub extern "C" fn senyolanda_zero_curve_rate(
 ) -> u64
     ensures { λ r. ⌜ (r, now (rate .exit)) ≡ toldNumber (rateAt (now (tenors .entry)) (now (rates .entry)) t) (now (rate .entry)) ⌝ }
 {
-    put_number(spread_analytics::curves::rate_at(tenors, rates, t), rate)
+    put_number(spread_analytics::rate_curves::rate_at(tenors, rates, t), rate)
 }
 
 #[no_mangle]
@@ -45,7 +45,7 @@ pub extern "C" fn senyolanda_swap_curve_rate(
     ensures { λ r. ⌜ (r, now (rate .exit)) ≡ toldNumber (rateAt (now (tenors .entry)) (now (rates .entry)) tenor) (now (rate .entry)) ⌝ }
 {
     put_number(
-        spread_analytics::curves::swap_rate_at(tenors, rates, tenor),
+        spread_analytics::rate_curves::swap_rate_at(tenors, rates, tenor),
         rate,
     )
 }
@@ -60,7 +60,7 @@ pub extern "C" fn senyolanda_zero_curve_discount_factor(
     ensures { λ r. ⌜ (r, now (factor .exit)) ≡ toldNumber (discountFactor (now (tenors .entry)) (now (rates .entry)) t) (now (factor .entry)) ⌝ }
 {
     put_number(
-        spread_analytics::curves::discount_factor(tenors, rates, t),
+        spread_analytics::rate_curves::discount_factor(tenors, rates, t),
         factor,
     )
 }
@@ -76,7 +76,7 @@ pub extern "C" fn senyolanda_zero_curve_forward_rate(
     ensures { λ r. ⌜ (r, now (rate .exit)) ≡ toldNumber (forwardRate (now (tenors .entry)) (now (rates .entry)) t1 t2) (now (rate .entry)) ⌝ }
 {
     put_number(
-        spread_analytics::curves::forward_rate(tenors, rates, t1, t2),
+        spread_analytics::rate_curves::forward_rate(tenors, rates, t1, t2),
         rate,
     )
 }

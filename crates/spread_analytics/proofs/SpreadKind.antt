@@ -3,34 +3,33 @@ use mathlib.Core.Path.{_≡_, refl}
 use mathlib.Core.List.{List}
 use lib.Ieee.{Float}
 use Rattle.curves.specs.declared.kinds.Kind.the-variants as kind-is
-use Rattle.curves.specs.Segments.{segmentBy}
-use Rattle.curves.specs.Kinds.{ruleOf, along, rateOn, discounted, discountOn, rateAnswer, discountAnswer}
+use Rattle.curves.specs.Kinds.{servedBy, along, rateOn, discounted, discountOn, rateAnswer, discountAnswer}
 use Rattle.curves.specs.Lists.{eachAfter}
 use Rattle.spread_analytics.specs.Curves.{rateOf, discountOf, rateAt, discountFactor}
 
 module _ (tenors rates : List Float) where
   module _ (t : Float) where
     pub same-rate : rateOn kind-is.SpreadCurve tenors rates t ≡ rateOf tenors rates t
-    unfolding rateOn ruleOf along segmentBy rateOf
+    unfolding rateOn servedBy along rateOf
     same-rate = refl
 
     pub same-discount : discountOn kind-is.SpreadCurve tenors rates t ≡ discountOf tenors rates t
-    unfolding discountOn discounted rateOn ruleOf along segmentBy discountOf rateOf
+    unfolding discountOn discounted rateOn servedBy along discountOf rateOf
     same-discount = refl
 
     pub same-rate-answer : rateAnswer kind-is.SpreadCurve tenors rates t ≡ rateAt tenors rates t
-    unfolding rateAnswer rateOn ruleOf along segmentBy rateAt rateOf
+    unfolding rateAnswer rateOn servedBy along rateAt rateOf
     same-rate-answer = refl
 
     pub same-discount-answer : discountAnswer kind-is.SpreadCurve tenors rates t ≡ discountFactor tenors rates t
-    unfolding discountAnswer discountOn discounted rateOn ruleOf along segmentBy discountFactor discountOf rateOf
+    unfolding discountAnswer discountOn discounted rateOn servedBy along discountFactor discountOf rateOf
     same-discount-answer = refl
 
   module _ (asked : List Float) where
     pub same-rates-after : eachAfter (rateOn kind-is.SpreadCurve tenors rates) tenors rates asked ≡ eachAfter (rateOf tenors rates) tenors rates asked
-    unfolding rateOn ruleOf along segmentBy rateOf
+    unfolding rateOn servedBy along rateOf
     same-rates-after = refl
 
     pub same-discounts-after : eachAfter (discountOn kind-is.SpreadCurve tenors rates) tenors rates asked ≡ eachAfter (discountOf tenors rates) tenors rates asked
-    unfolding discountOn discounted rateOn ruleOf along segmentBy discountOf rateOf
+    unfolding discountOn discounted rateOn servedBy along discountOf rateOf
     same-discounts-after = refl

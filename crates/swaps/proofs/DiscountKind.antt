@@ -5,8 +5,7 @@ use Prim.Native.Nat.{ℕ, _+_}
 use lib.Ieee.{Float}
 use Rattle.elementary.specs.Exp.{exp}
 use Rattle.curves.specs.declared.kinds.Kind.the-variants as kind-is
-use Rattle.curves.specs.Segments.{segmentBy}
-use Rattle.curves.specs.Kinds.{ruleOf, along, rateOn, discounted, discountOn, rateAnswer, discountAnswer}
+use Rattle.curves.specs.Kinds.{servedBy, along, rateOn, discounted, discountOn, rateAnswer, discountAnswer}
 use Rattle.curves.specs.Lists.{eachAfter}
 use Rattle.curves.specs.Runs.{dateAfter, FactorsAfter as FactorsOn}
 use Rattle.curves.proofs.Answers.{exp-of-exponent}
@@ -17,19 +16,19 @@ module _ (tenors zeros : List Float) where
   -- ---- at a time
   module _ (t : Float) where
     pub rate-is : rateOn kind-is.DiscountCurve tenors zeros t ≡ zeroRateOf tenors zeros t
-    unfolding rateOn ruleOf along segmentBy zeroRateOf
+    unfolding rateOn servedBy along zeroRateOf
     rate-is = refl
 
     pub discount-is : discountOn kind-is.DiscountCurve tenors zeros t ≡ discountOf tenors zeros t
-    unfolding rateOn ruleOf along segmentBy zeroRateOf discounted discountOn discountOf
+    unfolding rateOn servedBy along zeroRateOf discounted discountOn discountOf
     discount-is = refl
 
     pub rate-answer-is : rateAnswer kind-is.DiscountCurve tenors zeros t ≡ rateAt tenors zeros t
-    unfolding rateOn ruleOf along segmentBy zeroRateOf rateAnswer rateAt
+    unfolding rateOn servedBy along zeroRateOf rateAnswer rateAt
     rate-answer-is = refl
 
     pub discount-answer-is : discountAnswer kind-is.DiscountCurve tenors zeros t ≡ discountFactor tenors zeros t
-    unfolding rateOn ruleOf along segmentBy zeroRateOf discounted discountOn discountOf discountAnswer discountFactor
+    unfolding rateOn servedBy along zeroRateOf discounted discountOn discountOf discountAnswer discountFactor
     discount-answer-is = refl
 
     -- the exp of its exponent
@@ -40,11 +39,11 @@ module _ (tenors zeros : List Float) where
   -- ---- at each time of a list
   module _ (asked : List Float) where
     pub each-rate-is : eachAfter (rateOn kind-is.DiscountCurve tenors zeros) tenors zeros asked ≡ eachAfter (zeroRateOf tenors zeros) tenors zeros asked
-    unfolding rateOn ruleOf along segmentBy zeroRateOf
+    unfolding rateOn servedBy along zeroRateOf
     each-rate-is = refl
 
     pub each-discount-is : eachAfter (discountOn kind-is.DiscountCurve tenors zeros) tenors zeros asked ≡ eachAfter (discountOf tenors zeros) tenors zeros asked
-    unfolding rateOn ruleOf along segmentBy zeroRateOf discounted discountOn discountOf
+    unfolding rateOn servedBy along zeroRateOf discounted discountOn discountOf
     each-discount-is = refl
 
   -- ---- at a run of dates

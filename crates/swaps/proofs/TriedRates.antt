@@ -10,10 +10,9 @@ use lib.Seq.{getD-append-seam}
 use lib.Ieee.{Float, nan, le}
 use Rattle.elementary.specs.Exp.{exp}
 use Rattle.elementary.proofs.PartWay.{copies, map-alike, map-same}
-use Rattle.curves.specs.declared.segments.Rule.the-variants as rule-is
-use Rattle.curves.specs.Segments.{segmentEnding, segmentBy, knot, lastOf, flatOutside, Ends, endsOf}
+use Rattle.curves.specs.Segments.{segmentEnding, knot, lastOf, flatOutside, Ends, endsOf}
 use Rattle.curves.specs.Formulas.{alongZeros}
-use Rattle.curves.specs.inner.Halving.{passes}
+use Rattle.curves.specs.inner.Halving.{ending, segmentBy, passes}
 use Rattle.curves.proofs.Serving.{by-rule, serves-before}
 use Rattle.curves.proofs.Flat.{before-first, past-last, inside, ends-are}
 use Rattle.swaps.specs.inner.Knots.{withRate}
@@ -50,7 +49,7 @@ earlier-kept (x ∷ xs) r (suc i) h = earlier-kept xs r i (λ e. h (ap suc e))
 served-before : (ts : List Float) (t : Float) (m : ℕ) → m < length ts → (m ≡ 0 → ⊥) → le t (knot ts m) ≡ true → suc (segmentEnding ts t) ≤ m
 unfolding segmentBy passes
 served-before ts t zero h n e = absurd (n refl)
-served-before ts t (suc m) h n e = let served : segmentEnding ts t ≤ m = serves-before (by-rule rule-is.Ending t) ts m h e in omega arith
+served-before ts t (suc m) h n e = let served : segmentEnding ts t ≤ m = serves-before (by-rule ending t) ts m h e in omega arith
 
 -- ---- before the knot before the last, any rate that is tried gives what the earlier ones give
 module _ (tenors xs : List Float) (t : Float) (same : length tenors ≡ length xs + 1) (some : 1 < length tenors) where

@@ -9,11 +9,10 @@ ghost use Rattle.swaps.specs.Discount.{zeroRateOf, discountOf};
 ghost use Rattle.swaps.specs.inner.Knots.{withRate, EachOf};
 ghost use Rattle.swaps.specs.inner.Runs.{exponentOf};
 use curves::formulas::along;
-use curves::halving::segment;
+use curves::ending::segment;
 use curves::kinds::Kind;
 use curves::lookups::exponent_at;
 use curves::segments::Ends;
-use curves::segments::Rule;
 use curves::segments::knot_after;
 use curves::segments::knot_at;
 use curves::segments::last_knot;
@@ -73,7 +72,7 @@ fn zero_rates_with(tenors: &[f64], earlier: &[f64], rates: [f64; 8], t: f64) -> 
     if last_knot(tenors) <= t {
         return rates;
     }
-    let i = segment(Rule::Ending, tenors, t);
+    let i = segment(tenors, t);
     along_each(
         knot_at(tenors, i),
         knot_after(tenors, i),

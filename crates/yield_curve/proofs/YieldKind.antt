@@ -3,23 +3,22 @@ use mathlib.Core.Path.{_≡_, refl}
 use mathlib.Core.List.{List}
 use lib.Ieee.{Float}
 use Rattle.curves.specs.declared.kinds.Kind.the-variants as kind-is
-use Rattle.curves.specs.Segments.{segmentBy}
-use Rattle.curves.specs.Kinds.{ruleOf, along, rateOn, discounted, discountOn, rateAnswer, discountAnswer}
+use Rattle.curves.specs.Kinds.{servedBy, along, rateOn, discounted, discountOn, rateAnswer, discountAnswer}
 use Rattle.yield_curve.specs.Linear.{yieldOf, discountOf, linearInterpolate, discountFactor}
 
 module _ (times rates : List Float) (t : Float) where
   pub yield-on : rateOn kind-is.YieldCurve times rates t ≡ yieldOf times rates t
-  unfolding rateOn ruleOf along segmentBy yieldOf
+  unfolding rateOn servedBy along yieldOf
   yield-on = refl
 
   pub discount-on : discountOn kind-is.YieldCurve times rates t ≡ discountOf times rates t
-  unfolding discountOn discounted rateOn ruleOf along segmentBy discountOf yieldOf
+  unfolding discountOn discounted rateOn servedBy along discountOf yieldOf
   discount-on = refl
 
   pub yield-answer : rateAnswer kind-is.YieldCurve times rates t ≡ linearInterpolate times rates t
-  unfolding rateAnswer rateOn ruleOf along segmentBy linearInterpolate yieldOf
+  unfolding rateAnswer rateOn servedBy along linearInterpolate yieldOf
   yield-answer = refl
 
   pub discount-answer : discountAnswer kind-is.YieldCurve times rates t ≡ discountFactor times rates t
-  unfolding discountAnswer discountOn discounted rateOn ruleOf along segmentBy discountFactor discountOf yieldOf
+  unfolding discountAnswer discountOn discounted rateOn servedBy along discountFactor discountOf yieldOf
   discount-answer = refl

@@ -11,8 +11,7 @@ ghost use Rattle.yield_curve.specs.Spline.{guard, slope, bend, mu, z, cA
 use crate::linear::yield_of;
 use curves::curve::bad_time;
 use curves::curve::judge_asked;
-use curves::halving::segment;
-use curves::segments::Rule;
+use curves::ending::segment;
 use curves::segments::knot_after;
 use curves::segments::knot_at;
 use curves::segments::last_knot;
@@ -143,7 +142,7 @@ fn spline_of(times: &[f64], rates: &[f64], t: f64) -> f64
     if last_knot(times) <= t {
         return last_knot(rates);
     }
-    let i = segment(Rule::Ending, times, t);
+    let i = segment(times, t);
     if i < times.len() - 1 {
         return cubic(times, rates, i, t);
     }

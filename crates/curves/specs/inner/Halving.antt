@@ -1,18 +1,25 @@
--- Half the knots of a list stepped over again and again, for any test of a knot. Definitions only. Assumes nothing.
+-- The two rules by which a segment serves; and half the knots of a list stepped over again and again, for any test of a knot. Definitions only. Assumes nothing.
 use Prim.Native.Nat.{ℕ, zero, suc, _+_, _-_, _/_}
 use mathlib.Core.Bool.{Bool, cond}
 use mathlib.Core.List.{List}
 use lib.Dec.{ltb}
 use lib.ListN.{length}
 use lib.Ieee.{Float, le, lt}
-use Rattle.curves.specs.declared.segments.Rule.{Rule}
-use Rattle.curves.specs.declared.segments.Rule.the-variants as rule-is
-use Rattle.curves.specs.Segments.{knot}
+use Rattle.curves.specs.Segments.{knot, segmentEnding, segmentStarting}
 
--- the test of a rule: whether the segment that ends at a knot, or one before it, serves t
+-- the two rules: at an inner knot the segment that ends there serves, or the one that starts there
+pub data Rule : Type 0 where
+  ending : Rule
+  starting : Rule
+
+unfoldable pub segmentBy : Rule → List Float → Float → ℕ
+segmentBy ending = segmentEnding
+segmentBy starting = segmentStarting
+
+-- the test of a knot: whether the segment that ends there, or one before it, serves t
 unfoldable pub passes : Rule → Float → Float → Bool
-passes rule-is.Ending t end = le t end
-passes rule-is.Starting t end = lt t end
+passes ending = le
+passes starting = lt
 
 -- where half the knots are stepped over: not where the knot so far on passes
 abbrev pub steppedOver : (Float → Bool) → List Float → ℕ → ℕ → ℕ

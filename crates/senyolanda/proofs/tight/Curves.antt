@@ -2,16 +2,16 @@
 use lib.Ieee.{Float}
 use Rattle.numbers.proofs.Determined.{Determined, Settled}
 use Rattle.senyolanda.proofs.tight.OneAnswer.{one-result, one-last}
-use Rattle.senyolanda.proofs.curves.senyolanda_linear_interpolate.Kinds as linear-interpolate-kinds
-use Rattle.senyolanda.proofs.curves.senyolanda_linear_interpolate.Reads as linear-interpolate-reads
-use Rattle.senyolanda.proofs.curves.senyolanda_cubic_spline_interpolate.Kinds as cubic-spline-interpolate-kinds
-use Rattle.senyolanda.proofs.curves.senyolanda_cubic_spline_interpolate.Reads as cubic-spline-interpolate-reads
-use Rattle.senyolanda.proofs.curves.senyolanda_yield_curve_discount_factor.Kinds as yield-curve-discount-factor-kinds
-use Rattle.senyolanda.proofs.curves.senyolanda_yield_curve_discount_factor.Reads as yield-curve-discount-factor-reads
-use Rattle.senyolanda.proofs.curves.senyolanda_yield_curve_forward_rate.Kinds as yield-curve-forward-rate-kinds
-use Rattle.senyolanda.proofs.curves.senyolanda_yield_curve_forward_rate.Reads as yield-curve-forward-rate-reads
-use Rattle.senyolanda.proofs.curves.senyolanda_par_yield.Kinds as par-yield-kinds
-use Rattle.senyolanda.proofs.curves.senyolanda_par_yield.Reads as par-yield-reads
+use Rattle.senyolanda.proofs.yield_curves.senyolanda_linear_interpolate.Kinds as linear-interpolate-kinds
+use Rattle.senyolanda.proofs.yield_curves.senyolanda_linear_interpolate.Reads as linear-interpolate-reads
+use Rattle.senyolanda.proofs.yield_curves.senyolanda_cubic_spline_interpolate.Kinds as cubic-spline-interpolate-kinds
+use Rattle.senyolanda.proofs.yield_curves.senyolanda_cubic_spline_interpolate.Reads as cubic-spline-interpolate-reads
+use Rattle.senyolanda.proofs.yield_curves.senyolanda_yield_curve_discount_factor.Kinds as yield-curve-discount-factor-kinds
+use Rattle.senyolanda.proofs.yield_curves.senyolanda_yield_curve_discount_factor.Reads as yield-curve-discount-factor-reads
+use Rattle.senyolanda.proofs.yield_curves.senyolanda_yield_curve_forward_rate.Kinds as yield-curve-forward-rate-kinds
+use Rattle.senyolanda.proofs.yield_curves.senyolanda_yield_curve_forward_rate.Reads as yield-curve-forward-rate-reads
+use Rattle.senyolanda.proofs.yield_curves.senyolanda_par_yield.Kinds as par-yield-kinds
+use Rattle.senyolanda.proofs.yield_curves.senyolanda_par_yield.Reads as par-yield-reads
 
 pub linear-interpolate-determined : Determined _ linear-interpolate-kinds.ps linear-interpolate-kinds.r linear-interpolate-reads.Post
 linear-interpolate-determined κs a x y e e′ p q = one-result p q

@@ -7,8 +7,8 @@ use lib.ListN.{length, length-set, getD}
 use lib.Ieee.{Float, nan}
 use borrow.Author.Needs.{needs}
 use Rattle.elementary.proofs.PartWay.{Passed, none-passed, as-it-was, one-passed, all-passed}
-use Rattle.curves.specs.declared.segments.Rule.{Rule}
-use Rattle.curves.specs.Segments.{segmentBy, Rising}
+use Rattle.curves.specs.Segments.{Rising}
+use Rattle.curves.specs.Kinds.{servedBy}
 use Rattle.curves.specs.inner.Exponents.{answerOn}
 use Rattle.curves.proofs.Flat.{ends-are}
 use Rattle.curves.proofs.Halvings.{served-at}
@@ -23,8 +23,8 @@ Inv-loop kind exponents times rates asked₀ segments j₀ asked j =
 abbrev μ-loop : tie.MeasureT-loop
 μ-loop kind exponents times rates asked₀ segments j₀ asked j = 8 - j
 
-eight-segments-requires : tie.Need-eight-segments-requires Inv-loop μ-loop
-eight-segments-requires c κs = c .before .before .before .before .before .pre
+eight-on-requires : tie.Need-eight-on-requires Inv-loop μ-loop
+eight-on-requires c κs = c .before .before .before .before .pre
 
 loop-holds : tie.Need-loop-holds Inv-loop μ-loop
 loop-holds c = (omega arith, refl, λ rises. none-passed _ _ _)
@@ -32,12 +32,12 @@ loop-holds c = (omega arith, refl, λ rises. none-passed _ _ _)
 slice-read-t : tie.Need-slice-read-t Inv-loop μ-loop
 slice-read-t c =
     let head = c .before .before in
-    omega (arith, head .loop .inv .1, head .before .before .before .before .before .before .before .pre)
+    omega (arith, head .loop .inv .1, head .before .before .before .before .before .before .pre)
 
 slice-write-asked : tie.Need-slice-write-asked Inv-loop μ-loop
 slice-write-asked c =
     let head = c .before .before .before .before .before .before in
-    omega (arith, head .loop .inv .1, head .before .before .before .before .before .before .before .pre)
+    omega (arith, head .loop .inv .1, head .before .before .before .before .before .before .pre)
 
 loop-again : tie.Need-loop-again Inv-loop μ-loop
 loop-again c =
@@ -46,8 +46,7 @@ loop-again c =
     let ends = between .before in
     let head = ends .before .before .before in
     let found = head .before in
-    let rule = found .before .before in
-    let start = rule .before .before .before .before in
+    let start = found .before .before .before .before .before in
     let a = start .args in
     let times = a .times .now in
     let j = head .loop .j in (
@@ -56,9 +55,9 @@ loop-again c =
       λ rises.
           let p = head .loop .inv .2 rises in
           let here : getD (head .loop .asked) j nan ≡ getD (a .asked .now) j nan = as-it-was p (start .pre) (omega arith) in
-          let served : getD (found .eight-segments .result) j 0 ≡ segmentBy _ times (getD (head .loop .asked) j nan) =
-              ap (λ (l : List ℕ). getD l j 0) (found .eight-segments .ensures rises) ∙ served-at _ times j (a .asked .now) (omega (arith, start .pre))
-              ∙ ap (λ (r : Rule). segmentBy r times (getD (a .asked .now) j nan)) (rule .rule-of .ensures) ∙ ap (segmentBy _ times) (sym here)
+          let served : getD (found .eight-on .result) j 0 ≡ servedBy (a .kind) times (getD (head .loop .asked) j nan) =
+              ap (λ (l : List ℕ). getD l j 0) (found .eight-on .ensures rises) ∙ served-at (servedBy (a .kind) times) j (a .asked .now) (omega (arith, start .pre))
+              ∙ ap (servedBy (a .kind) times) (sym here)
           in
           one-passed p (start .pre) _ (omega arith)
           (one-answer (a .kind) times (a .rates .now) (a .exponents) _ _ _ _ here
@@ -70,7 +69,7 @@ same-length : tie.Need-same-length Inv-loop μ-loop
 same-length c = c .before .loop .inv .1
 
 returns : tie.Need-returns Inv-loop μ-loop
-returns c rises = let at = c .before in all-passed (at .loop .inv .2 rises) (at .before .before .before .before .before .before .before .pre) (omega arith)
+returns c rises = let at = c .before in all-passed (at .loop .inv .2 rises) (at .before .before .before .before .before .before .pre) (omega arith)
 
 pub answer-eight-spec : {M : Type 1} → statement M
 answer-eight-spec =
@@ -78,8 +77,7 @@ answer-eight-spec =
     (tie.spec
     Inv-loop
     μ-loop
-    (λ c κs. search needs)
-    eight-segments-requires
+    eight-on-requires
     loop-holds
     (λ c. omega arith)
     slice-read-t

@@ -1,8 +1,7 @@
 -- `curves::lookups::rate_of` meets its contract: flat before the first knot and past the last, and between them along the segment that serves t. Assumes nothing.
 use mathlib.Core.Path.{ap, _∙_}
 use borrow.Author.Needs.{needs}
-use Rattle.curves.specs.declared.segments.Rule.{Rule}
-use Rattle.curves.specs.Segments.{Ends, endsOf, segmentBy}
+use Rattle.curves.specs.Segments.{Ends, endsOf}
 use Rattle.curves.specs.Kinds.{along, rateOn}
 use Rattle.curves.proofs.Flat.{before-first, past-last, inside, ends-are}
 use Rattle.curves.proofs.lookups.rate_of.Statement.{statement}
@@ -28,16 +27,15 @@ unfolding rateOn
 returns-3 c rises =
     let ends = c .before in
     let served = ends .before in
-    let rule = served .before in
-    let last = rule .before .before in
+    let last = served .before .before in
     let read = last .before .before in
     let a = read .before .before .before .args in
     inside (a .times .now) (a .rates .now) (a .t) _ _ (read .knot-at .ensures) (last .before .if1 .left) _ (last .last-knot .ensures) _
     (c .along .ensures
     ∙ ap (λ (e : Ends). along (a .kind) e (a .t))
     (ends-are (a .times .now) (a .rates .now) _ _ _ _ _ (ends .ends-of .ensures)
-    ∙ ap (endsOf (a .times .now) (a .rates .now)) (served .segment .ensures rises ∙ ap (λ (r : Rule). segmentBy r (a .times .now) (a .t)) (rule .rule-of .ensures))))
-    (rule .before .if2 .left)
+    ∙ ap (endsOf (a .times .now) (a .rates .now)) (served .segment-on .ensures rises)))
+    (served .before .if2 .left)
 
 pub rate-of-spec : {M : Type 1} → statement M
 rate-of-spec =
@@ -49,7 +47,6 @@ rate-of-spec =
     (λ c κs. search needs)
     (λ c κs. search needs)
     returns-2
-    (λ c κs. search needs)
     (λ c κs. search needs)
     (λ c κs. search needs)
     (λ c κs. search needs)

@@ -2,7 +2,7 @@
 use mathlib.Core.Path.{_∙_}
 use Prim.Native.Nat.{suc}
 use lib.Ieee.{Float}
-use Rattle.curves.specs.Segments.{segmentBy, knot}
+use Rattle.curves.specs.Segments.{knot}
 use Rattle.swaps.specs.inner.Knots.{withRate}
 use Rattle.swaps.proofs.TriedRates.{each-before, each-after, each-between}
 use borrow.Author.Needs.{needs}
@@ -50,7 +50,6 @@ along-each-requires : tie.Need-along-each-requires
 along-each-requires c κs = search needs
 
 returns-3 : tie.Need-returns-3
-unfolding segmentBy
 returns-3 c =
     let r1 = c .before in
     let r0 = r1 .before in

@@ -1,13 +1,12 @@
 -- `yield_curve::each::rate_at_each` meets its contract. Assumes nothing.
 use borrow.Author.Needs.{needs}
-use Rattle.curves.specs.Segments.{segmentBy}
-use Rattle.curves.specs.Kinds.{rateOn, ruleOf, along}
+use Rattle.curves.specs.Kinds.{rateOn, servedBy, along}
 use Rattle.yield_curve.specs.Linear.{yieldOf}
 use Rattle.yield_curve.proofs.each.rate_at_each.Statement.{statement}
 use Rattle.yield_curve.proofs.each.rate_at_each.Tie as tie
 
 returns : tie.Need-returns
-unfolding rateOn ruleOf along segmentBy yieldOf
+unfolding rateOn servedBy along yieldOf
 returns c = c .before .before .rate-at-each .ensures
 
 pub rate-at-each-spec : {M : Type 1} → statement M

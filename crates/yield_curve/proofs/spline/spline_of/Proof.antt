@@ -4,7 +4,7 @@ use Prim.Native.Nat.{ℕ}
 use native.Mathlib.Omega.{arith}
 use lib.Ieee.{binary64, sub}
 use borrow.Author.Tests.{lt-ltb, le-ltb}
-use Rattle.curves.specs.Segments.{knot, segmentBy}
+use Rattle.curves.specs.Segments.{knot}
 use Rattle.yield_curve.specs.Spline.{cubic, splineOf}
 use Rattle.curves.proofs.Choices.{taken, left}
 use Rattle.curves.proofs.Flat.{before-first, past-last, inside}
@@ -59,7 +59,7 @@ cubic-requires : tie.Need-cubic-requires
 cubic-requires c κs = search needs
 
 returns-4 : tie.Need-returns-4
-unfolding splineOf segmentBy
+unfolding splineOf
 returns-4 c =
     let served = c .before .before in
     let last = served .before .before in
@@ -75,7 +75,7 @@ no-knot-requires : tie.Need-no-knot-requires
 no-knot-requires c κs = search needs
 
 returns-5 : tie.Need-returns-5
-unfolding splineOf segmentBy
+unfolding splineOf
 returns-5 c =
     let served = c .before .before in
     let last = served .before .before in
