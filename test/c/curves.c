@@ -160,3 +160,45 @@ void as_one_by_one(call *listed, call *alone) {
     }
     tidy_desk();
 }
+
+/* Times that rise by any step, from 0 or above. */
+static void set_random_curve(size_t count) {
+    double times[KNOTS], rates[KNOTS], t = random_below(2) ? 0 : random_part();
+    for (size_t i = 0; i < count; i++) {
+        times[i] = t;
+        rates[i] = random_part() - 0.5;
+        t += random_below(4) ? 9 * random_part() : ldexp(random_part(), -40) + 2 * DBL_EPSILON * t;
+    }
+    set_curve(count, times, rates);
+}
+
+static double walked(size_t count, enum rule rule, along *formula, double t) {
+    const double *times = desk.times, *rates = desk.rates;
+    if (t <= times[0]) return rates[0];
+    if (times[count - 1] <= t) return rates[count - 1];
+    size_t i = 0;
+    while (rule == SEGMENT_THAT_ENDS ? t > times[i + 1] : t >= times[i + 1]) i++;
+    return formula(times[i], times[i + 1], rates[i], rates[i + 1], t);
+}
+
+/* A time at a knot, at a float beside it, or on the way to the next; before the first or after the last. */
+static double time_by_knot(size_t count, size_t i) {
+    double t = desk.times[i], next = i + 1 < count ? desk.times[i + 1] : t + 1;
+    const double times[] = { t, nextafter(t, -1), nextafter(t, INFINITY), t + (next - t) * random_part(), t - 1, next };
+    return times[random_below(sizeof times / sizeof *times)];
+}
+
+void as_the_walk(call *alone, call *listed, enum rule rule, along *formula) {
+    for (size_t count = 1; count <= 120; count++) {
+        set_random_curve(count);
+        for (size_t i = 0; i < 3 * count; i++) {
+            double t = time_by_knot(count, i % count);
+            IS(at(alone, t), walked(count, rule, formula, t));
+        }
+        desk.asked_count = count % (ASKED + 1);
+        for (size_t i = 0; i < desk.asked_count; i++) desk.asked[i] = time_by_knot(count, random_below(count));
+        ACCEPTED(listed);
+        for (size_t i = 0; i < desk.asked_count; i++) IS(answered_numbers(0)[i], walked(count, rule, formula, desk.asked[i]));
+    }
+    tidy_desk();
+}

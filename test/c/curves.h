@@ -31,6 +31,15 @@ senyolanda_result numbers_of_curve(curve_numbers *function);
    its time alone. */
 void as_one_by_one(call *listed, call *alone);
 
+/* Which segment serves a time, by going from knot to knot: the first that it is not beyond, or the first that it is before the end of. */
+enum rule { SEGMENT_THAT_ENDS, SEGMENT_THAT_STARTS };
+/* A rate along a segment: its two times, its two rates, and the time. */
+typedef double along(double t0, double t1, double rate0, double rate1, double t);
+
+/* Curves of 1 to 120 knots at random, asked at each knot, at the floats beside it, between it and the next, and outside: the call
+   gives what the formula gives along the segment that the walk comes to, and so does the list call. */
+void as_the_walk(call *alone, call *listed, enum rule rule, along *formula);
+
 /* What the call gives at a time, or between two. */
 double at(call *called, double t);
 double between(call *called, double t1, double t2);

@@ -143,6 +143,10 @@ static void random_lines(void) {
     }
 }
 
+static double along_yields(double t0, double t1, double rate0, double rate1, double t) {
+    return rate0 + (t - t0) / (t1 - t0) * (rate1 - rate0);
+}
+
 static void splines(void) {
     static const double times[] = { 0, 1, 2 }, rates[] = { 0, 1, 0 };
     set_curve(3, times, rates);
@@ -204,6 +208,7 @@ int main(int arguments, char **words) {
     par_yields();
     models();
     fits();
+    as_the_walk(call_linear_interpolate, call_linear_interpolate_each, SEGMENT_THAT_ENDS, along_yields);
     as_one_by_one(call_linear_interpolate_each, call_linear_interpolate);
     as_one_by_one(call_yield_curve_discount_factor_each, call_yield_curve_discount_factor);
     return close_checks();

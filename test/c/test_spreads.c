@@ -253,6 +253,10 @@ static double pv_at(double points) {
 }
 
 /* r0 + (r1-r0)·(t-t0)/(t1-t0), left to right; where t is an inner knot the segment that starts there serves. */
+static double along_rates(double t0, double t1, double rate0, double rate1, double t) {
+    return rate0 + (rate1 - rate0) * (t - t0) / (t1 - t0);
+}
+
 static void random_lines(call *called) {
     for (int i = 0; i < 2000; i++) {
         struct segments s = set_random_segments();
@@ -408,6 +412,8 @@ int main(int arguments, char **words) {
     spreads();
     dated_amounts();
     dated_seconds();
+    as_the_walk(call_zero_curve_rate, call_zero_curve_rate_each, SEGMENT_THAT_STARTS, along_rates);
+    as_the_walk(call_swap_curve_rate, call_swap_curve_rate_each, SEGMENT_THAT_STARTS, along_rates);
     as_one_by_one(call_zero_curve_rate_each, call_zero_curve_rate);
     as_one_by_one(call_swap_curve_rate_each, call_swap_curve_rate);
     as_one_by_one(call_zero_curve_discount_factor_each, call_zero_curve_discount_factor);

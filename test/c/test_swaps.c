@@ -196,6 +196,11 @@ static void discounting(void) {
     IS(at(call_discount_curve_factor, -2), 1);
 }
 
+static double along_zeros(double t0, double t1, double rate0, double rate1, double t) {
+    double w = (t - t0) / (t1 - t0);
+    return rate0 * (1 - w) + rate1 * w;
+}
+
 /* z0·(1-w) + z1·w; where t is an inner knot the segment that ends there serves, with w = 1. */
 static void random_lines(void) {
     for (int i = 0; i < 2000; i++) {
@@ -318,6 +323,7 @@ int main(int arguments, char **words) {
     valuations();
     tidy_desk();
     try_records(functions, damaged_record, 500000);
+    as_the_walk(call_discount_curve_rate, call_discount_curve_rate_each, SEGMENT_THAT_ENDS, along_zeros);
     as_one_by_one(call_discount_curve_rate_each, call_discount_curve_rate);
     as_one_by_one(call_discount_curve_factor_each, call_discount_curve_factor);
     return close_checks();

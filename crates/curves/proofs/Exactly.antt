@@ -1,4 +1,4 @@
--- Lookups refuse by the table's rule: number k at place p is given exactly when that is the lowest line with a cause and its first place. Assumes nothing.
+-- Lists of lookups refuse by the table's rule: number k at place p is given exactly when that is the lowest line with a cause and its first place. Assumes nothing.
 use mathlib.Core.Path.{_≡_}
 use mathlib.Core.Logic.{_↔_}
 use mathlib.Core.List.{List}
@@ -6,24 +6,12 @@ use Prim.Native.Nat.{ℕ, _≤_, min}
 use lib.ListN.{length}
 use lib.Ieee.{Float}
 use Rattle.numbers.specs.Whole.{largest}
-use Rattle.refusals.specs.Outcome.{refused, Lowest, ExactlyWhen, above}
+use Rattle.refusals.specs.Outcome.{refused, Lowest, ExactlyWhen}
 use Rattle.refusals.proofs.Judging.{exactly}
 use Rattle.refusals.proofs.GivenPlaces.{placed-exactly, held-exactly}
 use Rattle.refusals.proofs.Verdicts.{verdict}
-use Rattle.curves.specs.declared.kinds.Kind.{Kind}
-use Rattle.curves.specs.Curve.{askedLines}
-use Rattle.curves.specs.Kinds.{rateAnswer, discountAnswer}
 use Rattle.curves.specs.Lists.{eachLines, eachOutcome}
 use Rattle.curves.proofs.GivenPlaces.{each-rising, each-held}
-
-module _ (kind : Kind) (times rates : List Float) (t : Float) where
-  pub rate-refused-exactly : ExactlyWhen (askedLines times rates t) (rateAnswer kind times rates t)
-  unfolding rateAnswer above
-  rate-refused-exactly = exactly _ (askedLines times rates t) tt
-
-  pub discount-refused-exactly : ExactlyWhen (askedLines times rates t) (discountAnswer kind times rates t)
-  unfolding discountAnswer above
-  discount-refused-exactly = exactly _ (askedLines times rates t) tt
 
 module _ (times rates : List Float) where
   -- a list of times: `judge_each`, `rate_at_each` and `discount_factor_at_each` give this one outcome. Its lines refuse by the rule ..

@@ -12,5 +12,6 @@ pub mod Listing
 pub mod GivenPlaces
 pub mod AtKnots
 pub mod Noughts
+pub mod Worked
 pub mod Exactly
 pub mod Tight

@@ -1,5 +1,6 @@
 -- How tight the promises are: whatever a public function is given, any two results that its contract allows are equal; a finder's are on times that rise. Assumes nothing.
-use mathlib.Core.Path.{_≡_, sym, ap, _∙_}
+use mathlib.Core.Path.{_≡_, refl, sym, ap, _∙_}
+use mathlib.Core.Bool.{Bool, true, false}
 use mathlib.Core.List.{List}
 use Prim.Native.Nat.{ℕ, _+_, _<_, _≤_}
 use lib.ListN.{getD}
@@ -9,7 +10,7 @@ use contract.Lifetimes.{Lfts}
 use denote.Triple.Clauses.{AtExit, Lasts, atExit}
 use denote.Ref.{now}
 use Rattle.numbers.proofs.Determined.{Determined, Settled}
-use Rattle.refusals.proofs.OneToOne.{verdict-one-to-one, number-one-to-one}
+use Rattle.refusals.proofs.OneToOne.{verdict-one-to-one}
 use Rattle.curves.specs.declared.segments.Ends.{Ends}
 use Rattle.curves.specs.Segments.{Rising}
 use Rattle.curves.proofs.curve.bad_knot_count.Kinds as bad-knot-count-kinds
@@ -34,6 +35,8 @@ use Rattle.curves.proofs.segments.ends_of.Kinds as ends-of-kinds
 use Rattle.curves.proofs.segments.ends_of.Reads as ends-of
 use Rattle.curves.proofs.segments.flat_outside.Kinds as flat-outside-kinds
 use Rattle.curves.proofs.segments.flat_outside.Reads as flat-outside
+use Rattle.curves.proofs.each.all_finite.Kinds as all-finite-kinds
+use Rattle.curves.proofs.each.all_finite.Reads as all-finite
 use Rattle.curves.proofs.each.judge_each.Kinds as judge-each-kinds
 use Rattle.curves.proofs.each.judge_each.Reads as judge-each
 use Rattle.curves.proofs.segments.no_knot.Kinds as no-knot-kinds
@@ -50,10 +53,6 @@ use Rattle.curves.proofs.lookups.exponent_at.Kinds as exponent-at-kinds
 use Rattle.curves.proofs.lookups.exponent_at.Reads as exponent-at
 use Rattle.curves.proofs.lookups.discount_of.Kinds as discount-of-kinds
 use Rattle.curves.proofs.lookups.discount_of.Reads as discount-of
-use Rattle.curves.proofs.lookups.rate_at.Kinds as rate-at-kinds
-use Rattle.curves.proofs.lookups.rate_at.Reads as rate-at
-use Rattle.curves.proofs.lookups.discount_factor.Kinds as discount-factor-kinds
-use Rattle.curves.proofs.lookups.discount_factor.Reads as discount-factor
 use Rattle.curves.proofs.each.rates_of.Kinds as rates-of-kinds
 use Rattle.curves.proofs.each.rates_of.Reads as rates-of
 use Rattle.curves.proofs.each.discounts_of.Kinds as discounts-of-kinds
@@ -113,6 +112,15 @@ ends-of-determined κs a x y e e′ p q = same-ends x y (p .0 ∙ sym (q .0)) (p
 pub flat-outside-determined : Determined 2 flat-outside-kinds.ps flat-outside-kinds.r flat-outside.Post
 flat-outside-determined κs a x y e e′ p q = p ∙ sym q
 
+-- two answers to one question, by what either says where it is true
+same-answer : (x y : Bool) → (x ≡ true → y ≡ true) → (y ≡ true → x ≡ true) → x ≡ y
+same-answer true y p q = sym (p refl)
+same-answer false true p q = q refl
+same-answer false false p q = refl
+
+pub all-finite-determined : Determined 1 all-finite-kinds.ps all-finite-kinds.r all-finite.Post
+all-finite-determined κs a x y e e′ p q = same-answer x y (λ t. q .1 (p .0 t)) (λ t. p .1 (q .0 t))
+
 pub judge-each-determined : Determined 3 judge-each-kinds.ps judge-each-kinds.r judge-each.Post
 judge-each-determined κs a x y e e′ p q = verdict-one-to-one x y (p ∙ sym q)
 
@@ -124,12 +132,6 @@ along-determined κs a x y e e′ p q = p ∙ sym q
 
 pub exponent-at-determined : Determined 0 exponent-at-kinds.ps exponent-at-kinds.r exponent-at.Post
 exponent-at-determined κs a x y e e′ p q = p ∙ sym q
-
-pub rate-at-determined : Determined 2 rate-at-kinds.ps rate-at-kinds.r rate-at.Post
-rate-at-determined κs a x y e e′ p q = number-one-to-one x y (p ∙ sym q)
-
-pub discount-factor-determined : Determined 2 discount-factor-kinds.ps discount-factor-kinds.r discount-factor.Post
-discount-factor-determined κs a x y e e′ p q = number-one-to-one x y (p ∙ sym q)
 
 -- ---- lists of lookups: one verdict, and one list after the call
 pub rate-at-each-determined : Determined 3 rate-at-each-kinds.ps rate-at-each-kinds.r rate-at-each.Post

@@ -6,11 +6,9 @@ use lib.Ieee.{Float, binary64, neg, mul, le}
 use Rattle.numbers.specs.Literals.{one}
 use Rattle.numbers.specs.Clamps.{plusZero}
 use Rattle.elementary.specs.Exp.{exp}
-use Rattle.refusals.specs.Outcome.{Outcome, judged}
 use Rattle.curves.specs.declared.kinds.Kind.{Kind}
 use Rattle.curves.specs.declared.kinds.Kind.the-variants as kind-is
 use Rattle.curves.specs.Segments.{Ends, endsOf, segmentEnding, segmentStarting, flatOutside}
-use Rattle.curves.specs.Curve.{askedLines}
 use Rattle.curves.specs.Formulas.{alongYields, alongZeros, alongRates}
 
 -- at an inner knot the yield and the discount curve go by the segment that ends there, the spread curves by the one that starts there
@@ -42,10 +40,3 @@ unfoldable pub exponentAt : Kind → Float → Float → Float
 exponentAt kind-is.YieldCurve rate t = mul binary64 (neg rate) t
 exponentAt kind-is.DiscountCurve rate t = cond (le t plusZero) plusZero (mul binary64 (neg rate) t)
 exponentAt kind-is.SpreadCurve rate t = mul binary64 (neg rate) t
-
--- ---- what a lookup answers
-unfoldable pub rateAnswer : Kind → List Float → List Float → Float → Outcome Float
-rateAnswer kind times rates t = judged (askedLines times rates t) (rateOn kind times rates t)
-
-unfoldable pub discountAnswer : Kind → List Float → List Float → Float → Outcome Float
-discountAnswer kind times rates t = judged (askedLines times rates t) (discountOn kind times rates t)

@@ -60,7 +60,7 @@ pub fn bad_time(t: f64) -> bool
 }
 
 pub(crate) fn one_unless(good: bool) -> u64
-    ensures { λ r. ⌜ (r ≤ 1) × (r ≡ 0 → good ≡ true) ⌝ }
+    ensures { λ r. ⌜ (r ≤ 1) × (r ≡ 0 → good ≡ true) × (good ≡ true → r ≡ 0) ⌝ }
 {
     if good { 0 } else { 1 }
 }

@@ -30,8 +30,8 @@ use refusals::Verdict;
 use refusals::refuse_at;
 
 // Whether each is finite; all are asked alike, so that several are asked at once.
-fn all_finite(asked: &[f64]) -> bool
-    ensures { λ r. ⌜ (r ≡ true → (k : ℕ) → k < length (now (asked .entry)) → finite (getD (now (asked .entry)) k nan) ≡ true) ⌝ }
+pub fn all_finite(asked: &[f64]) -> bool
+    ensures { λ r. ⌜ (r ≡ true → (k : ℕ) → k < length (now (asked .entry)) → finite (getD (now (asked .entry)) k nan) ≡ true) × (((k : ℕ) → k < length (now (asked .entry)) → finite (getD (now (asked .entry)) k nan) ≡ true) → r ≡ true) ⌝ }
 {
     let mut found: u64 = 0;
     let mut i: usize = 0;

@@ -1,10 +1,7 @@
 // Lookups on a curve, one at a time.
 ghost use mathlib.Core.Path.{_≡_};
-ghost use Rattle.refusals.specs.Answers.{numberOutcome};
 ghost use Rattle.curves.specs.Segments.{Rising};
-ghost use Rattle.curves.specs.Kinds.{rateOn, discountOn, exponentAt, rateAnswer, discountAnswer};
-use crate::curve::bad_time;
-use crate::curve::judge_asked;
+ghost use Rattle.curves.specs.Kinds.{rateOn, discountOn, exponentAt};
 use crate::formulas::along;
 use crate::kinds::Kind;
 use crate::kinds::segment_on;
@@ -12,8 +9,6 @@ use crate::segments::ends_of;
 use crate::segments::knot_at;
 use crate::segments::last_knot;
 use elementary::exp::exp;
-use refusals::Number;
-use refusals::Verdict;
 
 // The rate at a time.
 pub fn rate_of(kind: Kind, times: &[f64], rates: &[f64], t: f64) -> f64
@@ -50,22 +45,4 @@ pub fn discount_of(kind: Kind, times: &[f64], rates: &[f64], t: f64) -> f64
     ensures { λ r. ⌜ (Rising (now (times .entry)) → r ≡ discountOn kind (now (times .entry)) (now (rates .entry)) t) ⌝ }
 {
     exp(exponent_at(kind, rate_of(kind, times, rates, t), t))
-}
-
-pub fn rate_at(kind: Kind, times: &[f64], rates: &[f64], t: f64) -> Number
-    ensures { λ r. ⌜ numberOutcome r ≡ rateAnswer kind (now (times .entry)) (now (rates .entry)) t ⌝ }
-{
-    match judge_asked(times, rates, bad_time(t)) {
-        Verdict::Refused(refusal) => Number::Refused(refusal),
-        Verdict::Accepted => Number::Given(rate_of(kind, times, rates, t)),
-    }
-}
-
-pub fn discount_factor(kind: Kind, times: &[f64], rates: &[f64], t: f64) -> Number
-    ensures { λ r. ⌜ numberOutcome r ≡ discountAnswer kind (now (times .entry)) (now (rates .entry)) t ⌝ }
-{
-    match judge_asked(times, rates, bad_time(t)) {
-        Verdict::Refused(refusal) => Number::Refused(refusal),
-        Verdict::Accepted => Number::Given(discount_of(kind, times, rates, t)),
-    }
 }

@@ -3,9 +3,9 @@ use mathlib.Core.Path.{_≡_, refl}
 use mathlib.Core.List.{List}
 use lib.Ieee.{Float}
 use Rattle.curves.specs.declared.kinds.Kind.the-variants as kind-is
-use Rattle.curves.specs.Kinds.{servedBy, along, rateOn, discounted, discountOn, rateAnswer, discountAnswer}
+use Rattle.curves.specs.Kinds.{servedBy, along, rateOn, discounted, discountOn}
 use Rattle.curves.specs.Lists.{eachAfter}
-use Rattle.spread_analytics.specs.Curves.{rateOf, discountOf, rateAt, discountFactor}
+use Rattle.spread_analytics.specs.Curves.{rateOf, discountOf}
 
 module _ (tenors rates : List Float) where
   module _ (t : Float) where
@@ -16,14 +16,6 @@ module _ (tenors rates : List Float) where
     pub same-discount : discountOn kind-is.SpreadCurve tenors rates t ≡ discountOf tenors rates t
     unfolding discountOn discounted rateOn servedBy along discountOf rateOf
     same-discount = refl
-
-    pub same-rate-answer : rateAnswer kind-is.SpreadCurve tenors rates t ≡ rateAt tenors rates t
-    unfolding rateAnswer rateOn servedBy along rateAt rateOf
-    same-rate-answer = refl
-
-    pub same-discount-answer : discountAnswer kind-is.SpreadCurve tenors rates t ≡ discountFactor tenors rates t
-    unfolding discountAnswer discountOn discounted rateOn servedBy along discountFactor discountOf rateOf
-    same-discount-answer = refl
 
   module _ (asked : List Float) where
     pub same-rates-after : eachAfter (rateOn kind-is.SpreadCurve tenors rates) tenors rates asked ≡ eachAfter (rateOf tenors rates) tenors rates asked

@@ -8,6 +8,7 @@ ghost use Rattle.refusals.specs.Outcome.{alone, judged};
 ghost use Rattle.refusals.specs.Answers.{verdictOutcome};
 ghost use Rattle.refusals.specs.Table.{tooManyFlows, badTime, badNumber};
 ghost use Rattle.spread_analytics.specs.Spread.{spreadLines};
+use curves::each::all_finite;
 use refusals::Refusal;
 use refusals::Verdict;
 use refusals::refuse;
@@ -19,6 +20,9 @@ fn judge_items(number: u32, single: bool, items: &[f64]) -> Verdict
 {
     if single {
         return Verdict::Refused(refuse(number));
+    }
+    if all_finite(items) {
+        return Verdict::Accepted;
     }
     let mut i: usize = 0;
     while i < items.len() {

@@ -59,7 +59,10 @@ fn bad_times(t1: f64, t2: f64) -> bool
 pub fn rate_at(tenors: &[f64], rates: &[f64], t: f64) -> Number
     ensures { λ r. ⌜ numberOutcome r ≡ rateAt (now (tenors .entry)) (now (rates .entry)) t ⌝ }
 {
-    curves::lookups::rate_at(Kind::SpreadCurve, tenors, rates, t)
+    match judge_asked(tenors, rates, bad_time(t)) {
+        Verdict::Refused(refusal) => Number::Refused(refusal),
+        Verdict::Accepted => Number::Given(rate_of(tenors, rates, t)),
+    }
 }
 
 // The swap rate at a tenor.
@@ -72,7 +75,10 @@ pub fn swap_rate_at(tenors: &[f64], rates: &[f64], tenor: f64) -> Number
 pub fn discount_factor(tenors: &[f64], rates: &[f64], t: f64) -> Number
     ensures { λ r. ⌜ numberOutcome r ≡ discountFactor (now (tenors .entry)) (now (rates .entry)) t ⌝ }
 {
-    curves::lookups::discount_factor(Kind::SpreadCurve, tenors, rates, t)
+    match judge_asked(tenors, rates, bad_time(t)) {
+        Verdict::Refused(refusal) => Number::Refused(refusal),
+        Verdict::Accepted => Number::Given(discount_of(tenors, rates, t)),
+    }
 }
 
 // The rate from one time to another, by the two discount factors.

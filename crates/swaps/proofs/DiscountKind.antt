@@ -1,15 +1,15 @@
--- The discount curve is a curve of its kind: its zero rate, its discount factor and its answers are what `curves` says of a DiscountCurve. Assumes nothing.
+-- The discount curve is a curve of its kind: its zero rate and its discount factor are what `curves` says of a DiscountCurve. Assumes nothing.
 use mathlib.Core.Path.{_≡_, refl, _∙_}
 use mathlib.Core.List.{List}
 use Prim.Native.Nat.{ℕ, _+_}
 use lib.Ieee.{Float}
 use Rattle.elementary.specs.Exp.{exp}
 use Rattle.curves.specs.declared.kinds.Kind.the-variants as kind-is
-use Rattle.curves.specs.Kinds.{servedBy, along, rateOn, discounted, discountOn, rateAnswer, discountAnswer}
+use Rattle.curves.specs.Kinds.{servedBy, along, rateOn, discounted, discountOn}
 use Rattle.curves.specs.Lists.{eachAfter}
 use Rattle.curves.specs.Runs.{dateAfter, FactorsAfter as FactorsOn}
 use Rattle.curves.proofs.Answers.{exp-of-exponent}
-use Rattle.swaps.specs.Discount.{zeroRateOf, discountOf, rateAt, discountFactor}
+use Rattle.swaps.specs.Discount.{zeroRateOf, discountOf}
 use Rattle.swaps.specs.inner.Runs.{exponentOf, FactorsAfter}
 
 module _ (tenors zeros : List Float) where
@@ -22,14 +22,6 @@ module _ (tenors zeros : List Float) where
     pub discount-is : discountOn kind-is.DiscountCurve tenors zeros t ≡ discountOf tenors zeros t
     unfolding rateOn servedBy along zeroRateOf discounted discountOn discountOf
     discount-is = refl
-
-    pub rate-answer-is : rateAnswer kind-is.DiscountCurve tenors zeros t ≡ rateAt tenors zeros t
-    unfolding rateOn servedBy along zeroRateOf rateAnswer rateAt
-    rate-answer-is = refl
-
-    pub discount-answer-is : discountAnswer kind-is.DiscountCurve tenors zeros t ≡ discountFactor tenors zeros t
-    unfolding rateOn servedBy along zeroRateOf discounted discountOn discountOf discountAnswer discountFactor
-    discount-answer-is = refl
 
     -- the exp of its exponent
     pub exp-is-discount : exp (exponentOf (zeroRateOf tenors zeros t) t) ≡ discountOf tenors zeros t

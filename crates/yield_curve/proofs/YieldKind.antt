@@ -3,8 +3,8 @@ use mathlib.Core.Path.{_≡_, refl}
 use mathlib.Core.List.{List}
 use lib.Ieee.{Float}
 use Rattle.curves.specs.declared.kinds.Kind.the-variants as kind-is
-use Rattle.curves.specs.Kinds.{servedBy, along, rateOn, discounted, discountOn, rateAnswer, discountAnswer}
-use Rattle.yield_curve.specs.Linear.{yieldOf, discountOf, linearInterpolate, discountFactor}
+use Rattle.curves.specs.Kinds.{servedBy, along, rateOn, discounted, discountOn}
+use Rattle.yield_curve.specs.Linear.{yieldOf, discountOf}
 
 module _ (times rates : List Float) (t : Float) where
   pub yield-on : rateOn kind-is.YieldCurve times rates t ≡ yieldOf times rates t
@@ -14,11 +14,3 @@ module _ (times rates : List Float) (t : Float) where
   pub discount-on : discountOn kind-is.YieldCurve times rates t ≡ discountOf times rates t
   unfolding discountOn discounted rateOn servedBy along discountOf yieldOf
   discount-on = refl
-
-  pub yield-answer : rateAnswer kind-is.YieldCurve times rates t ≡ linearInterpolate times rates t
-  unfolding rateAnswer rateOn servedBy along linearInterpolate yieldOf
-  yield-answer = refl
-
-  pub discount-answer : discountAnswer kind-is.YieldCurve times rates t ≡ discountFactor times rates t
-  unfolding discountAnswer discountOn discounted rateOn servedBy along discountFactor discountOf yieldOf
-  discount-answer = refl

@@ -124,13 +124,19 @@ fn bad_maturity(t: f64) -> bool
 pub fn linear_interpolate(times: &[f64], rates: &[f64], t: f64) -> Number
     ensures { λ r. ⌜ numberOutcome r ≡ linearInterpolate (now (times .entry)) (now (rates .entry)) t ⌝ }
 {
-    curves::lookups::rate_at(Kind::YieldCurve, times, rates, t)
+    match judge_asked(times, rates, bad_time(t)) {
+        Verdict::Refused(refusal) => Number::Refused(refusal),
+        Verdict::Accepted => Number::Given(yield_of(times, rates, t)),
+    }
 }
 
 pub fn discount_factor(times: &[f64], rates: &[f64], t: f64) -> Number
     ensures { λ r. ⌜ numberOutcome r ≡ discountFactor (now (times .entry)) (now (rates .entry)) t ⌝ }
 {
-    curves::lookups::discount_factor(Kind::YieldCurve, times, rates, t)
+    match judge_asked(times, rates, bad_time(t)) {
+        Verdict::Refused(refusal) => Number::Refused(refusal),
+        Verdict::Accepted => Number::Given(discount_of(times, rates, t)),
+    }
 }
 
 pub fn forward_rate(times: &[f64], rates: &[f64], t1: f64, t2: f64) -> Number

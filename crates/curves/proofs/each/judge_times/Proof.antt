@@ -22,7 +22,7 @@ all-finite-requires : tie.Need-all-finite-requires Inv-loop μ-loop
 all-finite-requires c κs = tt
 
 returns : tie.Need-returns Inv-loop μ-loop
-returns c = all-finite-accepted (c .before .before .before .args .asked .now) (c .before .all-finite .ensures (c .if1 .taken))
+returns c = all-finite-accepted (c .before .before .before .args .asked .now) (c .before .all-finite .ensures .0 (c .if1 .taken))
 
 loop-holds : tie.Need-loop-holds Inv-loop μ-loop
 loop-holds c = (omega arith, begun 7 badTime (c .before .before .before .args .asked .now) nan)

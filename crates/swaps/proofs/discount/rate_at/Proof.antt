@@ -1,12 +1,32 @@
--- `swaps::discount::rate_at` meets its contract: the answer of a curve of its kind. Assumes nothing.
-use mathlib.Core.Path.{_∙_}
+-- `swaps::discount::rate_at` meets its contract: the verdict on the curve and on what is asked decides which answer it is. Assumes nothing.
 use borrow.Author.Needs.{needs}
-use Rattle.swaps.proofs.DiscountKind.{rate-answer-is}
+use Rattle.curves.proofs.CurveLines.{answer-refused, answer-given}
+use Rattle.curves.proofs.Listing.{accepted-rises}
+use Rattle.swaps.specs.Discount.{rateAt}
 use Rattle.swaps.proofs.discount.rate_at.Statement.{statement}
 use Rattle.swaps.proofs.discount.rate_at.Tie as tie
 
+zero-rate-of-requires : tie.Need-zero-rate-of-requires
+zero-rate-of-requires c κs =
+    let judge = c .before .before in
+    let a = judge .before .before .before .before .args in
+    accepted-rises (a .tenors .now) (a .zeros .now) _ _ (judge .judge-asked .ensures) (c .enum-told .given .1)
+
 returns : tie.Need-returns
-returns c = let a = c .before .before .before .args in c .rate-at .ensures ∙ rate-answer-is (a .tenors .now) (a .zeros .now) (a .t)
+unfolding rateAt
+returns c =
+    let judge = c .before .before .before in
+    let a = judge .before .before .before .before .args in
+    answer-refused (a .tenors .now) (a .zeros .now) _ _ _ _ (judge .before .bad-time .ensures) (judge .judge-asked .ensures) _ (c .before .refusal .given .1)
+
+returns-2 : tie.Need-returns-2
+unfolding rateAt
+returns-2 c =
+    let judge = c .before .before .before in
+    let a = judge .before .before .before .before .args in
+    answer-given (a .tenors .now) (a .zeros .now) _ _ _ _ (judge .before .bad-time .ensures) (judge .judge-asked .ensures) _ (c .zero-rate-of .ensures) (c .before .enum-told .given .1)
 
 pub rate-at-spec : {M : Type 1} → statement M
-rate-at-spec = tie.close (tie.spec (λ c κs. search needs) returns)
+rate-at-spec =
+    tie.close
+    (tie.spec (λ c κs. search needs) (λ c κs. search needs) (λ c. search needs) (λ c. search needs) zero-rate-of-requires returns returns-2)
