@@ -1,8 +1,7 @@
--- The three kinds of curve: the rate by the segment that serves, and the exp of each exponent is the discount factor, at or before time 0 too. Assumes nothing.
+-- The three kinds of curve: the exp of each exponent is the discount factor, at or before time 0 too. Assumes nothing.
 use mathlib.Core.Path.{_≡_, refl, sym, ap, _∙_}
 use mathlib.Core.Bool.{Bool, true, false, cond}
 use mathlib.Core.List.{List, [], _∷_, map}
-use Prim.Native.Nat.{ℕ}
 use lib.Ieee.{Float, binary64, neg, mul, le}
 use Rattle.numbers.specs.Literals.{one}
 use Rattle.numbers.specs.Clamps.{plusZero}
@@ -12,8 +11,7 @@ use Rattle.elementary.proofs.Laws.{exp-of-zero}
 use Rattle.elementary.proofs.PartWay.{map-alike}
 use Rattle.curves.specs.declared.kinds.Kind.{Kind}
 use Rattle.curves.specs.declared.kinds.Kind.the-variants as kind-is
-use Rattle.curves.specs.Segments.{Ends, endsOf, flatOutside}
-use Rattle.curves.specs.Kinds.{servedBy, along, rateOn, discounted, discountOn, exponentAt}
+use Rattle.curves.specs.Kinds.{rateOn, discounted, discountOn, exponentAt}
 use Rattle.curves.specs.inner.Exponents.{rateOrExponent, answerOn}
 
 -- ---- discount factors
@@ -29,13 +27,6 @@ exp-of-exponent kind-is.SpreadCurve rate t = refl
 
 -- ---- one answer
 module _ (kind : Kind) (times rates : List Float) where
-  -- the rate by the segment that serves
-  pub by-segment : (t : Float) (i : ℕ) (e : Ends) (between r : Float) → i ≡ servedBy kind times t → e ≡ endsOf times rates i → between ≡ along kind e t
-      → r ≡ flatOutside times rates t between → r ≡ rateOn kind times rates t
-  unfolding rateOn
-  by-segment t i e between r is-i is-e is-between is-r =
-      is-r ∙ ap (flatOutside times rates t) (is-between ∙ ap (λ (g : Ends). along kind g t) (is-e ∙ ap (endsOf times rates) is-i))
-
   pub one-answer : (exponent : Bool) (t x rate r : Float) → x ≡ t → rate ≡ rateOn kind times rates x → r ≡ rateOrExponent kind exponent rate x → r ≡ answerOn kind exponent times rates t
   unfolding answerOn
   one-answer exponent t x rate r is-x is-rate is-r = is-r ∙ rw (is-rate, is-x)

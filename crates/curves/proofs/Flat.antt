@@ -32,3 +32,9 @@ module _ (times rates : List Float) (t between : Float) (first : Float) (is-firs
 pub ends-are : (times rates : List Float) (i : ℕ) (a b c d : Float) → (a ≡ knot times i) × (b ≡ knot times (suc i)) × (c ≡ knot rates i) × (d ≡ knot rates (suc i))
     → record { t0 = a; t1 = b; r0 = c; r1 = d } ≡ endsOf times rates i
 ends-are times rates i a b c d h = rw (h .0, h .1, h .2, h .3)
+
+-- by what was read of the first and the last knot
+pub flat-is : (times rates : List Float) (t between first before last after : Float) → (first ≡ knot times 0) × (before ≡ knot rates 0) × (last ≡ lastOf times) × (after ≡ lastOf rates)
+    → cond (le t first) before (cond (le last t) after between) ≡ flatOutside times rates t between
+unfolding flatOutside
+flat-is times rates t between first before last after h = rw (h .0, h .1, h .2, h .3)

@@ -92,10 +92,11 @@ module _ (rule : Rule) (times : List Float) where
   pub record Lane (count : ℕ) (t : Float) (base : ℕ) : Type 0 where
     pub leads : halvedFrom (passes rule t) times count base count ≡ halved (passes rule t) times
     pub room : base + count ≤ length times
+    pub some : 0 < length times → 0 < count
 
   pub lane-start : (t : Float) → Lane (length times) t 0
   unfolding halved
-  lane-start t = record { leads = refl; room = omega arith }
+  lane-start t = record { leads = refl; room = omega arith; some = λ h. h }
 
   step-room : (t : Float) (half base : ℕ) → (steppedOver (passes rule t) times half base ≡ base) ⊎ (steppedOver (passes rule t) times half base ≡ base + half)
   step-room t half base = go (passes rule t (knot times (base + half)))
@@ -108,6 +109,7 @@ module _ (rule : Rule) (times : List Float) where
   lane-next t count half base b h e l is = rw (is, e) (record {
     leads = sym (turn (passes rule t) times base count h) ∙ l .leads;
     room = ⊎-elim (λ s. within s) (λ s. further s) (step-room t (count / 2) base);
+    some = λ g. omega arith;
   })
     where
       within : steppedOver (passes rule t) times (count / 2) base ≡ base → steppedOver (passes rule t) times (count / 2) base + (count - count / 2) ≤ length times
@@ -118,6 +120,10 @@ module _ (rule : Rule) (times : List Float) where
 
   pub lane-inside : (t : Float) (count half base : ℕ) → 1 < count → half ≡ count / 2 → Lane count t base → base + half < length times
   lane-inside t count half base h e l = let r = l .room in omega arith
+
+  -- whatever the times are, it stands at a knot
+  pub lane-bound : (t : Float) (count base : ℕ) → count ≤ 1 → Lane count t base → 0 < length times → base < length times
+  lane-bound t count base h l g = let r = l .room in let s = l .some g in omega arith
 
   pub lane-end : (t : Float) (count base : ℕ) → count ≤ 1 → Lane count t base → Rising times → base ≡ segmentBy rule times t
   lane-end t count base h l rises = sym (last-turn (passes rule t) times base count h) ∙ l .leads ∙ halving-finds (by-rule rule t) times rises

@@ -4,6 +4,7 @@ pub mod Filling
 pub mod Serving
 pub mod Halvings
 pub mod Flat
+pub mod InnerKnots
 pub mod KnotLine
 pub mod InOrder
 pub mod CurveLines

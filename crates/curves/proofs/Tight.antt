@@ -33,8 +33,6 @@ use Rattle.curves.proofs.segments.last_knot.Kinds as last-knot-kinds
 use Rattle.curves.proofs.segments.last_knot.Reads as last-knot
 use Rattle.curves.proofs.segments.ends_of.Kinds as ends-of-kinds
 use Rattle.curves.proofs.segments.ends_of.Reads as ends-of
-use Rattle.curves.proofs.segments.flat_outside.Kinds as flat-outside-kinds
-use Rattle.curves.proofs.segments.flat_outside.Reads as flat-outside
 use Rattle.curves.proofs.each.all_finite.Kinds as all-finite-kinds
 use Rattle.curves.proofs.each.all_finite.Reads as all-finite
 use Rattle.curves.proofs.each.judge_each.Kinds as judge-each-kinds
@@ -108,9 +106,6 @@ last-knot-determined κs a x y e e′ p q = p ∙ sym q
 
 pub ends-of-determined : Determined 2 ends-of-kinds.ps ends-of-kinds.r ends-of.Post
 ends-of-determined κs a x y e e′ p q = same-ends x y (p .0 ∙ sym (q .0)) (p .1 ∙ sym (q .1)) (p .2 ∙ sym (q .2)) (p .3 ∙ sym (q .3))
-
-pub flat-outside-determined : Determined 2 flat-outside-kinds.ps flat-outside-kinds.r flat-outside.Post
-flat-outside-determined κs a x y e e′ p q = p ∙ sym q
 
 -- two answers to one question, by what either says where it is true
 same-answer : (x y : Bool) → (x ≡ true → y ≡ true) → (y ≡ true → x ≡ true) → x ≡ y

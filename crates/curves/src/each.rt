@@ -22,8 +22,9 @@ use crate::kinds::Kind;
 use crate::kinds::eight_on;
 use crate::lookups::exponent_at;
 use crate::lookups::rate_of;
-use crate::segments::ends_of;
-use crate::segments::flat_outside;
+use crate::segments::Ends;
+use crate::segments::flat;
+use crate::segments::outside_of;
 use elementary::exp::exp_each;
 use numbers::sizes::is_finite;
 use refusals::Verdict;
@@ -76,17 +77,25 @@ fn rate_or_exponent(kind: Kind, exponent: bool, rate: f64, t: f64) -> f64
     if exponent { exponent_at(kind, rate, t) } else { rate }
 }
 
-// Eight answers, by the segments that halving finds.
+// Eight answers, by the segments that halving finds. It is asked for among all knots but the last, so that each segment has an end: past the last knot the curve is flat.
 fn answer_eight(kind: Kind, exponents: bool, times: &[f64], rates: &[f64], asked: &mut [f64])
-    requires { ⌜ length (now asked) ≡ 8 ⌝ }
+    requires { ⌜ (length (now asked) ≡ 8) × (2 ≤ length (now times)) × (length (now times) ≤ length (now rates)) ⌝ }
     ensures { λ _. ⌜ (Rising (now (times .entry)) → now (asked .exit) ≡ map (answerOn kind exponents (now (times .entry)) (now (rates .entry))) (now (asked .entry))) ⌝ }
 {
-    let segments = eight_on(kind, times, asked);
+    let inner = times.len() - 1;
+    let segments = eight_on(kind, &times[..inner], asked);
+    let outside = outside_of(times, rates);
     let mut j: usize = 0;
     while j < 8 {
         let t = asked[j];
-        let between = along(kind, ends_of(times, rates, segments[j]), t);
-        let rate = flat_outside(times, rates, t, between);
+        let i = segments[j];
+        let ends = Ends {
+            t0: times[i],
+            t1: times[i + 1],
+            r0: rates[i],
+            r1: rates[i + 1],
+        };
+        let rate = flat(outside, t, along(kind, ends, t));
         asked[j] = rate_or_exponent(kind, exponents, rate, t);
         j += 1;
     }
@@ -126,7 +135,7 @@ fn filled_up(asked: &[f64]) -> [f64; 8]
 
 // Up to eight answers at once, in room for eight.
 fn answer_few(kind: Kind, exponents: bool, times: &[f64], rates: &[f64], asked: &mut [f64])
-    requires { ⌜ length (now asked) ≤ 8 ⌝ }
+    requires { ⌜ (length (now asked) ≤ 8) × (2 ≤ length (now times)) × (length (now times) ≤ length (now rates)) ⌝ }
     ensures { λ _. ⌜ (Rising (now (times .entry)) → now (asked .exit) ≡ map (answerOn kind exponents (now (times .entry)) (now (rates .entry))) (now (asked .entry))) ⌝ }
 {
     let mut room = filled_up(asked);
@@ -140,7 +149,7 @@ fn answer_few(kind: Kind, exponents: bool, times: &[f64], rates: &[f64], asked: 
 
 // Fewer than eight: one or two are quicker one by one.
 fn answer_last(kind: Kind, exponents: bool, times: &[f64], rates: &[f64], asked: &mut [f64])
-    requires { ⌜ length (now asked) ≤ 8 ⌝ }
+    requires { ⌜ (length (now asked) ≤ 8) × (2 ≤ length (now times)) × (length (now times) ≤ length (now rates)) ⌝ }
     ensures { λ _. ⌜ (Rising (now (times .entry)) → now (asked .exit) ≡ map (answerOn kind exponents (now (times .entry)) (now (rates .entry))) (now (asked .entry))) ⌝ }
 {
     if asked.len() <= 2 {
@@ -151,7 +160,14 @@ fn answer_last(kind: Kind, exponents: bool, times: &[f64], rates: &[f64], asked:
 }
 
 // All answers, eight at a time.
-fn answer_each(kind: Kind, exponents: bool, times: &[f64], rates: &[f64], asked: &mut [f64])
+fn answer_in_eights(
+    kind: Kind,
+    exponents: bool,
+    times: &[f64],
+    rates: &[f64],
+    asked: &mut [f64],
+)
+    requires { ⌜ (2 ≤ length (now times)) × (length (now times) ≤ length (now rates)) ⌝ }
     ensures { λ _. ⌜ (Rising (now (times .entry)) → now (asked .exit) ≡ map (answerOn kind exponents (now (times .entry)) (now (rates .entry))) (now (asked .entry))) ⌝ }
 {
     let mut at: usize = 0;
@@ -161,6 +177,19 @@ fn answer_each(kind: Kind, exponents: bool, times: &[f64], rates: &[f64], asked:
         at = end;
     }
     answer_last(kind, exponents, times, rates, &mut asked[at..]);
+}
+
+// All answers; a curve of one knot has no segment to look for.
+fn answer_each(kind: Kind, exponents: bool, times: &[f64], rates: &[f64], asked: &mut [f64])
+    ensures { λ _. ⌜ (Rising (now (times .entry)) → now (asked .exit) ≡ map (answerOn kind exponents (now (times .entry)) (now (rates .entry))) (now (asked .entry))) ⌝ }
+{
+    if times.len() < 2 {
+        answer_one_by_one(kind, exponents, times, rates, asked);
+    } else if rates.len() < times.len() {
+        answer_one_by_one(kind, exponents, times, rates, asked);
+    } else {
+        answer_in_eights(kind, exponents, times, rates, asked);
+    }
 }
 
 // The rate at each time, on a curve whose times rise.

@@ -1,7 +1,8 @@
 // The three kinds of curve, and the segment that serves a time on each.
 ghost use mathlib.Core.Path.{_≡_};
 ghost use mathlib.Core.List.{map};
-ghost use lib.ListN.{length};
+ghost use Prim.Native.Nat.{ℕ, _<_};
+ghost use lib.ListN.{length, getD};
 ghost use Rattle.curves.specs.Segments.{Rising};
 ghost use Rattle.curves.specs.Kinds.{servedBy};
 
@@ -23,6 +24,7 @@ pub(crate) fn segment_on(kind: Kind, times: &[f64], t: f64) -> usize
 
 pub(crate) fn eight_on(kind: Kind, times: &[f64], asked: &[f64]) -> [usize; 8]
     requires { ⌜ length (now asked) ≡ 8 ⌝ }
+    ensures { λ r. ⌜ ((k : ℕ) → k < 8 → 0 < length (now (times .entry)) → getD r k 0 < length (now (times .entry))) ⌝ }
     ensures { λ r. ⌜ (Rising (now (times .entry)) → r ≡ map (servedBy kind (now (times .entry))) (now (asked .entry))) ⌝ }
 {
     match kind {

@@ -1,8 +1,9 @@
 // The knots of a curve, the ends of a segment, and what is flat outside.
 ghost use mathlib.Core.Path.{_≡_};
 ghost use Prim.Native.Nat.{suc};
-ghost use lib.Ieee.{nan};
-ghost use Rattle.curves.specs.Segments.{knot, lastOf, flatOutside};
+ghost use mathlib.Core.Bool.{cond};
+ghost use lib.Ieee.{nan, le};
+ghost use Rattle.curves.specs.Segments.{knot, lastOf};
 
 // The two times of a segment, and the two rates.
 pub struct Ends {
@@ -71,12 +72,29 @@ pub fn ends_of(times: &[f64], rates: &[f64], i: usize) -> Ends
     }
 }
 
-// Flat before the first knot and past the last, and between them what is said; chosen last of all, so that many can be worked out at once.
-pub fn flat_outside(times: &[f64], rates: &[f64], t: f64, between: f64) -> f64
-    ensures { λ r. ⌜ r ≡ flatOutside (now (times .entry)) (now (rates .entry)) t between ⌝ }
+// The first and the last knot: their times, and the rates before and after them.
+pub(crate) struct Outside {
+    pub first: f64,
+    pub before: f64,
+    pub last: f64,
+    pub after: f64,
+}
+
+pub(crate) fn outside_of(times: &[f64], rates: &[f64]) -> Outside
+    ensures { λ o. ⌜ (o .first ≡ knot (now (times .entry)) 0) × (o .before ≡ knot (now (rates .entry)) 0) × (o .last ≡ lastOf (now (times .entry))) × (o .after ≡ lastOf (now (rates .entry))) ⌝ }
 {
-    let first = knot_at(rates, 0);
-    let last = last_knot(rates);
-    let after = if last_knot(times) <= t { last } else { between };
-    if t <= knot_at(times, 0) { first } else { after }
+    Outside {
+        first: knot_at(times, 0),
+        before: knot_at(rates, 0),
+        last: last_knot(times),
+        after: last_knot(rates),
+    }
+}
+
+// Flat before the first knot and past the last, and between them what is said; chosen last of all, so that many can be worked out at once.
+pub(crate) fn flat(o: Outside, t: f64, between: f64) -> f64
+    ensures { λ r. ⌜ r ≡ cond (le t (o .first)) (o .before) (cond (le (o .last) t) (o .after) between) ⌝ }
+{
+    let inner = if o.last <= t { o.after } else { between };
+    if t <= o.first { o.before } else { inner }
 }

@@ -1,8 +1,8 @@
 // The first segment that a time is before the end of: at an inner knot, the one that starts there. Found by halving, on times that rise; nothing but the end of it is decided by a jump.
 ghost use mathlib.Core.Path.{_≡_};
 ghost use mathlib.Core.List.{map};
-ghost use Prim.Native.Nat.{_+_, _<_};
-ghost use lib.ListN.{length};
+ghost use Prim.Native.Nat.{ℕ, _+_, _<_};
+ghost use lib.ListN.{length, getD};
 ghost use Rattle.curves.specs.Segments.{segmentStarting, Rising};
 ghost use Rattle.curves.specs.inner.Halving.{starting, passes, steppedOver};
 
@@ -29,9 +29,10 @@ pub fn segment(times: &[f64], t: f64) -> usize
     base
 }
 
-// The segments of eight times, each turn taken by all of them.
+// The segments of eight times, each turn taken by all of them; whatever the times are, each is that of a knot.
 pub(crate) fn eight_segments(times: &[f64], asked: &[f64]) -> [usize; 8]
     requires { ⌜ length (now asked) ≡ 8 ⌝ }
+    ensures { λ r. ⌜ ((k : ℕ) → k < 8 → 0 < length (now (times .entry)) → getD r k 0 < length (now (times .entry))) ⌝ }
     ensures { λ r. ⌜ (Rising (now (times .entry)) → r ≡ map (segmentStarting (now (times .entry))) (now (asked .entry))) ⌝ }
 {
     let mut bases: [usize; 8] = [0; 8];

@@ -9,6 +9,7 @@ use lib.Seq.{length-take-le, take-suc-set, take-length, getD-take}
 use lib.Ieee.{Float, binary64, nan, add}
 use Rattle.numbers.specs.Literals.{one}
 use Rattle.elementary.specs.Ln.{ln}
+use Rattle.curves.proofs.InnerKnots.{front-rises}
 use Rattle.curves.specs.Segments.{knot, lastOf, Rising}
 use Rattle.swaps.specs.Bootstrap.{parError, solvedOr, nextZero, zerosUpTo}
 
@@ -18,14 +19,9 @@ last-taken tenors i h =
     let at : length (take (suc i) tenors) - 1 ≡ i = omega arith in
     ap (knot (take (suc i) tenors)) at ∙ getD-take (suc i) tenors i nan (omega arith)
 
--- a front of tenors that rise rises, and so does a room with that front
-pub front-rises : (tenors room : List Float) (i : ℕ) → i < length tenors → take (i + 1) room ≡ take (i + 1) tenors → Rising tenors → Rising (take (i + 1) room)
-front-rises tenors room i h put rises = subst Rising (sym put) (in-front (i + 1) (omega arith))
-  where
-    in-front : (n : ℕ) → n ≤ length tenors → Rising (take n tenors)
-    in-front n few k less =
-        let counted : length (take n tenors) ≡ n = length-take-le n tenors few in
-        rw (getD-take n tenors k nan (omega arith), getD-take n tenors (suc k) nan (omega arith)) (rises k (omega arith))
+-- a room whose front is that of tenors that rise rises there
+pub room-rises : (tenors room : List Float) (i : ℕ) → i < length tenors → take (i + 1) room ≡ take (i + 1) tenors → Rising tenors → Rising (take (i + 1) room)
+room-rises tenors room i h put rises = subst Rising (sym put) (front-rises tenors (i + 1) (omega arith) rises)
 
 module _ (tenors pars room zeros : List Float) (i : ℕ) (h : i < length tenors) (g : i < length zeros) (put : take (i + 1) room ≡ take (i + 1) tenors) where
   pub one-knot-more : length (take (i + 1) room) ≡ length (take i zeros) + 1

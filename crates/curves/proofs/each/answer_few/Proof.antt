@@ -23,13 +23,16 @@ slice-aggregate-answer-eight : tie.Need-slice-aggregate-answer-eight Inv-loop μ
 slice-aggregate-answer-eight c = sym (c .before .filled-up .ensures .0)
 
 answer-eight-requires : tie.Need-answer-eight-requires Inv-loop μ-loop
-answer-eight-requires c κs = c .before .filled-up .ensures .0
+answer-eight-requires c κs =
+    let made = c .before in
+    let start = made .before .before .before .before .before in
+    (made .filled-up .ensures .0, start .pre .1, start .pre .2)
 
 loop-holds : tie.Need-loop-holds Inv-loop μ-loop
 loop-holds c = (omega arith, refl, λ k h. absurd (omega arith))
 
 array-read-asked : tie.Need-array-read-asked Inv-loop μ-loop
-array-read-asked c = omega (arith, c .before .before .before .before .before .before .before .before .before .before .pre)
+array-read-asked c = omega (arith, c .before .before .before .before .before .before .before .before .before .before .pre .0)
 
 loop-again : tie.Need-loop-again Inv-loop μ-loop
 loop-again c =
@@ -50,7 +53,7 @@ returns c rises =
     let xs = a .asked .now in
     let filled = made .filled-up .result in
     let answer = answerOn (a .kind) (a .exponents) (a .times .now) (a .rates .now) in
-    let few : length xs ≤ length filled = omega (arith, start .pre, made .filled-up .ensures .0) in
+    let few : length xs ≤ length filled = omega (arith, start .pre .0, made .filled-up .ensures .0) in
     ext-getD nan (at .loop .asked) (map answer xs) (at .loop .inv .1 ∙ sym (length-map xs answer))
     (λ k l.
     let h : k < length xs = omega (arith, at .loop .inv .1) in

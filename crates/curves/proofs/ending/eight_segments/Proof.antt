@@ -4,7 +4,7 @@ use Prim.Native.Nat.{_-_, _≤_}
 use native.Mathlib.Omega.{arith}
 use lib.ListN.{length, length-set}
 use Rattle.curves.specs.inner.Halving.{ending, segmentBy}
-use Rattle.curves.proofs.Halvings.{Lanes, Partly, lane-inside, all-start, all-end, partly-start, partly-next, partly-end}
+use Rattle.curves.proofs.Halvings.{Lanes, Partly, lane-inside, lane-bound, all-start, all-end, partly-start, partly-next, partly-end}
 use Rattle.curves.proofs.ending.eight_segments.Statement.{statement}
 use Rattle.curves.proofs.ending.eight_segments.Tie as tie
 
@@ -43,10 +43,12 @@ loop-again c =
 
 returns : tie.Need-returns Inv-loop2 μ-loop2 Inv-loop μ-loop
 unfolding segmentBy
-returns c rises =
+returns c =
     let at = c .before in
-    let start = at .before .before .before in
-    all-end ending _ (at .loop .left) (start .args .asked .now) _ (omega arith) (start .pre) (at .loop .inv .0) (at .loop .inv .1) rises
+    let start = at .before .before .before in (
+      λ k h some. lane-bound ending _ _ (at .loop .left) _ (omega arith) (at .loop .inv .1 k h) some,
+      λ rises. all-end ending _ (at .loop .left) (start .args .asked .now) _ (omega arith) (start .pre) (at .loop .inv .0) (at .loop .inv .1) rises,
+    )
 
 pub eight-segments-spec : {M : Type 1} → statement M
 eight-segments-spec =

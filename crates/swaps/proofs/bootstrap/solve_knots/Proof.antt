@@ -8,7 +8,7 @@ use lib.Ieee.{Float, nan}
 use Rattle.swaps.specs.Bootstrap.{zerosUpTo}
 use Rattle.swaps.proofs.Fronts.{counted}
 use Rattle.swaps.proofs.Writing.{one-more-written, all-written}
-use Rattle.swaps.proofs.SolvedKnots.{front-rises, one-knot-more, knot-solved, all-solved}
+use Rattle.swaps.proofs.SolvedKnots.{room-rises, one-knot-more, knot-solved, all-solved}
 use Rattle.swaps.proofs.bootstrap.solve_knots.Statement.{statement}
 use Rattle.swaps.proofs.bootstrap.solve_knots.Tie as tie
 
@@ -84,7 +84,7 @@ next-zero-requires c κs =
     let s = turn .before .before .before .before .before .before in
     let tenors = s .args .tenors .now in
     let h = turn .loop-test .taken in
-    (one-knot-more tenors (s .args .pars .now) _ (l .zeros) (l .i) h (omega arith) (put known), front-rises tenors _ (l .i) h (put known) (s .pre .3))
+    (one-knot-more tenors (s .args .pars .now) _ (l .zeros) (l .i) h (omega arith) (put known), room-rises tenors _ (l .i) h (put known) (s .pre .3))
 
 mul-zeros : tie.Need-mul-zeros Inv-loop μ-loop
 mul-zeros c = omega arith
