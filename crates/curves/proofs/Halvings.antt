@@ -1,6 +1,6 @@
--- Halving, turn by turn, for one time and for eight; and what it finds on times that rise: by either rule the segment that serves. Every search for a segment cites this. Assumes nothing.
+-- Halving, turn by turn, for one time and for eight: each turn keeps the segment that serves between the knot come to and the knots left, by either rule, on times that rise. So halving finds it,
+-- and so does counting the knots that fail once few are left. Every search for a segment cites this. Assumes nothing.
 use mathlib.Core.Path.{_≡_, refl, sym, ap, _∙_}
-use mathlib.Core.Logic.{_⊎_, inl, inr, ⊎-elim}
 use mathlib.Core.Bool.{Bool, true, false, cond}
 use mathlib.Core.List.{List, [], _∷_, map}
 use Prim.Native.Nat.{ℕ, zero, suc, _+_, _-_, _/_, _<_, _≤_}
@@ -9,77 +9,11 @@ use lib.Dec.{ltb, eqb}
 use lib.ListN.{length, getD, set, replicate, length-map}
 use lib.Seq.{ext-getD, getD-set-same, getD-set-other}
 use lib.Ieee.{Float, nan}
-use borrow.Author.Tests.{lt-ltb, le-ltb, ltb-true, ltb-false, eqb-true, eqb-false}
+use borrow.Author.Tests.{ltb-true, ltb-false, eqb-true, eqb-false}
+use Rattle.numbers.proofs.Comparing.{clash}
 use Rattle.curves.specs.Segments.{knot, Rising}
-use Rattle.curves.specs.inner.Halving.{Rule, segmentBy, passes, steppedOver, halvedFrom, halved}
-use Rattle.curves.proofs.Serving.{FirstPassing, by-rule, serves-before, serves-inside, serves-after}
-
--- ---- what halving finds
-module _ {test : Float → Bool} {serving : List Float → ℕ} (rule : FirstPassing test serving) (times : List Float) (rises : Rising times) where
-  comes-to : (turns base count : ℕ) → count ≤ turns → base ≤ serving times → serving times < base + count → base + count ≤ length times
-      → halvedFrom test times turns base count ≡ serving times
-  unfolding halvedFrom
-  comes-to zero base count h low high room = absurd (omega arith)
-  comes-to (suc n) base count h low high room =
-      go (ltb 1 count) (ltb-true 1 count) (ltb-false 1 count) (test (knot times (base + count / 2))) refl
-      (comes-to n base (count - count / 2)) (comes-to n (base + count / 2) (count - count / 2))
-    where
-      go : (s : Bool) → (s ≡ true → 1 < count) → (s ≡ false → count ≤ 1) → (t : Bool) → test (knot times (base + count / 2)) ≡ t
-          → (count - count / 2 ≤ n → base ≤ serving times → serving times < base + (count - count / 2) → base + (count - count / 2) ≤ length times
-          → halvedFrom test times n base (count - count / 2) ≡ serving times)
-          → (count - count / 2 ≤ n → base + count / 2 ≤ serving times → serving times < base + count / 2 + (count - count / 2) → base + count / 2 + (count - count / 2) ≤ length times
-          → halvedFrom test times n (base + count / 2) (count - count / 2) ≡ serving times)
-          → cond s (halvedFrom test times n (cond t base (base + count / 2)) (count - count / 2)) base ≡ serving times
-      go false more few t e near far = let f : count ≤ 1 = few refl in omega arith
-      go true more few true e near far =
-          let m : 1 < count = more refl in
-          let i : suc (base + count / 2 - 1) ≡ base + count / 2 = omega arith in
-          let s : serving times ≤ base + count / 2 - 1 = serves-before rule times (base + count / 2 - 1) (omega arith) (ap (λ (k : ℕ). test (knot times k)) i ∙ e) in
-          near (omega arith) low (omega arith) (omega arith)
-      go true more few false e near far =
-          let m : 1 < count = more refl in
-          let s : base + count / 2 ≤ serving times = serves-after rule times rises (base + count / 2) (omega arith) e in
-          far (omega arith) s (omega arith) (omega arith)
-
-  pub halving-finds : halved test times ≡ serving times
-  unfolding halved halvedFrom
-  halving-finds = go times refl
-    where
-      go : (ts : List Float) → ts ≡ times → halved test times ≡ serving times
-      go [] e = rw (sym e) (sym (rule .none))
-      go (a ∷ ts) e =
-          let some : 0 < length times = rw (sym e) (omega arith) in
-          let s = serves-inside rule times some in
-          comes-to (length times) 0 (length times) (omega arith) (omega arith) (omega arith) (omega arith)
-
--- ---- one turn
-module _ (test : Float → Bool) (times : List Float) where
-  -- turns enough for the knots are enough
-  enough : (k j base count : ℕ) → count ≤ k → count ≤ j → halvedFrom test times k base count ≡ halvedFrom test times j base count
-  unfolding halvedFrom
-  enough zero zero base count h g = refl
-  enough zero (suc j) base count h g = rw (le-ltb 1 count (omega arith))
-  enough (suc k) zero base count h g = rw (le-ltb 1 count (omega arith))
-  enough (suc k) (suc j) base count h g = go (ltb 1 count) (ltb-true 1 count) (λ a b. enough k j _ (count - count / 2) a b)
-    where
-      go : (b : Bool) → (b ≡ true → 1 < count)
-          → (count - count / 2 ≤ k → count - count / 2 ≤ j
-          → halvedFrom test times k (steppedOver test times (count / 2) base) (count - count / 2) ≡ halvedFrom test times j (steppedOver test times (count / 2) base) (count - count / 2))
-          → cond b (halvedFrom test times k (steppedOver test times (count / 2) base) (count - count / 2)) base
-          ≡ cond b (halvedFrom test times j (steppedOver test times (count / 2) base) (count - count / 2)) base
-      go false more onward = refl
-      go true more onward = let m : 1 < count = more refl in onward (omega arith) (omega arith)
-
-  turn : (base count : ℕ) → 1 < count
-      → halvedFrom test times count base count ≡ halvedFrom test times (count - count / 2) (steppedOver test times (count / 2) base) (count - count / 2)
-  unfolding halvedFrom
-  turn base zero h = absurd (omega arith)
-  turn base (suc m) h = rw (lt-ltb 1 (suc m) h) (enough m (suc m - suc m / 2) _ _ (omega arith) (omega arith))
-
-  last-turn : (base count : ℕ) → count ≤ 1 → halvedFrom test times count base count ≡ base
-  unfolding halvedFrom
-  last-turn base zero h = refl
-  last-turn base (suc m) h = rw (le-ltb 1 (suc m) h)
+use Rattle.curves.specs.inner.Halving.{Rule, segmentBy, passes, steppedOver, failing}
+use Rattle.curves.proofs.Serving.{by-rule, serves-before, serves-inside, serves-after}
 
 -- the segment of one of many times
 pub served-at : (serving : Float → ℕ) (k : ℕ) (asked : List Float) → k < length asked → getD (map serving asked) k 0 ≡ serving (getD asked k nan)
@@ -87,36 +21,62 @@ served-at serving k [] h = absurd (omega arith)
 served-at serving zero (t ∷ asked) h = refl
 served-at serving (suc k) (t ∷ asked) h = served-at serving k asked (omega arith)
 
--- ---- a lane: one time, and the knot that it has come to with so many knots left
+-- one knot more, at the place k
+pub one-more-fails : (test : Float → Bool) (times : List Float) (base k found more : ℕ) → 1 ≤ k → found ≡ failing test times base (k - 1) → more ≡ cond (test (knot times (base + k))) 0 1
+    → found + more ≡ failing test times base k
+unfolding failing
+one-more-fails test times base zero found more h f m = absurd (omega arith)
+one-more-fails test times base (suc k) found more h f m =
+    let e : suc k - 1 ≡ k = omega arith in
+    rw (f, m, e)
+
+pub few-fail : (test : Float → Bool) (times : List Float) (base m : ℕ) → failing test times base m ≤ m
+unfolding failing
+few-fail test times base zero = omega arith
+few-fail test times base (suc m) = go (test (knot times (base + suc m))) (few-fail test times base m)
+  where
+    go : (b : Bool) → failing test times base m ≤ m → failing test times base m + cond b 0 1 ≤ suc m
+    go true ih = omega arith
+    go false ih = omega arith
+
+no-knot-serves : (rule : Rule) (ts : List Float) (t : Float) → length ts ≡ 0 → segmentBy rule ts t ≡ 0
+no-knot-serves rule [] t e = by-rule rule t .none
+no-knot-serves rule (a ∷ ts) t e = absurd (omega arith)
+
+-- ---- a lane: one time, and the knot that it has come to with so many knots left, among which is the one that the segment that serves starts at
 module _ (rule : Rule) (times : List Float) where
   pub record Lane (count : ℕ) (t : Float) (base : ℕ) : Type 0 where
-    pub leads : halvedFrom (passes rule t) times count base count ≡ halved (passes rule t) times
     pub room : base + count ≤ length times
     pub some : 0 < length times → 0 < count
+    pub around : Rising times → 0 < length times → (base ≤ segmentBy rule times t) × (segmentBy rule times t < base + count)
 
   pub lane-start : (t : Float) → Lane (length times) t 0
-  unfolding halved
-  lane-start t = record { leads = refl; room = omega arith; some = λ h. h }
+  lane-start t = record { room = omega arith; some = λ h. h; around = λ rises h. (omega arith, let s = serves-inside (by-rule rule t) times h in omega arith) }
 
-  step-room : (t : Float) (half base : ℕ) → (steppedOver (passes rule t) times half base ≡ base) ⊎ (steppedOver (passes rule t) times half base ≡ base + half)
-  step-room t half base = go (passes rule t (knot times (base + half)))
-    where
-      go : (b : Bool) → (cond b base (base + half) ≡ base) ⊎ (cond b base (base + half) ≡ base + half)
-      go true = inl refl
-      go false = inr refl
-
+  -- one turn
   pub lane-next : (t : Float) (count half base b : ℕ) → 1 < count → half ≡ count / 2 → Lane count t base → b ≡ steppedOver (passes rule t) times half base → Lane (count - half) t b
-  lane-next t count half base b h e l is = rw (is, e) (record {
-    leads = sym (turn (passes rule t) times base count h) ∙ l .leads;
-    room = ⊎-elim (λ s. within s) (λ s. further s) (step-room t (count / 2) base);
-    some = λ g. omega arith;
-  })
+  lane-next t count half base b h e l is = rw is (go (passes rule t (knot times (base + half))) refl)
     where
-      within : steppedOver (passes rule t) times (count / 2) base ≡ base → steppedOver (passes rule t) times (count / 2) base + (count - count / 2) ≤ length times
-      within s = let r = l .room in rw s (omega arith)
-
-      further : steppedOver (passes rule t) times (count / 2) base ≡ base + count / 2 → steppedOver (passes rule t) times (count / 2) base + (count - count / 2) ≤ length times
-      further s = let r = l .room in rw s (omega arith)
+      go : (p : Bool) → passes rule t (knot times (base + half)) ≡ p → Lane (count - half) t (cond p base (base + half))
+      go true p = record {
+        room = let r = l .room in omega arith;
+        some = λ g. omega arith;
+        around = λ rises g.
+            let a = l .around rises g in
+            let r = l .room in
+            let i : suc (base + half - 1) ≡ base + half = omega arith in
+            let s = serves-before (by-rule rule t) times (base + half - 1) (omega arith) (ap (λ (k : ℕ). passes rule t (knot times k)) i ∙ p) in
+            (a .0, omega arith);
+      }
+      go false p = record {
+        room = let r = l .room in omega arith;
+        some = λ g. omega arith;
+        around = λ rises g.
+            let a = l .around rises g in
+            let r = l .room in
+            let s = serves-after (by-rule rule t) times rises (base + half) (omega arith) p in
+            (s, omega (arith, a .1));
+      }
 
   pub lane-inside : (t : Float) (count half base : ℕ) → 1 < count → half ≡ count / 2 → Lane count t base → base + half < length times
   lane-inside t count half base h e l = let r = l .room in omega arith
@@ -125,8 +85,88 @@ module _ (rule : Rule) (times : List Float) where
   pub lane-bound : (t : Float) (count base : ℕ) → count ≤ 1 → Lane count t base → 0 < length times → base < length times
   lane-bound t count base h l g = let r = l .room in let s = l .some g in omega arith
 
+  -- with one knot left it is found
   pub lane-end : (t : Float) (count base : ℕ) → count ≤ 1 → Lane count t base → Rising times → base ≡ segmentBy rule times t
-  lane-end t count base h l rises = sym (last-turn (passes rule t) times base count h) ∙ l .leads ∙ halving-finds (by-rule rule t) times rises
+  lane-end t count base h l rises = go (ltb 0 (length times)) (ltb-true 0 (length times)) (ltb-false 0 (length times))
+    where
+      go : (b : Bool) → (b ≡ true → 0 < length times) → (b ≡ false → length times ≤ 0) → base ≡ segmentBy rule times t
+      go true more none = let a = l .around rises (more refl) in omega (arith, a .0, a .1)
+      go false more none =
+          let n : length times ≤ 0 = none refl in
+          let r = l .room in
+          let z = no-knot-serves rule times t (omega arith) in
+          omega arith
+
+  -- and with more left it is as many knots on as fail
+  module _ (t : Float) (base count : ℕ) (l : Lane count t base) (rises : Rising times) (g : 0 < length times) where
+    abbrev on : ℕ
+    on = segmentBy rule times t - base
+
+    fail-here : (m : ℕ) → suc m < count → suc m ≤ on → passes rule t (knot times (base + suc m)) ≡ false
+    fail-here m h a = go (passes rule t (knot times (base + suc m))) refl
+      where
+        go : (b : Bool) → passes rule t (knot times (base + suc m)) ≡ b → b ≡ false
+        go false p = refl
+        go true p =
+            let r = l .room in
+            let i : suc (base + m) ≡ base + suc m = omega arith in
+            let s = serves-before (by-rule rule t) times (base + m) (omega arith) (ap (λ (k : ℕ). passes rule t (knot times k)) i ∙ p) in
+            absurd (omega arith)
+
+    pass-here : (m : ℕ) → suc m < count → on ≤ m → passes rule t (knot times (base + suc m)) ≡ true
+    pass-here m h a = go (passes rule t (knot times (base + suc m))) refl
+      where
+        go : (b : Bool) → passes rule t (knot times (base + suc m)) ≡ b → b ≡ true
+        go true p = refl
+        go false p =
+            let r = l .room in
+            let s = serves-after (by-rule rule t) times rises (base + suc m) (omega arith) p in
+            absurd (omega arith)
+
+    fail-first : (m : ℕ) → m < count → m ≤ on → failing (passes rule t) times base m ≡ m
+    unfolding failing
+    fail-first zero h a = refl
+    fail-first (suc m) h a =
+        let ih = fail-first m (omega arith) (omega arith) in
+        let f = fail-here m h a in
+        rw f (omega arith)
+
+    no-more : (m : ℕ) → m < count → on ≤ m → failing (passes rule t) times base m ≡ on
+    unfolding failing
+    no-more zero h a = omega arith
+    no-more (suc m) h a = go (ltb m on) (ltb-true m on) (ltb-false m on) (λ past. no-more m (omega arith) past)
+      where
+        go : (b : Bool) → (b ≡ true → m < on) → (b ≡ false → on ≤ m) → (on ≤ m → failing (passes rule t) times base m ≡ on)
+            → failing (passes rule t) times base m + cond (passes rule t (knot times (base + suc m))) 0 1 ≡ on
+        go true under past before =
+            let u : m < on = under refl in
+            let f = fail-here m h (omega arith) in
+            let ih = fail-first m (omega arith) (omega arith) in
+            rw f (omega arith)
+        go false under past before =
+            let p = pass-here m h (past refl) in
+            let ih = before (past refl) in
+            rw p (omega arith)
+
+    counted-on : base + failing (passes rule t) times base (count - 1) ≡ segmentBy rule times t
+    counted-on =
+        let a = l .around rises g in
+        let c = l .some g in
+        let e = no-more (count - 1) (omega arith) (omega (arith, a .1)) in
+        omega (arith, a .0, e)
+
+  pub lane-counted : (t : Float) (base count : ℕ) → Lane count t base → Rising times → base + failing (passes rule t) times base (count - 1) ≡ segmentBy rule times t
+  unfolding failing
+  lane-counted t base count l rises = go (ltb 0 (length times)) (ltb-true 0 (length times)) (ltb-false 0 (length times))
+    where
+      go : (b : Bool) → (b ≡ true → 0 < length times) → (b ≡ false → length times ≤ 0) → base + failing (passes rule t) times base (count - 1) ≡ segmentBy rule times t
+      go true more none = counted-on t base count l rises (more refl)
+      go false more none =
+          let n : length times ≤ 0 = none refl in
+          let r = l .room in
+          let f = few-fail (passes rule t) times base (count - 1) in
+          let z = no-knot-serves rule times t (omega arith) in
+          omega arith
 
   -- ---- eight lanes
   abbrev pub Lanes : ℕ → List Float → List ℕ → Type 0

@@ -1,4 +1,4 @@
--- Five knots at 1, 2, 4, 8 and 16 years, asked before the first, at each, between and after the last: which segment serves by either rule, worked out from the definitions, and that halving comes to it;
+-- Five knots at 1, 2, 4, 8 and 16 years, asked before the first, at each, between and after the last: which segment serves by either rule, worked out from the definitions;
 -- and the rates of the three kinds of curve at an inner knot and on the way to it. Assumes nothing.
 use mathlib.Core.Path.{_≡_, refl}
 use mathlib.Core.List.{List, [], _∷_, map}
@@ -8,7 +8,6 @@ use Rattle.curves.specs.declared.kinds.Kind.the-variants as kind-is
 use Rattle.curves.specs.Segments.{segmentEnding, segmentStarting, flatOutside}
 use Rattle.curves.specs.Formulas.{alongYields, share, alongZeros, alongRates}
 use Rattle.curves.specs.Kinds.{servedBy, along, rateOn}
-use Rattle.curves.specs.inner.Halving.{halvedFrom, halved}
 
 -- whole numbers of years, each by its bits
 abbrev y0 : Float
@@ -48,17 +47,17 @@ asked = y0 ∷ y1 ∷ y2 ∷ y3 ∷ y4 ∷ y8 ∷ y9 ∷ y16 ∷ y17 ∷ []
 abbrev ended : List ℕ
 ended = 0 ∷ 0 ∷ 0 ∷ 1 ∷ 1 ∷ 2 ∷ 3 ∷ 3 ∷ 4 ∷ []
 
-pub served-ending : (map (segmentEnding times) asked ≡ ended) × (map (λ (t : Float). halved (le t) times) asked ≡ ended)
-unfolding segmentEnding halved halvedFrom le lt eq ofBits
-served-ending = (refl, refl)
+pub served-ending : map (segmentEnding times) asked ≡ ended
+unfolding segmentEnding le lt eq ofBits
+served-ending = refl
 
 -- the segment that starts there
 abbrev started : List ℕ
 started = 0 ∷ 0 ∷ 1 ∷ 1 ∷ 2 ∷ 3 ∷ 3 ∷ 4 ∷ 4 ∷ []
 
-pub served-starting : (map (segmentStarting times) asked ≡ started) × (map (λ (t : Float). halved (lt t) times) asked ≡ started)
-unfolding segmentStarting halved halvedFrom le lt eq ofBits
-served-starting = (refl, refl)
+pub served-starting : map (segmentStarting times) asked ≡ started
+unfolding segmentStarting lt eq ofBits
+served-starting = refl
 
 -- rates of 3 %, 1 % and 1 % at 1, 2 and 4 years: at the knot of 1 % the yield curve's formula gives the float after it, the other two the knot's own rate
 abbrev onePercent : Float

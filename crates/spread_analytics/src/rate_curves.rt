@@ -65,11 +65,14 @@ pub fn rate_at(tenors: &[f64], rates: &[f64], t: f64) -> Number
     }
 }
 
-// The swap rate at a tenor.
+// The swap rate at a tenor, read alike; a body of its own, so that each of the two is compiled whole into the one that calls it.
 pub fn swap_rate_at(tenors: &[f64], rates: &[f64], tenor: f64) -> Number
     ensures { λ r. ⌜ numberOutcome r ≡ rateAt (now (tenors .entry)) (now (rates .entry)) tenor ⌝ }
 {
-    rate_at(tenors, rates, tenor)
+    match judge_asked(tenors, rates, bad_time(tenor)) {
+        Verdict::Refused(refusal) => Number::Refused(refusal),
+        Verdict::Accepted => Number::Given(rate_of(tenors, rates, tenor)),
+    }
 }
 
 pub fn discount_factor(tenors: &[f64], rates: &[f64], t: f64) -> Number

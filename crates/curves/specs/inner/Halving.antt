@@ -1,9 +1,7 @@
--- The two rules by which a segment serves; and half the knots of a list stepped over again and again, for any test of a knot. Definitions only. Assumes nothing.
-use Prim.Native.Nat.{ℕ, zero, suc, _+_, _-_, _/_}
+-- The two rules by which a segment serves; and for any test of a knot what a turn of halving steps to, and how many knots fail it. Definitions only. Assumes nothing.
+use Prim.Native.Nat.{ℕ, zero, suc, _+_}
 use mathlib.Core.Bool.{Bool, cond}
 use mathlib.Core.List.{List}
-use lib.Dec.{ltb}
-use lib.ListN.{length}
 use lib.Ieee.{Float, le, lt}
 use Rattle.curves.specs.Segments.{knot, segmentEnding, segmentStarting}
 
@@ -25,11 +23,7 @@ passes starting = lt
 abbrev pub steppedOver : (Float → Bool) → List Float → ℕ → ℕ → ℕ
 steppedOver test times half base = cond (test (knot times (base + half))) base (base + half)
 
--- of so many knots from one on, half after half, in so many turns at most
-unfoldable pub halvedFrom : (Float → Bool) → List Float → ℕ → ℕ → ℕ → ℕ
-halvedFrom test times zero base count = base
-halvedFrom test times (suc turns) base count =
-    cond (ltb 1 count) (halvedFrom test times turns (steppedOver test times (count / 2) base) (count - count / 2)) base
-
-unfoldable pub halved : (Float → Bool) → List Float → ℕ
-halved test times = halvedFrom test times (length times) 0 (length times)
+-- how many of the m knots after one do not pass
+unfoldable pub failing : (Float → Bool) → List Float → ℕ → ℕ → ℕ
+failing test times base zero = 0
+failing test times base (suc m) = failing test times base m + cond (test (knot times (base + suc m))) 0 1

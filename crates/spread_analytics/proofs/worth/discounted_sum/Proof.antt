@@ -1,5 +1,5 @@
 -- `spread_analytics::worth::discounted_sum` meets its contract: there are no terms before. Assumes nothing.
-use Rattle.spread_analytics.proofs.CarriedOn.{from-nothing}
+use Rattle.curves.proofs.Adding.{from-nothing}
 use borrow.Author.Needs.{needs}
 use Rattle.spread_analytics.proofs.worth.discounted_sum.Statement.{statement}
 use Rattle.spread_analytics.proofs.worth.discounted_sum.Tie as tie

@@ -4,7 +4,7 @@ use Prim.Native.Nat.{ℕ, _-_, _≤_}
 use lib.ListN.{length}
 use lib.Ieee.{binary64, mul}
 use Rattle.curves.specs.Segments.{knot}
-use Rattle.spread_analytics.proofs.CarriedOn.{Carried, nothing-yet, further, all-of}
+use Rattle.curves.proofs.Adding.{Carried, nothing-yet, further, all-of}
 use native.Mathlib.Omega.{arith}
 use Rattle.spread_analytics.proofs.worth.sums_on.Statement.{statement}
 use Rattle.spread_analytics.proofs.worth.sums_on.Tie as tie
