@@ -1,6 +1,7 @@
 #!/usr/bin/env python3
 """from_python.py LIBRARY: the shared library as a Python program calls it, by ctypes. Loans are opened, drawn in portions, with year-end
-totals too, listed and held to document 01's figures; refusals give number and place and leave lent memory alone."""
+totals too, listed and held to document 01's figures; curves are looked up one time by one and as a list, and held to a walk from knot to
+knot; refusals give number and place and leave lent memory alone."""
 import ctypes
 import struct
 import sys
@@ -42,6 +43,13 @@ open_with_payment = function("senyolanda_open_with_payment", *BYTES, c_double, C
 draw = function("senyolanda_draw", COUNT, NUMBER, *NUMBERS, COUNT, COUNT)
 draw_with_years = function("senyolanda_draw_with_years", COUNT, NUMBER, *NUMBERS, *NUMBERS, COUNT, COUNT)
 look_up_year = function("senyolanda_look_up_year", COUNT, NUMBER, *NUMBERS, c_uint32, NUMBER)
+CURVE = *NUMBERS, *NUMBERS
+yield_at = function("senyolanda_linear_interpolate", *CURVE, c_double, NUMBER)
+yield_at_each = function("senyolanda_linear_interpolate_each", *CURVE, *NUMBERS)
+zero_rate_at = function("senyolanda_discount_curve_rate", *CURVE, c_double, NUMBER)
+zero_rate_at_each = function("senyolanda_discount_curve_rate_each", *CURVE, *NUMBERS)
+spread_rate_at = function("senyolanda_zero_curve_rate", *CURVE, c_double, NUMBER)
+spread_rate_at_each = function("senyolanda_zero_curve_rate_each", *CURVE, *NUMBERS)
 pool_totals = function("senyolanda_pool_totals", *BYTES, NUMBER)
 listing = function("senyolanda_listing", *BYTES, POINTER(c_uint8), COUNT)
 
@@ -174,4 +182,45 @@ totals = (c_double * 3)(1.5, 1.5, 1.5)
 same(refusal(pool_totals, (c_uint8 * len(pool))(*pool), len(pool), totals), (1, 2))
 same(totals[:], [1.5] * 3)
 
-print("from Python: loans drawn in portions, with their years' lines, and listed, and refusals that touch nothing")
+# Curves of 1 to 120 knots, asked at each knot, between it and the next, and outside, by a walk from knot to knot and by the library.
+def along_yields(t0, t1, r0, r1, t):
+    return r0 + (t - t0) / (t1 - t0) * (r1 - r0)
+
+
+def along_zeros(t0, t1, r0, r1, t):
+    w = (t - t0) / (t1 - t0)
+    return r0 * (1 - w) + r1 * w
+
+
+def along_rates(t0, t1, r0, r1, t):
+    return r0 + (r1 - r0) * (t - t0) / (t1 - t0)
+
+
+def walked(times, rates, starts, along, t):
+    """Flat outside; the segment that ends at an inner knot serves it, or the one that starts there."""
+    if t <= times[0]:
+        return rates[0]
+    if times[-1] <= t:
+        return rates[-1]
+    i = next(i for i in range(len(times) - 1) if (t < times[i + 1] if starts else t <= times[i + 1]))
+    return along(times[i], times[i + 1], rates[i], rates[i + 1], t)
+
+
+for knots in (1, 2, 3, 7, 8, 9, 10, 16, 17, 30, 64, 120):
+    times, rates = [k * k / 7 for k in range(knots)], [0.01 * (k * 5 % 11) for k in range(knots)]
+    curve = (c_double * knots)(*times), knots, (c_double * knots)(*rates), knots
+    asked = [-1.0, times[-1] + 1, *times, *(t + 0.3 * (k + 1) / 7 for k, t in enumerate(times))]
+    for at, at_each, starts, along in (
+            (yield_at, yield_at_each, False, along_yields),
+            (zero_rate_at, zero_rate_at_each, False, along_zeros),
+            (spread_rate_at, spread_rate_at_each, True, along_rates)):
+        want, room, got = [walked(times, rates, starts, along, t) for t in asked], (c_double * len(asked))(*asked), []
+        for t in asked:
+            number = c_double()
+            at(*curve, t, byref(number))
+            got.append(number.value)
+        at_each(*curve, room, len(asked))
+        same(got, want)
+        same(room[:], want)
+
+print("from Python: loans drawn in portions, with their years' lines, and listed, curves looked up as a walk would, and refusals that touch nothing")

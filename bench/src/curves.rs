@@ -1,12 +1,14 @@
 //! Curves, their years cut evenly into knots: lookups on the three kinds, and the fit.
 use crate::job::{one_by_one, unless_refused, Job};
 use crate::library::*;
-use crate::measure::{giving, lent, unseen};
+use crate::measure::{giving, lent, scattered, unseen};
 use crate::published::spread_analytics::ZeroRateCurve;
 use crate::published::swaps::DiscountCurve;
 use crate::published::yield_curve::{NelsonSiegel, YieldCurve, YieldPoint};
 
+/// So few that the processor soon foresees them all, and so many that it does not.
 const LOOKUPS: usize = 64;
+const MIXED_LOOKUPS: usize = 4096;
 pub const YEARS: f64 = 30.0;
 
 #[derive(Clone)]
@@ -46,17 +48,18 @@ pub enum Asked {
     AsAList,
 }
 
-/// Lookups at times all over the years, in no order. A list is filled afresh for each run, since its answers take its place; the time
-/// of that is in.
+/// Lookups at times all over the years. A list is filled afresh for each run, since its answers take its place; the time of that is
+/// in.
 fn lookups(
     kind: &str,
     asked: Asked,
+    times: Vec<f64>,
     curve: Curve,
     (one, each): (LibraryNumber, LibraryNumbers),
     rust: impl Fn(f64) -> f64 + 'static,
 ) -> Job {
-    let times: Vec<f64> = (0..LOOKUPS).map(|k| YEARS * ((k * 37 % LOOKUPS) as f64 + 0.5) / LOOKUPS as f64).collect();
-    let name = format!("{LOOKUPS} lookups at {} knots, {kind}", curve.times.len());
+    let count = times.len();
+    let name = format!("{count} lookups at {} knots, {kind}", curve.times.len());
     let (listed, knots) = (times.clone(), curve.clone());
     let alone = one_by_one(
         name.clone(),
@@ -69,7 +72,7 @@ fn lookups(
     if asked == Asked::OneByOne {
         return alone;
     }
-    let ours = lent(LOOKUPS, move |room| {
+    let ours = lent(count, move |room| {
         room.copy_from_slice(&listed);
         let outcome = unsafe {
             each(knots.times.as_ptr(), knots.times.len(), knots.rates.as_ptr(), knots.rates.len(), room.as_mut_ptr(), room.len())
@@ -79,11 +82,29 @@ fn lookups(
     Job { name: name + ", a list", ours, ..alone }
 }
 
+/// Many times in no order.
+fn mixed_times() -> Vec<f64> {
+    scattered(MIXED_LOOKUPS).map(|part| YEARS * (part as f64 + 0.5) / MIXED_LOOKUPS as f64).take(MIXED_LOOKUPS).collect()
+}
+
+/// The same few times again and again.
+fn few_times() -> Vec<f64> {
+    (0..LOOKUPS).map(|k| YEARS * ((k * 37 % LOOKUPS) as f64 + 0.5) / LOOKUPS as f64).collect()
+}
+
 pub fn yield_curve(asked: Asked, knots: usize) -> Job {
+    yields("yield curve", asked, few_times(), knots)
+}
+
+pub fn mixed_yield_curve(asked: Asked, knots: usize) -> Job {
+    yields("yield curve, mixed", asked, mixed_times(), knots)
+}
+
+fn yields(kind: &str, asked: Asked, times: Vec<f64>, knots: usize) -> Job {
     let curve = curve(YEARS, knots);
     let theirs = YieldCurve::new(curve.points());
     let ours: (LibraryNumber, LibraryNumbers) = (senyolanda_linear_interpolate, senyolanda_linear_interpolate_each);
-    lookups("yield curve", asked, curve, ours, move |t| unseen(&theirs).linear_interpolate(t).unwrap_or(f64::NAN))
+    lookups(kind, asked, times, curve, ours, move |t| unseen(&theirs).linear_interpolate(t).unwrap_or(f64::NAN))
 }
 
 /// The Rust's zero rate is private here, so a lookup is a discount factor, with its exp.
@@ -91,14 +112,14 @@ pub fn discount_curve(asked: Asked, knots: usize) -> Job {
     let curve = curve(YEARS, knots);
     let theirs = curve.discount_curve();
     let ours: (LibraryNumber, LibraryNumbers) = (senyolanda_discount_curve_factor, senyolanda_discount_curve_factor_each);
-    lookups("discount curve", asked, curve, ours, move |t| unseen(&theirs).discount_factor(t))
+    lookups("discount curve", asked, few_times(), curve, ours, move |t| unseen(&theirs).discount_factor(t))
 }
 
 pub fn zero_curve(asked: Asked, knots: usize) -> Job {
     let curve = curve(YEARS, knots);
     let theirs = curve.zero_rates();
     let ours: (LibraryNumber, LibraryNumbers) = (senyolanda_zero_curve_rate, senyolanda_zero_curve_rate_each);
-    lookups("zero curve", asked, curve, ours, move |t| unseen(&theirs).rate_at(t))
+    lookups("zero curve", asked, few_times(), curve, ours, move |t| unseen(&theirs).rate_at(t))
 }
 
 pub fn fit(points: usize) -> Job {

@@ -74,7 +74,11 @@ pub fn judge_each(times: &[f64], rates: &[f64], asked: &[f64]) -> Verdict
 fn rate_or_exponent(kind: Kind, exponent: bool, rate: f64, t: f64) -> f64
     ensures { λ r. ⌜ r ≡ rateOrExponent kind exponent rate t ⌝ }
 {
-    if exponent { exponent_at(kind, rate, t) } else { rate }
+    if exponent {
+        exponent_at(kind, rate, t)
+    } else {
+        rate
+    }
 }
 
 // Eight answers, by the segments that halving finds. It is asked for among all knots but the last, so that each segment has an end: past the last knot the curve is flat.
@@ -102,13 +106,7 @@ fn answer_eight(kind: Kind, exponents: bool, times: &[f64], rates: &[f64], asked
 }
 
 // Answers one at a time.
-fn answer_one_by_one(
-    kind: Kind,
-    exponents: bool,
-    times: &[f64],
-    rates: &[f64],
-    asked: &mut [f64],
-)
+fn answer_one_by_one(kind: Kind, exponents: bool, times: &[f64], rates: &[f64], asked: &mut [f64])
     ensures { λ _. ⌜ (Rising (now (times .entry)) → now (asked .exit) ≡ map (answerOn kind exponents (now (times .entry)) (now (rates .entry))) (now (asked .entry))) ⌝ }
 {
     let mut j: usize = 0;
@@ -160,13 +158,7 @@ fn answer_last(kind: Kind, exponents: bool, times: &[f64], rates: &[f64], asked:
 }
 
 // All answers, eight at a time.
-fn answer_in_eights(
-    kind: Kind,
-    exponents: bool,
-    times: &[f64],
-    rates: &[f64],
-    asked: &mut [f64],
-)
+fn answer_in_eights(kind: Kind, exponents: bool, times: &[f64], rates: &[f64], asked: &mut [f64])
     requires { ⌜ (2 ≤ length (now times)) × (length (now times) ≤ length (now rates)) ⌝ }
     ensures { λ _. ⌜ (Rising (now (times .entry)) → now (asked .exit) ≡ map (answerOn kind exponents (now (times .entry)) (now (rates .entry))) (now (asked .entry))) ⌝ }
 {

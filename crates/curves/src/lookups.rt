@@ -29,13 +29,7 @@ pub fn exponent_at(kind: Kind, rate: f64, t: f64) -> f64
 {
     match kind {
         Kind::YieldCurve => -rate * t,
-        Kind::DiscountCurve => {
-            if t <= 0.0 {
-                0.0
-            } else {
-                -rate * t
-            }
-        }
+        Kind::DiscountCurve => { if t <= 0.0 { 0.0 } else { -rate * t } }
         Kind::SpreadCurve => -rate * t,
     }
 }

@@ -35,14 +35,7 @@ fn put_dates(dt: f64, first: u32, dates: &mut [f64])
 }
 
 // The discount factors there.
-fn put_factors(
-    kind: Kind,
-    dt: f64,
-    times: &[f64],
-    rates: &[f64],
-    first: u32,
-    factors: &mut [f64],
-)
+fn put_factors(kind: Kind, dt: f64, times: &[f64], rates: &[f64], first: u32, factors: &mut [f64])
     requires { ⌜ first + length (now factors) < 4294967296 ⌝ }
     ensures { λ _. ⌜ (Rising (now (times .entry)) → FactorsAfter kind dt (now (times .entry)) (now (rates .entry)) first (length (now (factors .exit))) (now (factors .exit))) ⌝ }
 {

@@ -32,7 +32,10 @@ pub extern "C" fn senyolanda_zero_curve_rate(
 ) -> u64
     ensures { λ r. ⌜ (r, now (rate .exit)) ≡ toldNumber (rateAt (now (tenors .entry)) (now (rates .entry)) t) (now (rate .entry)) ⌝ }
 {
-    put_number(spread_analytics::rate_curves::rate_at(tenors, rates, t), rate)
+    put_number(
+        spread_analytics::rate_curves::rate_at(tenors, rates, t),
+        rate,
+    )
 }
 
 #[no_mangle]

@@ -117,11 +117,11 @@ loop-again c =
           let t = getD (at .loop .asked) j nan in
           let counted : length times ≡ suc (length times - 1) = omega (arith, start .pre .1) in
           let served : i ≡ servedBy (a .kind) inner t =
-              ap (λ (l : List ℕ). getD l j 0) (found .eight-on .ensures .1 (front-rises times (length times - 1) (omega arith) rises))
-              ∙ served-at (servedBy (a .kind) inner) j (a .asked .now) (omega (arith, start .pre .0, less)) ∙ ap (servedBy (a .kind) inner) (sym here)
+          ap (λ (l : List ℕ). getD l j 0) (found .eight-on .ensures .1 (front-rises times (length times - 1) (omega arith) rises))
+          ∙ served-at (servedBy (a .kind) inner) j (a .asked .now) (omega (arith, start .pre .0, less)) ∙ ap (servedBy (a .kind) inner) (sym here)
           in
           let ends : record { t0 = getD times i nan; t1 = getD times (i + 1) nan; r0 = getD rates i nan; r1 = getD rates (i + 1) nan } ≡ endsOf times rates i =
-              ends-are times rates i _ _ _ _ (refl, ap (λ (k : ℕ). getD times k nan) (add-one i), refl, ap (λ (k : ℕ). getD rates k nan) (add-one i))
+          ends-are times rates i _ _ _ _ (refl, ap (λ (k : ℕ). getD times k nan) (add-one i), refl, ap (λ (k : ℕ). getD rates k nan) (add-one i))
           in
           one-passed p (start .pre .0) _ less
           (one-answer (a .kind) times rates (a .exponents) _ _ _ _ here
