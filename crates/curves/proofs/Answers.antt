@@ -1,7 +1,8 @@
 -- The three kinds of curve: the exp of each exponent is the discount factor, at or before time 0 too. Assumes nothing.
-use mathlib.Core.Path.{_≡_, refl, sym, ap, _∙_}
+use mathlib.Core.Path.{_≡_, refl, sym, ap, _∙_, subst}
 use mathlib.Core.Bool.{Bool, true, false, cond}
 use mathlib.Core.List.{List, [], _∷_, map}
+use Prim.Native.Nat.{ℕ}
 use lib.Ieee.{Float, binary64, neg, mul, le}
 use Rattle.numbers.specs.Literals.{one}
 use Rattle.numbers.specs.Clamps.{plusZero}
@@ -11,8 +12,12 @@ use Rattle.elementary.proofs.Laws.{exp-of-zero}
 use Rattle.elementary.proofs.PartWay.{map-alike}
 use Rattle.curves.specs.declared.kinds.Kind.{Kind}
 use Rattle.curves.specs.declared.kinds.Kind.the-variants as kind-is
-use Rattle.curves.specs.Kinds.{rateOn, discounted, discountOn, exponentAt}
+use Rattle.curves.specs.Segments.{flatOutside, endsOf}
+use Rattle.curves.specs.Kinds.{servedBy, along, rateOn, discounted, discountOn, exponentAt}
+use Rattle.curves.specs.inner.Halving.{segmentBy}
+use Rattle.curves.specs.inner.Kinds.{ruleOf, PastOn}
 use Rattle.curves.specs.inner.Exponents.{rateOrExponent, answerOn}
+use Rattle.curves.proofs.Onward.{past-served}
 
 -- ---- discount factors
 exp-of-either : (b : Bool) (x : Float) → exp (cond b plusZero x) ≡ cond b one (exp x)
@@ -25,8 +30,23 @@ exp-of-exponent kind-is.YieldCurve rate t = refl
 exp-of-exponent kind-is.DiscountCurve rate t = exp-of-either (le t plusZero) (mul binary64 (neg rate) t)
 exp-of-exponent kind-is.SpreadCurve rate t = refl
 
+-- ---- the segment that serves by the kind's rule has none before it that does
+by-its-rule : (kind : Kind) (times : List Float) (t : Float) → segmentBy (ruleOf kind) times t ≡ servedBy kind times t
+unfolding segmentBy ruleOf servedBy
+by-its-rule kind-is.YieldCurve times t = refl
+by-its-rule kind-is.DiscountCurve times t = refl
+by-its-rule kind-is.SpreadCurve times t = refl
+
+pub past-on : (kind : Kind) (times : List Float) (t : Float) (i : ℕ) → i ≡ servedBy kind times t → PastOn kind times t i
+past-on kind times t i e = subst (PastOn kind times t) (by-its-rule kind times t ∙ sym e) (past-served (ruleOf kind) times t)
+
 -- ---- one answer
 module _ (kind : Kind) (times rates : List Float) where
+  -- the rate by the segment that serves
+  pub by-segment : (t : Float) (i : ℕ) (r : Float) → i ≡ servedBy kind times t → r ≡ flatOutside times rates t (along kind (endsOf times rates i) t) → r ≡ rateOn kind times rates t
+  unfolding rateOn
+  by-segment t i r is-i is-r = is-r ∙ ap (λ (n : ℕ). flatOutside times rates t (along kind (endsOf times rates n) t)) is-i
+
   pub one-answer : (exponent : Bool) (t x rate r : Float) → x ≡ t → rate ≡ rateOn kind times rates x → r ≡ rateOrExponent kind exponent rate x → r ≡ answerOn kind exponent times rates t
   unfolding answerOn
   one-answer exponent t x rate r is-x is-rate is-r = is-r ∙ rw (is-rate, is-x)

@@ -1,5 +1,5 @@
--- Halving, turn by turn, for one time and for eight: each turn keeps the segment that serves between the knot come to and the knots left, by either rule, on times that rise. So halving finds it,
--- and so does counting the knots that fail once few are left. Every search for a segment cites this. Assumes nothing.
+-- Halving, turn by turn, for one time and for eight: each turn keeps the segment that serves between the knot come to and the knots left, by either rule, on times that rise. So halving finds it.
+-- Every search cites this. Assumes nothing.
 use mathlib.Core.Path.{_≡_, refl, sym, ap, _∙_}
 use mathlib.Core.Bool.{Bool, true, false, cond}
 use mathlib.Core.List.{List, [], _∷_, map}
@@ -10,38 +10,15 @@ use lib.ListN.{length, getD, set, replicate, length-map}
 use lib.Seq.{ext-getD, getD-set-same, getD-set-other}
 use lib.Ieee.{Float, nan}
 use borrow.Author.Tests.{ltb-true, ltb-false, eqb-true, eqb-false}
-use Rattle.numbers.proofs.Comparing.{clash}
 use Rattle.curves.specs.Segments.{knot, Rising}
-use Rattle.curves.specs.inner.Halving.{Rule, segmentBy, passes, steppedOver, failing}
-use Rattle.curves.proofs.Serving.{by-rule, serves-before, serves-inside, serves-after}
+use Rattle.curves.specs.inner.Halving.{Rule, segmentBy, passes, steppedOver}
+use Rattle.curves.proofs.Serving.{by-rule, serves-before, serves-inside, none-serves, serves-after}
 
 -- the segment of one of many times
 pub served-at : (serving : Float → ℕ) (k : ℕ) (asked : List Float) → k < length asked → getD (map serving asked) k 0 ≡ serving (getD asked k nan)
 served-at serving k [] h = absurd (omega arith)
 served-at serving zero (t ∷ asked) h = refl
 served-at serving (suc k) (t ∷ asked) h = served-at serving k asked (omega arith)
-
--- one knot more, at the place k
-pub one-more-fails : (test : Float → Bool) (times : List Float) (base k found more : ℕ) → 1 ≤ k → found ≡ failing test times base (k - 1) → more ≡ cond (test (knot times (base + k))) 0 1
-    → found + more ≡ failing test times base k
-unfolding failing
-one-more-fails test times base zero found more h f m = absurd (omega arith)
-one-more-fails test times base (suc k) found more h f m =
-    let e : suc k - 1 ≡ k = omega arith in
-    rw (f, m, e)
-
-pub few-fail : (test : Float → Bool) (times : List Float) (base m : ℕ) → failing test times base m ≤ m
-unfolding failing
-few-fail test times base zero = omega arith
-few-fail test times base (suc m) = go (test (knot times (base + suc m))) (few-fail test times base m)
-  where
-    go : (b : Bool) → failing test times base m ≤ m → failing test times base m + cond b 0 1 ≤ suc m
-    go true ih = omega arith
-    go false ih = omega arith
-
-no-knot-serves : (rule : Rule) (ts : List Float) (t : Float) → length ts ≡ 0 → segmentBy rule ts t ≡ 0
-no-knot-serves rule [] t e = by-rule rule t .none
-no-knot-serves rule (a ∷ ts) t e = absurd (omega arith)
 
 -- ---- a lane: one time, and the knot that it has come to with so many knots left, among which is the one that the segment that serves starts at
 module _ (rule : Rule) (times : List Float) where
@@ -94,78 +71,7 @@ module _ (rule : Rule) (times : List Float) where
       go false more none =
           let n : length times ≤ 0 = none refl in
           let r = l .room in
-          let z = no-knot-serves rule times t (omega arith) in
-          omega arith
-
-  -- and with more left it is as many knots on as fail
-  module _ (t : Float) (base count : ℕ) (l : Lane count t base) (rises : Rising times) (g : 0 < length times) where
-    abbrev on : ℕ
-    on = segmentBy rule times t - base
-
-    fail-here : (m : ℕ) → suc m < count → suc m ≤ on → passes rule t (knot times (base + suc m)) ≡ false
-    fail-here m h a = go (passes rule t (knot times (base + suc m))) refl
-      where
-        go : (b : Bool) → passes rule t (knot times (base + suc m)) ≡ b → b ≡ false
-        go false p = refl
-        go true p =
-            let r = l .room in
-            let i : suc (base + m) ≡ base + suc m = omega arith in
-            let s = serves-before (by-rule rule t) times (base + m) (omega arith) (ap (λ (k : ℕ). passes rule t (knot times k)) i ∙ p) in
-            absurd (omega arith)
-
-    pass-here : (m : ℕ) → suc m < count → on ≤ m → passes rule t (knot times (base + suc m)) ≡ true
-    pass-here m h a = go (passes rule t (knot times (base + suc m))) refl
-      where
-        go : (b : Bool) → passes rule t (knot times (base + suc m)) ≡ b → b ≡ true
-        go true p = refl
-        go false p =
-            let r = l .room in
-            let s = serves-after (by-rule rule t) times rises (base + suc m) (omega arith) p in
-            absurd (omega arith)
-
-    fail-first : (m : ℕ) → m < count → m ≤ on → failing (passes rule t) times base m ≡ m
-    unfolding failing
-    fail-first zero h a = refl
-    fail-first (suc m) h a =
-        let ih = fail-first m (omega arith) (omega arith) in
-        let f = fail-here m h a in
-        rw f (omega arith)
-
-    no-more : (m : ℕ) → m < count → on ≤ m → failing (passes rule t) times base m ≡ on
-    unfolding failing
-    no-more zero h a = omega arith
-    no-more (suc m) h a = go (ltb m on) (ltb-true m on) (ltb-false m on) (λ past. no-more m (omega arith) past)
-      where
-        go : (b : Bool) → (b ≡ true → m < on) → (b ≡ false → on ≤ m) → (on ≤ m → failing (passes rule t) times base m ≡ on)
-            → failing (passes rule t) times base m + cond (passes rule t (knot times (base + suc m))) 0 1 ≡ on
-        go true under past before =
-            let u : m < on = under refl in
-            let f = fail-here m h (omega arith) in
-            let ih = fail-first m (omega arith) (omega arith) in
-            rw f (omega arith)
-        go false under past before =
-            let p = pass-here m h (past refl) in
-            let ih = before (past refl) in
-            rw p (omega arith)
-
-    counted-on : base + failing (passes rule t) times base (count - 1) ≡ segmentBy rule times t
-    counted-on =
-        let a = l .around rises g in
-        let c = l .some g in
-        let e = no-more (count - 1) (omega arith) (omega (arith, a .1)) in
-        omega (arith, a .0, e)
-
-  pub lane-counted : (t : Float) (base count : ℕ) → Lane count t base → Rising times → base + failing (passes rule t) times base (count - 1) ≡ segmentBy rule times t
-  unfolding failing
-  lane-counted t base count l rises = go (ltb 0 (length times)) (ltb-true 0 (length times)) (ltb-false 0 (length times))
-    where
-      go : (b : Bool) → (b ≡ true → 0 < length times) → (b ≡ false → length times ≤ 0) → base + failing (passes rule t) times base (count - 1) ≡ segmentBy rule times t
-      go true more none = counted-on t base count l rises (more refl)
-      go false more none =
-          let n : length times ≤ 0 = none refl in
-          let r = l .room in
-          let f = few-fail (passes rule t) times base (count - 1) in
-          let z = no-knot-serves rule times t (omega arith) in
+          let z = none-serves (by-rule rule t) times (omega arith) in
           omega arith
 
   -- ---- eight lanes

@@ -3,6 +3,7 @@ pub mod Adding
 pub mod Filling
 pub mod Serving
 pub mod Halvings
+pub mod Onward
 pub mod Flat
 pub mod InnerKnots
 pub mod KnotLine

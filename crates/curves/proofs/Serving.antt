@@ -39,7 +39,7 @@ module _ {test : Float → Bool} {serving : List Float → ℕ} (rule : FirstPas
       go false e ih = let z : serving (a ∷ b ∷ ts) ≡ suc (serving (b ∷ ts)) = rule .first a b ts ∙ rw e in omega arith
 
   -- its end passes, where it has one
-  end-passes : (ts : List Float) → suc (serving ts) < length ts → test (knot ts (suc (serving ts))) ≡ true
+  pub end-passes : (ts : List Float) → suc (serving ts) < length ts → test (knot ts (suc (serving ts))) ≡ true
   end-passes [] h = absurd (omega arith)
   end-passes (a ∷ []) h = absurd (omega (arith, rule .single a))
   end-passes (a ∷ b ∷ ts) h = go (test b) refl (end-passes (b ∷ ts))
@@ -59,6 +59,25 @@ module _ {test : Float → Bool} {serving : List Float → ℕ} (rule : FirstPas
       go : (t : Bool) → test b ≡ t → serving (b ∷ ts) < length (b ∷ ts) → serving (a ∷ b ∷ ts) < length (a ∷ b ∷ ts)
       go true e ih = let z : serving (a ∷ b ∷ ts) ≡ 0 = rule .first a b ts ∙ rw e in omega arith
       go false e ih = let z : serving (a ∷ b ∷ ts) ≡ suc (serving (b ∷ ts)) = rule .first a b ts ∙ rw e in omega arith
+
+  pub none-serves : (ts : List Float) → length ts ≡ 0 → serving ts ≡ 0
+  none-serves [] e = rule .none
+  none-serves (a ∷ ts) e = absurd (omega arith)
+
+  -- no segment before it has an end that passes
+  pub fails-before : (ts : List Float) (j : ℕ) → j < serving ts → test (knot ts (suc j)) ≡ false
+  fails-before ts j h = go (ltb 0 (length ts)) (ltb-true 0 (length ts)) (ltb-false 0 (length ts)) (test (knot ts (suc j))) refl
+    where
+      go : (s : Bool) → (s ≡ true → 0 < length ts) → (s ≡ false → length ts ≤ 0) → (b : Bool) → test (knot ts (suc j)) ≡ b → b ≡ false
+      go s more none false e = refl
+      go true more none true e =
+          let inside = serves-inside ts (more refl) in
+          let early = serves-before ts j (omega arith) e in
+          absurd (omega arith)
+      go false more none true e =
+          let n : length ts ≤ 0 = none refl in
+          let z = none-serves ts (omega arith) in
+          absurd (omega arith)
 
   module _ (times : List Float) (rises : Rising times) where
     pub passes-on : (d i : ℕ) → i + d < length times → test (knot times i) ≡ true → test (knot times (i + d)) ≡ true

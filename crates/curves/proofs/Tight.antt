@@ -51,10 +51,10 @@ use Rattle.curves.proofs.lookups.exponent_at.Kinds as exponent-at-kinds
 use Rattle.curves.proofs.lookups.exponent_at.Reads as exponent-at
 use Rattle.curves.proofs.lookups.discount_of.Kinds as discount-of-kinds
 use Rattle.curves.proofs.lookups.discount_of.Reads as discount-of
-use Rattle.curves.proofs.each.rates_of.Kinds as rates-of-kinds
-use Rattle.curves.proofs.each.rates_of.Reads as rates-of
-use Rattle.curves.proofs.each.discounts_of.Kinds as discounts-of-kinds
-use Rattle.curves.proofs.each.discounts_of.Reads as discounts-of
+use Rattle.curves.proofs.each.rates_onward.Kinds as rates-onward-kinds
+use Rattle.curves.proofs.each.rates_onward.Reads as rates-onward
+use Rattle.curves.proofs.each.discounts_onward.Kinds as discounts-onward-kinds
+use Rattle.curves.proofs.each.discounts_onward.Reads as discounts-onward
 use Rattle.curves.proofs.each.rate_at_each.Kinds as rate-at-each-kinds
 use Rattle.curves.proofs.each.rate_at_each.Reads as rate-at-each
 use Rattle.curves.proofs.each.discount_factor_at_each.Kinds as discount-factor-at-each-kinds
@@ -154,11 +154,11 @@ rate-of-determined κs a rises x y e e′ p q = p rises ∙ sym (q rises)
 pub discount-of-determined : DeterminedOn 2 discount-of-kinds.ps discount-of-kinds.r (λ κs a. Rising (now (a .1 .0))) discount-of.Post
 discount-of-determined κs a rises x y e e′ p q = p rises ∙ sym (q rises)
 
-pub rates-of-settled : SettledOn 3 rates-of-kinds.ps rates-of-kinds.r (λ κs a. Rising (now (a .1 .0))) rates-of.Post
-rates-of-settled κs a rises x y w w′ p q = ap (λ (l : List Float). (tt, (tt, (tt, (l, tt))))) (p rises ∙ sym (q rises))
+pub rates-onward-settled : SettledOn 3 rates-onward-kinds.ps rates-onward-kinds.r (λ κs a. Rising (now (a .1 .0))) rates-onward.Post
+rates-onward-settled κs a rises x y w w′ p q = ap (λ (l : List Float). (tt, (tt, (tt, (l, tt))))) (p rises ∙ sym (q rises))
 
-pub discounts-of-settled : SettledOn 3 discounts-of-kinds.ps discounts-of-kinds.r (λ κs a. Rising (now (a .1 .0))) discounts-of.Post
-discounts-of-settled κs a rises x y w w′ p q = ap (λ (l : List Float). (tt, (tt, (tt, (l, tt))))) (p rises ∙ sym (q rises))
+pub discounts-onward-settled : SettledOn 3 discounts-onward-kinds.ps discounts-onward-kinds.r (λ κs a. Rising (now (a .1 .0))) discounts-onward.Post
+discounts-onward-settled κs a rises x y w w′ p q = ap (λ (l : List Float). (tt, (tt, (tt, (l, tt))))) (p rises ∙ sym (q rises))
 
 -- a run's factors are settled up to their count, for at most 64 dates that a u32 counts
 pub factors-after-determined : (κs : Lfts 2) (a : Dens κs factors-after-kinds.ps) → Rising (now (a .1 .1 .0)) → a .1 .1 .1 .1 .1 .0 ≤ 64 → a .1 .1 .1 .1 .0 + a .1 .1 .1 .1 .1 .0 < 4294967296

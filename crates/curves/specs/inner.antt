@@ -1,3 +1,4 @@
 -- What the helpers of this crate promise one another, and no public function: nothing here need be believed.
 pub mod Halving
+pub mod Kinds
 pub mod Exponents

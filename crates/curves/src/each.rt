@@ -11,8 +11,9 @@ ghost use Rattle.refusals.specs.Answers.{verdictOutcome};
 ghost use Rattle.refusals.specs.Table.{badTime};
 ghost use Rattle.refusals.specs.Places.{placed};
 ghost use Rattle.curves.specs.Segments.{Rising};
-ghost use Rattle.curves.specs.Kinds.{rateOn, discountOn};
+ghost use Rattle.curves.specs.Kinds.{servedBy, rateOn, discountOn};
 ghost use Rattle.curves.specs.Lists.{eachOutcome, eachAfter};
+ghost use Rattle.curves.specs.inner.Kinds.{PastOn};
 ghost use Rattle.curves.specs.inner.Exponents.{rateOrExponent, answerOn};
 use crate::curve::bad_time;
 use crate::curve::judge_curve;
@@ -20,7 +21,10 @@ use crate::curve::one_unless;
 use crate::formulas::along;
 use crate::kinds::Kind;
 use crate::kinds::eight_on;
+use crate::kinds::onward_on;
+use crate::kinds::segment_on;
 use crate::lookups::exponent_at;
+use crate::lookups::rate_by;
 use crate::lookups::rate_of;
 use crate::segments::Ends;
 use crate::segments::flat;
@@ -184,15 +188,58 @@ fn answer_each(kind: Kind, exponents: bool, times: &[f64], rates: &[f64], asked:
     }
 }
 
+// The segment of a time, gone on to from that of an earlier one, else looked for anew.
+fn next_segment(kind: Kind, times: &[f64], segment: usize, before: f64, t: f64) -> usize
+    ensures { λ r. ⌜ (Rising (now (times .entry)) → PastOn kind (now (times .entry)) before segment → r ≡ servedBy kind (now (times .entry)) t) ⌝ }
+{
+    if before < t {
+        onward_on(kind, times, segment, t)
+    } else {
+        segment_on(kind, times, t)
+    }
+}
+
+// All answers, each segment gone on to from the one before: for times that rise themselves.
+fn answer_onward(kind: Kind, exponents: bool, times: &[f64], rates: &[f64], asked: &mut [f64])
+    ensures { λ _. ⌜ (Rising (now (times .entry)) → now (asked .exit) ≡ map (answerOn kind exponents (now (times .entry)) (now (rates .entry))) (now (asked .entry))) ⌝ }
+{
+    let mut segment: usize = 0;
+    let mut before = 0.0;
+    let mut j: usize = 0;
+    while j < asked.len() {
+        let t = asked[j];
+        segment = next_segment(kind, times, segment, before, t);
+        let rate = rate_by(kind, times, rates, segment, t);
+        asked[j] = rate_or_exponent(kind, exponents, rate, t);
+        before = t;
+        j += 1;
+    }
+}
+
+// The rate at each time, on a curve whose times rise; quick where each is later than the one before, and right in any order.
+pub fn rates_onward(kind: Kind, times: &[f64], rates: &[f64], asked: &mut [f64])
+    ensures { λ _. ⌜ (Rising (now (times .entry)) → now (asked .exit) ≡ map (rateOn kind (now (times .entry)) (now (rates .entry))) (now (asked .entry))) ⌝ }
+{
+    answer_onward(kind, false, times, rates, asked);
+}
+
+// The discount factor at each time, likewise.
+pub fn discounts_onward(kind: Kind, times: &[f64], rates: &[f64], asked: &mut [f64])
+    ensures { λ _. ⌜ (Rising (now (times .entry)) → now (asked .exit) ≡ map (discountOn kind (now (times .entry)) (now (rates .entry))) (now (asked .entry))) ⌝ }
+{
+    answer_onward(kind, true, times, rates, asked);
+    exp_each(asked);
+}
+
 // The rate at each time, on a curve whose times rise.
-pub fn rates_of(kind: Kind, times: &[f64], rates: &[f64], asked: &mut [f64])
+fn rates_of(kind: Kind, times: &[f64], rates: &[f64], asked: &mut [f64])
     ensures { λ _. ⌜ (Rising (now (times .entry)) → now (asked .exit) ≡ map (rateOn kind (now (times .entry)) (now (rates .entry))) (now (asked .entry))) ⌝ }
 {
     answer_each(kind, false, times, rates, asked);
 }
 
 // The discount factor at each time, on a curve whose times rise.
-pub fn discounts_of(kind: Kind, times: &[f64], rates: &[f64], asked: &mut [f64])
+fn discounts_of(kind: Kind, times: &[f64], rates: &[f64], asked: &mut [f64])
     ensures { λ _. ⌜ (Rising (now (times .entry)) → now (asked .exit) ≡ map (discountOn kind (now (times .entry)) (now (rates .entry))) (now (asked .entry))) ⌝ }
 {
     answer_each(kind, true, times, rates, asked);

@@ -1,11 +1,10 @@
 // The first segment that a time is not beyond: at an inner knot, the one that ends there. Found by halving, on times that rise; nothing but the end of it is decided by a jump.
 ghost use mathlib.Core.Path.{_≡_};
-ghost use mathlib.Core.Bool.{cond};
 ghost use mathlib.Core.List.{map};
-ghost use Prim.Native.Nat.{ℕ, _+_, _-_, _<_, _≤_};
+ghost use Prim.Native.Nat.{ℕ, _+_, _<_};
 ghost use lib.ListN.{length, getD};
 ghost use Rattle.curves.specs.Segments.{segmentEnding, Rising};
-ghost use Rattle.curves.specs.inner.Halving.{ending, passes, steppedOver, failing};
+ghost use Rattle.curves.specs.inner.Halving.{ending, passes, steppedOver, Past};
 
 // Half the knots stepped over, unless t is not beyond the knot that far on.
 fn stepped(times: &[f64], t: f64, half: usize, base: usize) -> usize
@@ -16,39 +15,32 @@ fn stepped(times: &[f64], t: f64, half: usize, base: usize) -> usize
     if t <= times[middle] { base } else { middle }
 }
 
-// One where t is beyond a knot, else none.
-fn one_past(t: f64, knot: f64) -> usize
-    ensures { λ r. ⌜ (r ≤ 1) × (r ≡ cond (passes ending t knot) 0 1) ⌝ }
-{
-    if t <= knot { 0 } else { 1 }
-}
-
-// How many of so many knots, after the first of them, t is beyond: all are asked alike, and none waits for another.
-fn counted(times: &[f64], t: f64, base: usize, count: usize) -> usize
-    requires { ⌜ base + count ≤ length (now times) ⌝ }
-    ensures { λ r. ⌜ r ≡ failing (passes ending t) (now (times .entry)) base (count - 1) ⌝ }
-{
-    let mut found: usize = 0;
-    let mut k: usize = 1;
-    while k < count {
-        found = found + one_past(t, times[base + k]);
-        k += 1;
-    }
-    found
-}
-
-// The segment of one time: halved for until eight knots are left, which are counted.
+// The segment of one time.
 pub fn segment(times: &[f64], t: f64) -> usize
     ensures { λ r. ⌜ (Rising (now (times .entry)) → r ≡ segmentEnding (now (times .entry)) t) ⌝ }
 {
     let mut base: usize = 0;
     let mut count = times.len();
-    while count > 8 {
+    while count > 1 {
         let half = count / 2;
         base = stepped(times, t, half, base);
         count -= half;
     }
-    base + counted(times, t, base, count)
+    base
+}
+
+// The segment of a time, gone on to from one whose forerunners the time is past.
+pub(crate) fn onward(times: &[f64], from: usize, t: f64) -> usize
+    ensures { λ r. ⌜ (Past ending (now (times .entry)) t from → r ≡ segmentEnding (now (times .entry)) t) ⌝ }
+{
+    let mut i = crate::segments::knot_from(times, from);
+    while i + 1 < times.len() {
+        if t <= times[i + 1] {
+            return i;
+        }
+        i += 1;
+    }
+    i
 }
 
 // The segments of eight times, each turn taken by all of them; whatever the times are, each is that of a knot.

@@ -5,6 +5,7 @@ ghost use Prim.Native.Nat.{ℕ, _<_};
 ghost use lib.ListN.{length, getD};
 ghost use Rattle.curves.specs.Segments.{Rising};
 ghost use Rattle.curves.specs.Kinds.{servedBy};
+ghost use Rattle.curves.specs.inner.Kinds.{PastOn};
 
 pub enum Kind {
     YieldCurve,
@@ -31,5 +32,16 @@ pub(crate) fn eight_on(kind: Kind, times: &[f64], asked: &[f64]) -> [usize; 8]
         Kind::YieldCurve => crate::ending::eight_segments(times, asked),
         Kind::DiscountCurve => crate::ending::eight_segments(times, asked),
         Kind::SpreadCurve => crate::starting::eight_segments(times, asked),
+    }
+}
+
+// The segment of a time, gone on to from one whose forerunners the time is past.
+pub(crate) fn onward_on(kind: Kind, times: &[f64], from: usize, t: f64) -> usize
+    ensures { λ r. ⌜ (PastOn kind (now (times .entry)) t from → r ≡ servedBy kind (now (times .entry)) t) ⌝ }
+{
+    match kind {
+        Kind::YieldCurve => crate::ending::onward(times, from, t),
+        Kind::DiscountCurve => crate::ending::onward(times, from, t),
+        Kind::SpreadCurve => crate::starting::onward(times, from, t),
     }
 }

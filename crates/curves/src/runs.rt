@@ -4,7 +4,7 @@ ghost use Prim.Native.Nat.{ℕ, _+_, _<_, _≤_};
 ghost use lib.ListN.{length};
 ghost use Rattle.curves.specs.Segments.{knot, Rising};
 ghost use Rattle.curves.specs.Runs.{dateAfter, FactorsAfter};
-use crate::each::discounts_of;
+use crate::each::discounts_onward;
 use crate::kinds::Kind;
 
 fn at_most(count: usize, most: usize) -> usize
@@ -40,7 +40,7 @@ fn put_factors(kind: Kind, dt: f64, times: &[f64], rates: &[f64], first: u32, fa
     ensures { λ _. ⌜ (Rising (now (times .entry)) → FactorsAfter kind dt (now (times .entry)) (now (rates .entry)) first (length (now (factors .exit))) (now (factors .exit))) ⌝ }
 {
     put_dates(dt, first, factors);
-    discounts_of(kind, times, rates, factors);
+    discounts_onward(kind, times, rates, factors);
 }
 
 // So many discount factors of the dates after the first ones.

@@ -1,6 +1,8 @@
 // The knots of a curve, the ends of a segment, and what is flat outside.
 ghost use mathlib.Core.Path.{_≡_};
-ghost use Prim.Native.Nat.{suc};
+ghost use mathlib.Core.Logic.{_⊎_};
+ghost use Prim.Native.Nat.{suc, _<_, _≤_};
+ghost use lib.ListN.{length};
 ghost use mathlib.Core.Bool.{cond};
 ghost use lib.Ieee.{nan, le};
 ghost use Rattle.curves.specs.Segments.{knot, lastOf};
@@ -25,6 +27,13 @@ pub fn knot_at(xs: &[f64], i: usize) -> f64
     ensures { λ r. ⌜ r ≡ knot (now (xs .entry)) i ⌝ }
 {
     if i < xs.len() { xs[i] } else { no_knot() }
+}
+
+// A place from which knots are looked at: the first where there is no such knot.
+pub(crate) fn knot_from(xs: &[f64], from: usize) -> usize
+    ensures { λ r. ⌜ (r ≤ length (now (xs .entry))) × (0 < length (now (xs .entry)) → r < length (now (xs .entry))) × ((r ≡ from) ⊎ (r ≡ 0)) ⌝ }
+{
+    if from < xs.len() { from } else { 0 }
 }
 
 // The knot after i.

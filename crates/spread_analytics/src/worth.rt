@@ -34,7 +34,7 @@ pub(crate) fn keep_rates(times: &[f64], tenors: &[f64], rates: &[f64], kept: &mu
 {
     copy_times(times, kept);
     let count = times.len();
-    curves::each::rates_of(Kind::SpreadCurve, tenors, rates, &mut kept[..count]);
+    curves::each::rates_onward(Kind::SpreadCurve, tenors, rates, &mut kept[..count]);
 }
 
 // What the factors are the exps of: the rate and the spread, negated, times the time.

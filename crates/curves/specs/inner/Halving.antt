@@ -1,6 +1,7 @@
--- The two rules by which a segment serves; and for any test of a knot what a turn of halving steps to, and how many knots fail it. Definitions only. Assumes nothing.
-use Prim.Native.Nat.{ℕ, zero, suc, _+_}
-use mathlib.Core.Bool.{Bool, cond}
+-- The two rules by which a segment serves, what a turn of halving steps to, and a time that is past the first segments. Definitions only. Assumes nothing.
+use Prim.Native.Nat.{ℕ, suc, _+_, _<_}
+use mathlib.Core.Path.{_≡_}
+use mathlib.Core.Bool.{Bool, false, cond}
 use mathlib.Core.List.{List}
 use lib.Ieee.{Float, le, lt}
 use Rattle.curves.specs.Segments.{knot, segmentEnding, segmentStarting}
@@ -23,7 +24,6 @@ passes starting = lt
 abbrev pub steppedOver : (Float → Bool) → List Float → ℕ → ℕ → ℕ
 steppedOver test times half base = cond (test (knot times (base + half))) base (base + half)
 
--- how many of the m knots after one do not pass
-unfoldable pub failing : (Float → Bool) → List Float → ℕ → ℕ → ℕ
-failing test times base zero = 0
-failing test times base (suc m) = failing test times base m + cond (test (knot times (base + suc m))) 0 1
+-- a time is past the first i segments: none of their ends passes
+abbrev pub Past : Rule → List Float → Float → ℕ → Type 0
+Past rule times t i = (j : ℕ) → j < i → passes rule t (knot times (suc j)) ≡ false

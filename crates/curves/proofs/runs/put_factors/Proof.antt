@@ -24,7 +24,7 @@ returns c rises =
     let found = c .before .before in
     let put = found .before .before .before .before in
     let a = put .before .before .before .before .before .args in
-    factors-are (a .kind) (a .dt) (a .times .now) (a .rates .now) (a .first) (put .put-dates .last .1 .1 .0) _ (found .discounts-of .ensures rises) (put .put-dates .ensures)
+    factors-are (a .kind) (a .dt) (a .times .now) (a .rates .now) (a .first) (put .put-dates .last .1 .1 .0) _ (found .discounts-onward .ensures rises) (put .put-dates .ensures)
 
 pub put-factors-spec : {M : Type 1} → statement M
 put-factors-spec = tie.close (tie.spec (λ c κs. search needs) (λ c κs. search needs) (λ c. search needs) returns)

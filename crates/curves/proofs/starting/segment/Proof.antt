@@ -1,9 +1,8 @@
--- `curves::starting::segment` meets its contract: each turn is a turn of the one lane, and then the knots left that fail are counted. Assumes nothing.
-use mathlib.Core.Path.{_≡_, refl, ap, _∙_}
-use Prim.Native.Nat.{ℕ, _+_, _-_, _≤_}
+-- `curves::starting::segment` meets its contract: each turn is a turn of the one lane. Assumes nothing.
+use mathlib.Core.Path.{refl}
 use native.Mathlib.Omega.{arith}
-use Rattle.curves.specs.inner.Halving.{starting, segmentBy, passes}
-use Rattle.curves.proofs.Halvings.{Lane, lane-start, lane-inside, lane-next, lane-counted, few-fail}
+use Rattle.curves.specs.inner.Halving.{starting, segmentBy}
+use Rattle.curves.proofs.Halvings.{Lane, lane-start, lane-inside, lane-next, lane-end}
 use Rattle.curves.proofs.starting.segment.Statement.{statement}
 use Rattle.curves.proofs.starting.segment.Tie as tie
 
@@ -17,25 +16,14 @@ loop-holds : tie.Need-loop-holds Inv-loop μ-loop
 loop-holds c = lane-start _ _ _
 
 stepped-requires : tie.Need-stepped-requires Inv-loop μ-loop
-stepped-requires c κs = lane-inside starting _ _ _ _ _ (omega (arith, c .loop-test .taken)) refl (c .before .loop .inv)
+stepped-requires c κs = lane-inside starting _ _ _ _ _ (c .loop-test .taken) refl (c .before .loop .inv)
 
 loop-again : tie.Need-loop-again Inv-loop μ-loop
-loop-again c = lane-next starting _ _ _ _ _ _ (omega (arith, c .before .loop-test .taken)) refl (c .before .before .loop .inv) (c .stepped .ensures)
-
-counted-requires : tie.Need-counted-requires Inv-loop μ-loop
-counted-requires c κs = c .before .loop .inv .room
-
-add-result : tie.Need-add-result Inv-loop μ-loop
-add-result c =
-    let at = c .before .before in
-    let a = at .before .before .args in
-    omega (arith, c .counted .ensures, few-fail (passes starting (a .t)) (a .times .now) (at .loop .base) (at .loop .count - 1), at .loop .inv .room)
+loop-again c = lane-next starting _ _ _ _ _ _ (c .before .loop-test .taken) refl (c .before .before .loop .inv) (c .stepped .ensures)
 
 returns : tie.Need-returns Inv-loop μ-loop
 unfolding segmentBy
-returns c rises =
-    let at = c .before .before in
-    ap (λ (n : ℕ). at .loop .base + n) (c .counted .ensures) ∙ lane-counted starting _ _ _ _ (at .loop .inv) rises
+returns c rises = lane-end starting _ _ _ _ (c .loop-test .left) (c .before .loop .inv) rises
 
 pub segment-spec : {M : Type 1} → statement M
-segment-spec = tie.close (tie.spec Inv-loop μ-loop loop-holds stepped-requires (λ c. omega arith) (λ c. omega arith) loop-again counted-requires add-result returns)
+segment-spec = tie.close (tie.spec Inv-loop μ-loop loop-holds stepped-requires (λ c. omega arith) (λ c. omega arith) loop-again returns)

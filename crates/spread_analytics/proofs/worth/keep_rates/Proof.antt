@@ -16,8 +16,8 @@ use Rattle.spread_analytics.proofs.SpreadKind.{same-rate}
 use Rattle.spread_analytics.proofs.worth.keep_rates.Statement.{statement}
 use Rattle.spread_analytics.proofs.worth.keep_rates.Tie as tie
 
-slice-aggregate-rates-of : tie.Need-slice-aggregate-rates-of
-slice-aggregate-rates-of c =
+slice-aggregate-rates-onward : tie.Need-slice-aggregate-rates-onward
+slice-aggregate-rates-onward c =
     let copied = c .before .before .before in
     let start = copied .before .before .before .before .before .before in
     let n = length (start .args .times .now) in
@@ -33,10 +33,10 @@ returns c i h =
     let a = start .args in
     let n = length (a .times .now) in
     let l = copied .copy-times .last .1 .0 in
-    ap (λ (m : List Float). knot (m ++ drop n l) i) (found .rates-of .ensures (start .pre .1))
+    ap (λ (m : List Float). knot (m ++ drop n l) i) (found .rates-onward .ensures (start .pre .1))
     ∙ mapped-at (rateOn kind-is.SpreadCurve (a .tenors .now) (a .rates .now)) l n i h (omega (arith, start .pre .0, copied .copy-times .kept .1 .0))
     ∙ same-rate (a .tenors .now) (a .rates .now) (knot l i) ∙ ap (rateOf (a .tenors .now) (a .rates .now)) (copied .copy-times .ensures i h)
 
 pub keep-rates-spec : {M : Type 1} → statement M
 keep-rates-spec =
-    tie.close (tie.spec (λ c κs. search needs) (λ c. search needs) slice-aggregate-rates-of (λ c κs. search needs) (λ c. search needs) returns)
+    tie.close (tie.spec (λ c κs. search needs) (λ c. search needs) slice-aggregate-rates-onward (λ c κs. search needs) (λ c. search needs) returns)

@@ -1,0 +1,47 @@
+-- `curves::lookups::rate_by` meets its contract: flat before the first knot and past the last, and between them along the segment. Assumes nothing.
+use mathlib.Core.Path.{ap, _∙_}
+use borrow.Author.Needs.{needs}
+use Rattle.curves.specs.Segments.{Ends}
+use Rattle.curves.specs.Kinds.{along}
+use Rattle.curves.proofs.Flat.{before-first, past-last, inside, ends-are}
+use Rattle.curves.proofs.lookups.rate_by.Statement.{statement}
+use Rattle.curves.proofs.lookups.rate_by.Tie as tie
+
+returns : tie.Need-returns
+returns c =
+    let read = c .before .before in
+    let a = read .before .before .before .args in
+    before-first (a .times .now) (a .rates .now) (a .t) _ _ (read .knot-at .ensures) _ (c .knot-at2 .ensures) (c .before .if1 .taken)
+
+returns-2 : tie.Need-returns-2
+returns-2 c =
+    let last = c .before .before in
+    let read = last .before .before in
+    let a = read .before .before .before .args in
+    past-last (a .times .now) (a .rates .now) (a .t) _ _ (read .knot-at .ensures) (last .before .if1 .left) _ (last .last-knot .ensures) _ (c .last-knot2 .ensures) (c .before .if2 .taken)
+
+returns-3 : tie.Need-returns-3
+returns-3 c =
+    let ends = c .before in
+    let last = ends .before .before in
+    let read = last .before .before in
+    let a = read .before .before .before .args in
+    inside (a .times .now) (a .rates .now) (a .t) _ _ (read .knot-at .ensures) (last .before .if1 .left) _ (last .last-knot .ensures) _
+    (c .along .ensures
+    ∙ ap (λ (e : Ends). along (a .kind) e (a .t))
+    (ends-are (a .times .now) (a .rates .now) _ _ _ _ _ (ends .ends-of .ensures)))
+    (ends .before .if2 .left)
+
+pub rate-by-spec : {M : Type 1} → statement M
+rate-by-spec =
+    tie.close
+    (tie.spec
+    (λ c κs. search needs)
+    (λ c κs. search needs)
+    returns
+    (λ c κs. search needs)
+    (λ c κs. search needs)
+    returns-2
+    (λ c κs. search needs)
+    (λ c κs. search needs)
+    returns-3)
