@@ -2,8 +2,8 @@
 use mathlib.Core.Path.{_≡_, refl, sym, ap, _∙_, subst}
 use mathlib.Core.Bool.{Bool, true, false, cond}
 use mathlib.Core.List.{List, [], _∷_, map}
-use Prim.Native.Nat.{ℕ}
-use lib.Ieee.{Float, binary64, neg, mul, le}
+use Prim.Native.Nat.{ℕ, suc}
+use lib.Ieee.{Float, binary64, neg, mul, le, lt}
 use Rattle.numbers.specs.Literals.{one}
 use Rattle.numbers.specs.Clamps.{plusZero}
 use Rattle.numbers.proofs.Zeros.{plus-zero}
@@ -12,12 +12,13 @@ use Rattle.elementary.proofs.Laws.{exp-of-zero}
 use Rattle.elementary.proofs.PartWay.{map-alike}
 use Rattle.curves.specs.declared.kinds.Kind.{Kind}
 use Rattle.curves.specs.declared.kinds.Kind.the-variants as kind-is
-use Rattle.curves.specs.Segments.{flatOutside, endsOf}
+use Rattle.curves.specs.Segments.{Ends, knot, flatOutside, endsOf}
 use Rattle.curves.specs.Kinds.{servedBy, along, rateOn, discounted, discountOn, exponentAt}
-use Rattle.curves.specs.inner.Halving.{segmentBy}
-use Rattle.curves.specs.inner.Kinds.{ruleOf, PastOn}
+use Rattle.curves.specs.inner.Halving.{segmentBy, passes}
+use Rattle.curves.specs.inner.Kinds.{ruleOf, PastOn, EndsAre}
 use Rattle.curves.specs.inner.Exponents.{rateOrExponent, answerOn}
-use Rattle.curves.proofs.Onward.{past-served}
+use Rattle.curves.proofs.Flat.{ends-are}
+use Rattle.curves.proofs.Onward.{past-served, still-found}
 
 -- ---- discount factors
 exp-of-either : (b : Bool) (x : Float) → exp (cond b plusZero x) ≡ cond b one (exp x)
@@ -40,12 +41,18 @@ by-its-rule kind-is.SpreadCurve times t = refl
 pub past-on : (kind : Kind) (times : List Float) (t : Float) (i : ℕ) → i ≡ servedBy kind times t → PastOn kind times t i
 past-on kind times t i e = subst (PastOn kind times t) (by-its-rule kind times t ∙ sym e) (past-served (ruleOf kind) times t)
 
+-- ---- the segment in hand
+pub still-on : (kind : Kind) (times : List Float) (before t : Float) (i : ℕ) (end : Float) → end ≡ knot times (suc i) → lt before t ≡ true → PastOn kind times before i → passes (ruleOf kind) t end ≡ true → i ≡ servedBy kind times t
+still-on kind times before t i end is-end l past p = still-found (ruleOf kind) times t before i l past (ap (passes (ruleOf kind) t) (sym is-end) ∙ p) ∙ by-its-rule kind times t
+
 -- ---- one answer
 module _ (kind : Kind) (times rates : List Float) where
-  -- the rate by the segment that serves
-  pub by-segment : (t : Float) (i : ℕ) (r : Float) → i ≡ servedBy kind times t → r ≡ flatOutside times rates t (along kind (endsOf times rates i) t) → r ≡ rateOn kind times rates t
+  -- the rate by the ends of the segment that serves
+  pub by-ends : (t : Float) (i : ℕ) (t0 t1 r0 r1 : Float) (r : Float) → i ≡ servedBy kind times t → EndsAre times rates i t0 t1 r0 r1
+      → r ≡ flatOutside times rates t (along kind (record { t0 = t0; t1 = t1; r0 = r0; r1 = r1 }) t) → r ≡ rateOn kind times rates t
   unfolding rateOn
-  by-segment t i r is-i is-r = is-r ∙ ap (λ (n : ℕ). flatOutside times rates t (along kind (endsOf times rates n) t)) is-i
+  by-ends t i t0 t1 r0 r1 r is-i ends is-r =
+      is-r ∙ ap (λ (e : Ends). flatOutside times rates t (along kind e t)) (ends-are times rates i t0 t1 r0 r1 ends ∙ ap (endsOf times rates) is-i)
 
   pub one-answer : (exponent : Bool) (t x rate r : Float) → x ≡ t → rate ≡ rateOn kind times rates x → r ≡ rateOrExponent kind exponent rate x → r ≡ answerOn kind exponent times rates t
   unfolding answerOn

@@ -2,13 +2,13 @@
 use mathlib.Core.Path.{_≡_, refl, sym, ap, _∙_, subst}
 use mathlib.Core.Logic.{_⊎_, ⊎-elim}
 use mathlib.Core.Bool.{Bool, true, false}
-use mathlib.Core.List.{List}
-use Prim.Native.Nat.{ℕ, suc, _+_, _<_, _≤_}
+use mathlib.Core.List.{List, [], _∷_}
+use Prim.Native.Nat.{ℕ, zero, suc, _+_, _<_, _≤_}
 use native.Mathlib.Numerals.{add-one}
 use native.Mathlib.Omega.{arith}
 use lib.Dec.{ltb}
 use lib.ListN.{length}
-use lib.Ieee.{Float, lt}
+use lib.Ieee.{Float, nan, inf, fin, le, lt, eq}
 use borrow.Author.Count.{below-more}
 use borrow.Author.Tests.{ltb-true, ltb-false}
 use Rattle.numbers.proofs.Comparing.{clash, lt-le, lt-trans, still-beyond}
@@ -25,6 +25,21 @@ still-fails starting before t end l f = go (lt t end) refl
     go : (b : Bool) → lt t end ≡ b → b ≡ false
     go false e = refl
     go true e = clash (sym f ∙ lt-trans before t end l e)
+
+-- no time serves where there is no knot
+no-knot : (rule : Rule) (t : Float) → passes rule t nan ≡ false
+unfolding passes le lt eq
+no-knot ending nan = refl
+no-knot ending (inf s) = refl
+no-knot ending (fin s m e) = refl
+no-knot starting nan = refl
+no-knot starting (inf s) = refl
+no-knot starting (fin s m e) = refl
+
+passes-inside : (rule : Rule) (t : Float) (ts : List Float) (i : ℕ) → passes rule t (knot ts i) ≡ true → i < length ts
+passes-inside rule t [] i p = clash (sym (no-knot rule t) ∙ p)
+passes-inside rule t (a ∷ ts) zero p = omega arith
+passes-inside rule t (a ∷ ts) (suc i) p = let h = passes-inside rule t ts i p in omega arith
 
 module _ (rule : Rule) (times : List Float) where
   pub past-none : (t : Float) → Past rule times t 0
@@ -55,6 +70,12 @@ module _ (rule : Rule) (times : List Float) where
         let low = not-before i (omega arith) past in
         let high = serves-before (by-rule rule t) times i (omega arith) (ap (λ (n : ℕ). passes rule t (knot times n)) (sym (add-one i)) ∙ p) in
         omega arith
+
+    -- the segment of an earlier time serves where its end still passes
+    pub still-found : (before : Float) (i : ℕ) → lt before t ≡ true → Past rule times before i → passes rule t (knot times (suc i)) ≡ true → i ≡ segmentBy rule times t
+    still-found before i l past p =
+        let h = passes-inside rule t times (suc i) p in
+        found-here i (omega arith) (later-too before t i l past) (ap (λ (n : ℕ). passes rule t (knot times n)) (add-one i) ∙ p)
 
     pub found-last : (i : ℕ) → i ≤ length times → (0 < length times → i < length times) → length times ≤ i + 1 → Past rule times t i → i ≡ segmentBy rule times t
     found-last i most inside h past = go (ltb 0 (length times)) (ltb-true 0 (length times)) (ltb-false 0 (length times))

@@ -13,7 +13,7 @@ ghost use Rattle.refusals.specs.Places.{placed};
 ghost use Rattle.curves.specs.Segments.{Rising};
 ghost use Rattle.curves.specs.Kinds.{servedBy, rateOn, discountOn};
 ghost use Rattle.curves.specs.Lists.{eachOutcome, eachAfter};
-ghost use Rattle.curves.specs.inner.Kinds.{PastOn};
+ghost use Rattle.curves.specs.inner.Kinds.{PastOn, EndsAre};
 ghost use Rattle.curves.specs.inner.Exponents.{rateOrExponent, answerOn};
 use crate::curve::bad_time;
 use crate::curve::judge_curve;
@@ -22,11 +22,12 @@ use crate::formulas::along;
 use crate::kinds::Kind;
 use crate::kinds::eight_on;
 use crate::kinds::onward_on;
+use crate::kinds::passes_on;
 use crate::kinds::segment_on;
 use crate::lookups::exponent_at;
-use crate::lookups::rate_by;
 use crate::lookups::rate_of;
 use crate::segments::Ends;
+use crate::segments::ends_of;
 use crate::segments::flat;
 use crate::segments::outside_of;
 use elementary::exp::exp_each;
@@ -199,19 +200,53 @@ fn next_segment(kind: Kind, times: &[f64], segment: usize, before: f64, t: f64) 
     }
 }
 
+// The segment that serves a time, and its ends.
+pub(crate) struct InHand {
+    pub time: f64,
+    pub segment: usize,
+    pub ends: Ends,
+}
+
+// The segment of the next time: the one in hand where it still serves, else the next to serve.
+fn next_in_hand(kind: Kind, times: &[f64], rates: &[f64], hand: InHand, t: f64) -> InHand
+    ensures { λ r. ⌜ (Rising (now (times .entry)) → PastOn kind (now (times .entry)) (hand .time) (hand .segment) → EndsAre (now (times .entry)) (now (rates .entry)) (hand .segment) (hand .ends .t0) (hand .ends .t1) (hand .ends .r0) (hand .ends .r1)
+        → (r .time ≡ t) × (r .segment ≡ servedBy kind (now (times .entry)) t) × EndsAre (now (times .entry)) (now (rates .entry)) (r .segment) (r .ends .t0) (r .ends .t1) (r .ends .r0) (r .ends .r1)) ⌝ }
+{
+    let ends = hand.ends;
+    if hand.time < t {
+        if passes_on(kind, t, ends.t1) {
+            return InHand {
+                time: t,
+                segment: hand.segment,
+                ends,
+            };
+        }
+    }
+    let segment = next_segment(kind, times, hand.segment, hand.time, t);
+    InHand {
+        time: t,
+        segment,
+        ends: ends_of(times, rates, segment),
+    }
+}
+
 // All answers, each segment gone on to from the one before: for times that rise themselves.
 fn answer_onward(kind: Kind, exponents: bool, times: &[f64], rates: &[f64], asked: &mut [f64])
     ensures { λ _. ⌜ (Rising (now (times .entry)) → now (asked .exit) ≡ map (answerOn kind exponents (now (times .entry)) (now (rates .entry))) (now (asked .entry))) ⌝ }
 {
-    let mut segment: usize = 0;
-    let mut before = 0.0;
+    let outside = outside_of(times, rates);
+    let mut hand = InHand {
+        time: 0.0,
+        segment: 0,
+        ends: ends_of(times, rates, 0),
+    };
     let mut j: usize = 0;
     while j < asked.len() {
         let t = asked[j];
-        segment = next_segment(kind, times, segment, before, t);
-        let rate = rate_by(kind, times, rates, segment, t);
+        hand = next_in_hand(kind, times, rates, hand, t);
+        let ends = hand.ends;
+        let rate = flat(outside, t, along(kind, ends, t));
         asked[j] = rate_or_exponent(kind, exponents, rate, t);
-        before = t;
         j += 1;
     }
 }

@@ -5,7 +5,8 @@ ghost use Prim.Native.Nat.{ℕ, _<_};
 ghost use lib.ListN.{length, getD};
 ghost use Rattle.curves.specs.Segments.{Rising};
 ghost use Rattle.curves.specs.Kinds.{servedBy};
-ghost use Rattle.curves.specs.inner.Kinds.{PastOn};
+ghost use Rattle.curves.specs.inner.Halving.{passes};
+ghost use Rattle.curves.specs.inner.Kinds.{ruleOf, PastOn};
 
 pub enum Kind {
     YieldCurve,
@@ -43,5 +44,16 @@ pub(crate) fn onward_on(kind: Kind, times: &[f64], from: usize, t: f64) -> usize
         Kind::YieldCurve => crate::ending::onward(times, from, t),
         Kind::DiscountCurve => crate::ending::onward(times, from, t),
         Kind::SpreadCurve => crate::starting::onward(times, from, t),
+    }
+}
+
+// The test of a segment's end, by the kind's rule.
+pub(crate) fn passes_on(kind: Kind, t: f64, end: f64) -> bool
+    ensures { λ r. ⌜ r ≡ passes (ruleOf kind) t end ⌝ }
+{
+    match kind {
+        Kind::YieldCurve => t <= end,
+        Kind::DiscountCurve => t <= end,
+        Kind::SpreadCurve => t < end,
     }
 }

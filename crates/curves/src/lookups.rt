@@ -1,7 +1,7 @@
 // Lookups on a curve, one at a time.
 ghost use mathlib.Core.Path.{_≡_};
-ghost use Rattle.curves.specs.Segments.{flatOutside, endsOf, Rising};
-ghost use Rattle.curves.specs.Kinds.{along, rateOn, discountOn, exponentAt};
+ghost use Rattle.curves.specs.Segments.{Rising};
+ghost use Rattle.curves.specs.Kinds.{rateOn, discountOn, exponentAt};
 use crate::formulas::along;
 use crate::kinds::Kind;
 use crate::kinds::segment_on;
@@ -10,9 +10,9 @@ use crate::segments::knot_at;
 use crate::segments::last_knot;
 use elementary::exp::exp;
 
-// The rate at a time, flat outside, and else along a segment.
-pub(crate) fn rate_by(kind: Kind, times: &[f64], rates: &[f64], segment: usize, t: f64) -> f64
-    ensures { λ r. ⌜ r ≡ flatOutside (now (times .entry)) (now (rates .entry)) t (along kind (endsOf (now (times .entry)) (now (rates .entry)) segment) t) ⌝ }
+// The rate at a time.
+pub fn rate_of(kind: Kind, times: &[f64], rates: &[f64], t: f64) -> f64
+    ensures { λ r. ⌜ (Rising (now (times .entry)) → r ≡ rateOn kind (now (times .entry)) (now (rates .entry)) t) ⌝ }
 {
     if t <= knot_at(times, 0) {
         return knot_at(rates, 0);
@@ -20,14 +20,7 @@ pub(crate) fn rate_by(kind: Kind, times: &[f64], rates: &[f64], segment: usize, 
     if last_knot(times) <= t {
         return last_knot(rates);
     }
-    along(kind, ends_of(times, rates, segment), t)
-}
-
-// The rate at a time.
-pub fn rate_of(kind: Kind, times: &[f64], rates: &[f64], t: f64) -> f64
-    ensures { λ r. ⌜ (Rising (now (times .entry)) → r ≡ rateOn kind (now (times .entry)) (now (rates .entry)) t) ⌝ }
-{
-    rate_by(kind, times, rates, segment_on(kind, times, t), t)
+    along(kind, ends_of(times, rates, segment_on(kind, times, t)), t)
 }
 
 // What the discount factor at a time is the exp of, by the rate there.
