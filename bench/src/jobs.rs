@@ -48,7 +48,7 @@ pub fn all() -> Vec<Job> {
         curves::zero_curve(OneByOne, 120).aims_at(1.0),
         curves::zero_curve(AsAList, 120).aims_at(1.0),
         spreads::spread(60).aims_at(2.0),
-        spreads::pv(60),
+        spreads::pv(60).aims_at(1.0),
         swaps::value(120, 30).aims_at(5.0),
         curves::fit(30).aims_at(1.0),
         elementary::exps(4096),
