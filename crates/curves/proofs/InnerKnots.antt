@@ -2,7 +2,7 @@
 -- Assumes nothing.
 use mathlib.Core.Path.{_≡_, refl, sym, ap, _∙_}
 use mathlib.Core.Logic.{_⊎_, inl, inr, ⊎-elim}
-use mathlib.Core.Bool.{Bool, true, false, cond}
+use mathlib.Core.Bool.{Bool, true, false}
 use mathlib.Core.List.{List, [], _∷_}
 use Prim.Native.Nat.{ℕ, zero, suc, _-_, _<_, _≤_}
 use native.Mathlib.Omega.{arith}
@@ -11,11 +11,10 @@ use lib.ListN.{length, take}
 use lib.Seq.{length-take-le, getD-take}
 use lib.Ieee.{Float, nan, inf, fin, binary64, add, sub, mul, div, lt, le}
 use borrow.Author.Tests.{ltb-true, ltb-false}
-use Rattle.numbers.specs.Literals.{one}
 use Rattle.numbers.proofs.Comparing.{clash, at-or-below, lt-le}
 use Rattle.curves.specs.declared.kinds.Kind.{Kind}
 use Rattle.curves.specs.declared.kinds.Kind.the-variants as kind-is
-use Rattle.curves.specs.Segments.{knot, lastOf, segmentEnding, segmentStarting, flatOutside, Ends, endsOf, Rising}
+use Rattle.curves.specs.Segments.{knot, lastOf, flatOutside, Ends, endsOf, Rising}
 use Rattle.curves.specs.Formulas.{alongYields, share, alongZeros, alongRates}
 use Rattle.curves.specs.Kinds.{servedBy, along, rateOn}
 use Rattle.curves.specs.inner.Halving.{Rule, ending, starting, segmentBy, passes}

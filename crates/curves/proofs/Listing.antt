@@ -13,7 +13,7 @@ use Rattle.refusals.specs.declared.Refusal.{Refusal}
 use Rattle.refusals.specs.declared.Verdict.{Verdict}
 use Rattle.refusals.specs.declared.Verdict.the-variants as verdict-is
 use Rattle.refusals.specs.Answers.{verdictOutcome}
-use Rattle.refusals.specs.Outcome.{Outcome, refused, accepted, Line, line, judged}
+use Rattle.refusals.specs.Outcome.{Outcome, accepted, Line, line, judged}
 use Rattle.refusals.specs.Table.{unequal, badKnotCount, badKnot, badKnotsAfter, badKnots, badTime}
 use Rattle.refusals.specs.Places.{placed}
 use Rattle.refusals.proofs.Judging.{none-is, passed}

@@ -1,6 +1,6 @@
 -- `curves::curve::all_in_order` meets its contract: the first time, the first rate, the last time, and then the others. Assumes nothing.
-use mathlib.Core.Path.{_≡_, sym, ap, _∙_}
-use lib.Ieee.{Float, lt}
+use mathlib.Core.Path.{sym, ap, _∙_}
+use lib.Ieee.{lt}
 use borrow.Author.Tests.{not-false}
 use borrow.Author.Needs.{needs}
 use Rattle.numbers.proofs.Comparing.{clash}

@@ -6,7 +6,7 @@ use native.Mathlib.Numerals.{add-one}
 use native.Mathlib.Omega.{arith}
 use lib.ListN.{length, length-set, getD, take}
 use lib.Seq.{length-take-le}
-use lib.Ieee.{Float, nan}
+use lib.Ieee.{nan}
 use borrow.Author.Needs.{needs}
 use Rattle.elementary.proofs.PartWay.{Passed, none-passed, as-it-was, one-passed, all-passed}
 use Rattle.curves.specs.Segments.{Ends, endsOf, flatOutside, Rising}

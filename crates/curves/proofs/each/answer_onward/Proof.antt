@@ -1,6 +1,6 @@
 -- `curves::each::answer_onward` meets its contract: the times passed have given way to their answers, and the last of them is past the segments before the one in hand. Assumes nothing.
 use mathlib.Core.Path.{_≡_, refl, sym, ap, _∙_, subst}
-use Prim.Native.Nat.{ℕ, _-_, _≤_}
+use Prim.Native.Nat.{_-_, _≤_}
 use native.Mathlib.Omega.{arith}
 use lib.ListN.{length, length-set, getD}
 use lib.Ieee.{Float, nan}
