@@ -1,19 +1,22 @@
 #!/bin/sh
-# The functions over a lent list of dated amounts, run: a program that lends lists of flows to `pv_of`, `z_spread_of` and `duration_convexity_of`, and
-# the same flows as two lists to the functions over two, on the interpreter and compiled three ways. What it should write is worked out below, by
-# document 01's steps in Python's own floats, and stands in the program's file stdout.
+# The functions over a lent list of dated amounts, run: programs that lend lists of flows to `pv_of`, `z_spread_of` and `duration_convexity_of`, and
+# the same flows as two lists to the functions over two, on the interpreter and compiled three ways. What they should write is worked out below, by
+# document 01's steps in Python's own floats, and stands in each program's file stdout. Few flows and many are two programs, since the interpreter
+# ends a run after ten million steps.
 set -eu
 cd "$(dirname "$0")/.."
 room=$(mktemp -d)
 trap 'rm -rf "$room"' EXIT
-mkdir -p "$room/crates/dated_run/src"
+mkdir "$room/crates"
 for crate in spread_analytics $(sed -n 's/^spread_analytics://p' crates.txt); do
     cp -R "crates/$crate" "$room/crates/"
     grep "^$crate:" crates.txt >>"$room/crates.txt"
 done
-echo "dated_run: spread_analytics curves refusals numbers io libc" >>"$room/crates.txt"
+for program in few many; do
+    echo "$program: spread_analytics curves refusals numbers io libc" >>"$room/crates.txt"
+done
 
-cat >"$room/crates/dated_run/src/main.rt" <<'END'
+cat >"$room/asking.rt" <<'END'
 // Flows as one list of dated amounts and as two lists, over a curve: for each function a line for either.
 use libc::STDOUT_FILENO;
 use numbers::sizes::infinity;
@@ -136,7 +139,7 @@ fn many(count: usize, tenors: &[f64], rates: &[f64], points: f64, market: f64) {
 fn main() {
 END
 
-cases=$(python3 - "$room/crates/dated_run" <<'END'
+cases=$(python3 - "$room" <<'END'
 import math
 import pathlib
 import struct
@@ -278,20 +281,31 @@ MANY = [
     (1201, [1.0, 2.0], [0.03], 40.0, 60000.0),
 ]
 
-program = pathlib.Path(sys.argv[1])
-with open(program / "src/main.rt", "a") as main, open(program / "stdout", "w") as wanted:
-    for flows, *asked in FEW:
-        dated = ", ".join("CashFlow { time: %s, amount: %s }" % (text(t), text(a)) for t, a in flows)
-        main.write("    ask(&[%s], %s, %s, %s, %s);\n" % (dated, *map(texts, asked[:2]), *map(text, asked[2:])))
-        wanted.writelines(lines(flows, *asked))
-    for count, *asked in MANY:
-        main.write("    many(%d, %s, %s, %s, %s);\n" % (count, *map(texts, asked[:2]), *map(text, asked[2:])))
-        wanted.writelines(lines([((i + 1) / 12.0, i + 1.0) for i in range(count)], *asked))
-    main.write("}\n")
+def few(flows, *asked):
+    dated = ", ".join("CashFlow { time: %s, amount: %s }" % (text(t), text(a)) for t, a in flows)
+    return "    ask(&[%s], %s, %s, %s, %s);\n" % (dated, *map(texts, asked[:2]), *map(text, asked[2:])), lines(flows, *asked)
+
+
+def many(count, *asked):
+    call = "    many(%d, %s, %s, %s, %s);\n" % (count, *map(texts, asked[:2]), *map(text, asked[2:]))
+    return call, lines([((i + 1) / 12.0, i + 1.0) for i in range(count)], *asked)
+
+
+room = pathlib.Path(sys.argv[1])
+for name, case, cases in ("few", few, FEW), ("many", many, MANY):
+    program = room / "crates" / name
+    (program / "src").mkdir(parents=True)
+    with open(program / "src/main.rt", "w") as main, open(program / "stdout", "w") as wanted:
+        main.write((room / "asking.rt").read_text())
+        for asked in cases:
+            call, answers = case(*asked)
+            main.write(call)
+            wanted.writelines(answers)
+        main.write("}\n")
 print(len(FEW) + len(MANY))
 END
 )
-(cd "$room" && rt try dated_run) >"$room/said" 2>&1 || {
+(cd "$room" && rt try few && rt try many) >"$room/said" 2>&1 || {
     cat "$room/said" >&2
     echo "dated: the functions over dated flows gave something else" >&2
     exit 1
