@@ -131,20 +131,20 @@ static void straight_lines(void) {
     IS(forward(2, 2 + 1e-13), 0.5);
 }
 
-/* y0 + w·(y1-y0); where t is an inner knot the segment that ends there serves, with w = 1. */
+/* y0 + w·(y1-y0). */
+static double along_yields(double t0, double t1, double rate0, double rate1, double t) {
+    return rate0 + (t - t0) / (t1 - t0) * (rate1 - rate0);
+}
+
+/* Where t is an inner knot the segment that ends there serves, with w = 1. */
 static void random_lines(void) {
     for (int i = 0; i < 2000; i++) {
         struct segments s = set_random_segments();
-        double w = (s.inside - s.t0) / (s.t1 - s.t0);
-        double rate = s.rate0 + w * (s.rate1 - s.rate0);
+        double rate = along_yields(s.t0, s.t1, s.rate0, s.rate1, s.inside);
         IS(at(call_linear_interpolate, s.inside), rate);
         IS(at(call_linear_interpolate, s.t1), s.rate0 + (s.rate1 - s.rate0));
         IS(at(call_yield_curve_discount_factor, s.inside), senyolanda_exp_of(-rate * s.inside));
     }
-}
-
-static double along_yields(double t0, double t1, double rate0, double rate1, double t) {
-    return rate0 + (t - t0) / (t1 - t0) * (rate1 - rate0);
 }
 
 static void splines(void) {

@@ -252,15 +252,16 @@ static double pv_at(double points) {
     return NUMBER_OF(call_pv_cash_flows);
 }
 
-/* r0 + (r1-r0)·(t-t0)/(t1-t0), left to right; where t is an inner knot the segment that starts there serves. */
+/* r0 + (r1-r0)·(t-t0)/(t1-t0), left to right. */
 static double along_rates(double t0, double t1, double rate0, double rate1, double t) {
     return rate0 + (rate1 - rate0) * (t - t0) / (t1 - t0);
 }
 
+/* Where t is an inner knot the segment that starts there serves. */
 static void random_lines(call *called) {
     for (int i = 0; i < 2000; i++) {
         struct segments s = set_random_segments();
-        IS(at(called, s.inside), s.rate0 + (s.rate1 - s.rate0) * (s.inside - s.t0) / (s.t1 - s.t0));
+        IS(at(called, s.inside), along_rates(s.t0, s.t1, s.rate0, s.rate1, s.inside));
         IS(at(called, s.t1), s.rate1);
         IS(at(called, s.t0 - 1), s.rate0);
         IS(at(called, s.t2 + 1), s.rate2);
@@ -284,7 +285,7 @@ static void rate_curves(void) {
 static void discounting(void) {
     for (int i = 0; i < 2000; i++) {
         struct segments s = set_random_segments();
-        double rate = s.rate0 + (s.rate1 - s.rate0) * (s.inside - s.t0) / (s.t1 - s.t0), amount = 10;
+        double rate = along_rates(s.t0, s.t1, s.rate0, s.rate1, s.inside), amount = 10;
         IS(at(call_zero_curve_discount_factor, s.inside), senyolanda_exp_of(-rate * s.inside));
         set_flows(1, &s.inside, &amount);
         IS(pv_at(50), 10 * senyolanda_exp_of(-(rate + 50.0 / 10000) * s.inside));

@@ -196,17 +196,17 @@ static void discounting(void) {
     IS(at(call_discount_curve_factor, -2), 1);
 }
 
+/* z0·(1-w) + z1·w. */
 static double along_zeros(double t0, double t1, double rate0, double rate1, double t) {
     double w = (t - t0) / (t1 - t0);
     return rate0 * (1 - w) + rate1 * w;
 }
 
-/* z0·(1-w) + z1·w; where t is an inner knot the segment that ends there serves, with w = 1. */
+/* Where t is an inner knot the segment that ends there serves, with w = 1. */
 static void random_lines(void) {
     for (int i = 0; i < 2000; i++) {
         struct segments s = set_random_segments();
-        double w = (s.inside - s.t0) / (s.t1 - s.t0);
-        double rate = s.rate0 * (1 - w) + s.rate1 * w;
+        double rate = along_zeros(s.t0, s.t1, s.rate0, s.rate1, s.inside);
         IS(at(call_discount_curve_rate, s.inside), rate);
         IS(at(call_discount_curve_rate, s.t1), s.rate0 * 0 + s.rate1);
         IS(at(call_discount_curve_factor, s.inside), senyolanda_exp_of(-rate * s.inside));

@@ -2,9 +2,10 @@
 use mathlib.Core.Path.{_≡_, sym, ap, _∙_}
 use mathlib.Core.Bool.{Bool, true, false, cond}
 use mathlib.Core.List.{List}
-use Prim.Native.Nat.{ℕ, suc}
+use Prim.Native.Nat.{ℕ}
 use lib.Ieee.{Float, le}
 use Rattle.curves.specs.Segments.{knot, lastOf, flatOutside, endsOf}
+use Rattle.curves.specs.inner.Kinds.{EndsAre}
 
 module _ (times rates : List Float) (t between : Float) (first : Float) (is-first : first ≡ knot times 0) where
   abbrev after : Float
@@ -29,8 +30,7 @@ module _ (times rates : List Float) (t between : Float) (first : Float) (is-firs
     inside r e g = e ∙ at false g
 
 -- the ends that were read are the segment's
-pub ends-are : (times rates : List Float) (i : ℕ) (a b c d : Float) → (a ≡ knot times i) × (b ≡ knot times (suc i)) × (c ≡ knot rates i) × (d ≡ knot rates (suc i))
-    → record { t0 = a; t1 = b; r0 = c; r1 = d } ≡ endsOf times rates i
+pub ends-are : (times rates : List Float) (i : ℕ) (a b c d : Float) → EndsAre times rates i a b c d → record { t0 = a; t1 = b; r0 = c; r1 = d } ≡ endsOf times rates i
 ends-are times rates i a b c d h = rw (h .0, h .1, h .2, h .3)
 
 -- by what was read of the first and the last knot

@@ -1,4 +1,4 @@
-// The first segment that a time is before the end of: at an inner knot, the one that starts there. Found by halving, on times that rise; nothing but the end of it is decided by a jump.
+// The first segment that a time is before the end of: at an inner knot, the one that starts there. Found by halving, on times that rise, where nothing but the end is decided by a jump; or gone on to from an earlier one.
 ghost use mathlib.Core.Path.{_≡_};
 ghost use mathlib.Core.List.{map};
 ghost use Prim.Native.Nat.{ℕ, _+_, _<_};
