@@ -80,6 +80,10 @@ tooManyLoans n = ltb 64 n
 unfoldable pub badFrequency : ℕ → Bool
 badFrequency n = eqb n 0 || ltb 365 n
 
+-- "also for a dated frequency that does not divide 12" (document 02, K3)
+unfoldable pub badDatedFrequency : ℕ → Bool
+badDatedFrequency n = badFrequency n || not (eqb (12 % n) 0)
+
 -- ---- 9: "a market price, yield, coupon, closing cost, flow amount or swap rate is not finite"
 unfoldable pub badNumber : Float → Bool
 badNumber x = not (finite x)
@@ -116,3 +120,10 @@ noBreakEven saving month term = le saving plusZero || ltb term month
 -- ---- 14: "a year (from 1) with no row drawn" (document 02, K1): the year, and how many years the rows drawn have begun
 unfoldable pub noRowDrawn : ℕ → ℕ → Bool
 noRowDrawn year begun = eqb year 0 || ltb begun year
+
+-- ---- 15: "no such date or the second not after the first" (document 02, K3): whether a date is one; of two, whether each is one and whether the second is after the first
+unfoldable pub noSuchDate : Bool → Bool
+noSuchDate isDate = not isDate
+
+unfoldable pub badDates : Bool → Bool → Bool → Bool
+badDates first second after = noSuchDate (first && second) || not after

@@ -1,0 +1,6 @@
+pub mod Calendar
+pub mod DayNumbers
+pub mod Counts
+pub mod Months
+pub mod Periods
+pub mod Answers

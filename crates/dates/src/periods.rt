@@ -1,0 +1,83 @@
+// Periods of so many months between two dates: how many there are, and where each ends.
+ghost use mathlib.Core.Path.{_≡_};
+ghost use mathlib.Core.Bool.{true};
+ghost use Prim.Native.Nat.{_-_};
+ghost use Rattle.dates.specs.DayNumbers.{dayNumber};
+ghost use Rattle.dates.specs.Months.{monthIndex};
+ghost use Rattle.dates.specs.Periods.{isSpan, bound, periodCount};
+use crate::Date;
+use crate::calendar::is_after;
+use crate::day_numbers::number_of;
+use crate::months::day_in_month;
+use crate::months::month_index;
+
+// Two dates, and the months of a period.
+pub struct Span {
+    pub first: Date,
+    pub second: Date,
+    pub step: u32,
+}
+
+// A date with its day number.
+pub struct Numbered {
+    pub date: Date,
+    pub number: u32,
+}
+
+// The index of December 2199.
+const LAST_MONTH: u64 = 26399;
+
+// Where period i ends, counted from 1. Its month is looked at first: one after 2199 is past the second date, and there may be no such date.
+fn bound_date(span: Span, i: u32) -> Date
+    ensures { λ r. ⌜ (isSpan span ≡ true → r ≡ bound span i) ⌝ }
+{
+    let index = month_index(span.first) as u64 + (i as u64) * (span.step as u64);
+    if index > LAST_MONTH {
+        return span.second;
+    }
+    let uncut = day_in_month(index as u32, span.first.day);
+    if is_after(uncut, span.second) {
+        uncut
+    } else {
+        span.second
+    }
+}
+
+// The same with its day number.
+pub fn bound_at(span: Span, i: u32) -> Numbered
+    ensures { λ r. ⌜ (isSpan span ≡ true → (r .date ≡ bound span i) × (r .number ≡ dayNumber (bound span i))) ⌝ }
+{
+    let date = bound_date(span, i);
+    Numbered {
+        date,
+        number: number_of(date),
+    }
+}
+
+// The months from the month of one date to that of another, 0 where it is not later.
+fn months_between(first: Date, second: Date) -> u32
+    ensures { λ r. ⌜ r ≡ monthIndex second - monthIndex first ⌝ }
+{
+    let from = month_index(first);
+    let to = month_index(second);
+    if to < from { 0 } else { to - from }
+}
+
+// How many periods: as many as are over before the second date, and the one that ends there.
+pub fn period_count(span: Span) -> u32
+    ensures { λ r. ⌜ (isSpan span ≡ true → r ≡ periodCount span) ⌝ }
+{
+    if span.step == 0 {
+        return 0;
+    }
+    let whole = months_between(span.first, span.second) / span.step;
+    let index = month_index(span.first) as u64 + (whole as u64) * (span.step as u64);
+    if index > LAST_MONTH {
+        return whole;
+    }
+    if is_after(day_in_month(index as u32, span.first.day), span.second) {
+        whole + 1
+    } else {
+        whole
+    }
+}
