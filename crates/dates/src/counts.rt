@@ -1,10 +1,11 @@
 // The days from one date to a later one: actual days, and 30/360 by the bond basis.
 ghost use mathlib.Core.Path.{_≡_};
+ghost use mathlib.Core.Bool.{true};
 ghost use Prim.Native.Nat.{_-_};
 ghost use Rattle.refusals.specs.Answers.{countOutcome};
 ghost use Rattle.refusals.specs.Table.{badDates};
 ghost use Rattle.dates.specs.Calendar.{isDate, isAfter};
-ghost use Rattle.dates.specs.Counts.{firstDay, secondDay, thirtyDays};
+ghost use Rattle.dates.specs.Counts.{actualDays, firstDay, secondDay, thirtyDays};
 ghost use Rattle.dates.specs.Answers.{actualDaysOf, thirtyDaysOf};
 use crate::Date;
 use crate::calendar::is_after;
@@ -55,6 +56,13 @@ fn second_day(first: Date, second: Date) -> u32
     second.day as u32
 }
 
+// The actual days of two dates, 0 where the second is not later.
+pub fn actual_days(first: Date, second: Date) -> u32
+    ensures { λ r. ⌜ (isDate first ≡ true → isDate second ≡ true → r ≡ actualDays first second) ⌝ }
+{
+    less(number_of(second), number_of(first))
+}
+
 // The 30/360 count of any two dates, 0 where the second is not later.
 pub fn thirty_days(first: Date, second: Date) -> u32
     ensures { λ r. ⌜ r ≡ thirtyDays first second ⌝ }
@@ -72,7 +80,7 @@ pub fn actual_days_between(first: Date, second: Date) -> Count
     if bad_dates(first, second) {
         return Count::Refused(refuse(15));
     }
-    Count::Given(less(number_of(second), number_of(first)))
+    Count::Given(actual_days(first, second))
 }
 
 // The 30/360 count between two dates.

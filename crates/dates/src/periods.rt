@@ -27,27 +27,25 @@ pub struct Numbered {
 // The index of December 2199.
 const LAST_MONTH: u64 = 26399;
 
-// Where period i ends, counted from 1. Its month is looked at first: one after 2199 is past the second date, and there may be no such date.
-fn bound_date(span: Span, i: u32) -> Date
-    ensures { λ r. ⌜ (isSpan span ≡ true → r ≡ bound span i) ⌝ }
+// Where period i of so many ends, counted from 1: the last, and there may be no such date without it, at the second date.
+fn bound_date(span: Span, count: u32, i: u32) -> Date
+    ensures { λ r. ⌜ (isSpan span ≡ true → count ≡ periodCount span → r ≡ bound span i) ⌝ }
 {
+    if i >= count {
+        return span.second;
+    }
     let index = month_index(span.first) as u64 + (i as u64) * (span.step as u64);
     if index > LAST_MONTH {
         return span.second;
     }
-    let uncut = day_in_month(index as u32, span.first.day);
-    if is_after(uncut, span.second) {
-        uncut
-    } else {
-        span.second
-    }
+    day_in_month(index as u32, span.first.day)
 }
 
 // The same with its day number.
-pub fn bound_at(span: Span, i: u32) -> Numbered
-    ensures { λ r. ⌜ (isSpan span ≡ true → (r .date ≡ bound span i) × (r .number ≡ dayNumber (bound span i))) ⌝ }
+pub fn bound_at(span: Span, count: u32, i: u32) -> Numbered
+    ensures { λ r. ⌜ (isSpan span ≡ true → count ≡ periodCount span → (r .date ≡ bound span i) × (r .number ≡ dayNumber (bound span i))) ⌝ }
 {
-    let date = bound_date(span, i);
+    let date = bound_date(span, count, i);
     Numbered {
         date,
         number: number_of(date),

@@ -4,6 +4,8 @@ pub mod Discount
 pub mod Bootstrap
 pub mod Bootstrapped
 pub mod Swap
+pub mod DatedSwap
+pub mod Periods
 pub mod Legs
 pub mod Valuation
 pub mod inner

@@ -1,4 +1,3 @@
 -- What the helpers of this crate promise one another, and no public function: nothing here need be believed.
-pub mod LegSums
 pub mod Runs
 pub mod Knots

@@ -1,13 +1,19 @@
-// What every function over a swap and a curve asks first.
+// What every function over a swap and a curve asks first, of undated swaps and of dated ones.
 ghost use mathlib.Core.Path.{_≡_};
 ghost use mathlib.Core.Bool.{_||_};
 ghost use mathlib.Core.List.{[], _∷_};
 ghost use Rattle.refusals.specs.Outcome.{line, judged};
 ghost use Rattle.refusals.specs.Answers.{verdictOutcome};
-ghost use Rattle.refusals.specs.Table.{badTime, tooManyPeriods, badFrequency, badNumber};
+ghost use Rattle.refusals.specs.Table.{badTime, tooManyPeriods, badFrequency, badDatedFrequency, badNumber};
 ghost use Rattle.swaps.specs.Swap.{payments, swapLines};
+ghost use Rattle.swaps.specs.DatedSwap.{tooManyDated, uncodedDatedLines, datedLines};
+ghost use Rattle.swaps.specs.Periods.{linesOf};
+use crate::AnySwap;
+use crate::DatedSwap;
 use crate::Swap;
+use crate::dated_periods::period_count;
 use crate::periods::payments;
+use dates::counts::bad_dates;
 use refusals::Verdict;
 use refusals::refuse;
 
@@ -57,5 +63,80 @@ pub fn judge_swap(swap: Swap, tenors: &[f64], zeros: &[f64]) -> Verdict
     match curves::curve::judge_curve(tenors, zeros) {
         Verdict::Refused(refusal) => Verdict::Refused(refusal),
         Verdict::Accepted => judge_terms(swap),
+    }
+}
+
+// Line 8, of a dated swap also: a frequency that does not divide 12.
+fn bad_dated_frequency(frequency: u32) -> bool
+    ensures { λ r. ⌜ r ≡ badDatedFrequency frequency ⌝ }
+{
+    if bad_frequency(frequency) {
+        return true;
+    }
+    12 % frequency != 0
+}
+
+// Line 7 of a dated swap: more than 1,200 periods, where its frequency and its dates make any.
+fn too_many_dated(swap: DatedSwap) -> bool
+    ensures { λ r. ⌜ r ≡ tooManyDated swap ⌝ }
+{
+    if bad_dated_frequency(swap.frequency) {
+        return false;
+    }
+    if bad_dates(swap.first, swap.second) {
+        return false;
+    }
+    period_count(swap) > 1200
+}
+
+// Lines 7, 8 and 9, of a dated swap alone.
+fn judge_dated_terms(swap: DatedSwap) -> Verdict
+    ensures { λ r. ⌜ verdictOutcome r ≡ judged (line 7 (tooManyDated swap) ∷ line 8 (badDatedFrequency (swap .frequency)) ∷ line 9 (badNumber (swap .«fixed_rate»)) ∷ []) tt ⌝ }
+{
+    if too_many_dated(swap) {
+        return Verdict::Refused(refuse(7));
+    }
+    if bad_dated_frequency(swap.frequency) {
+        return Verdict::Refused(refuse(8));
+    }
+    if refusals::bad_number(swap.fixed_rate) {
+        return Verdict::Refused(refuse(9));
+    }
+    Verdict::Accepted
+}
+
+// All lines of a dated swap but 15.
+pub fn judge_but_dates(swap: DatedSwap, tenors: &[f64], zeros: &[f64]) -> Verdict
+    ensures { λ r. ⌜ verdictOutcome r ≡ judged (uncodedDatedLines swap (now (tenors .entry)) (now (zeros .entry))) tt ⌝ }
+{
+    if refusals::bad_amount(swap.notional) {
+        return Verdict::Refused(refuse(1));
+    }
+    match curves::curve::judge_curve(tenors, zeros) {
+        Verdict::Refused(refusal) => Verdict::Refused(refusal),
+        Verdict::Accepted => judge_dated_terms(swap),
+    }
+}
+
+fn judge_dated(swap: DatedSwap, tenors: &[f64], zeros: &[f64]) -> Verdict
+    ensures { λ r. ⌜ verdictOutcome r ≡ judged (datedLines swap (now (tenors .entry)) (now (zeros .entry))) tt ⌝ }
+{
+    match judge_but_dates(swap, tenors, zeros) {
+        Verdict::Refused(refusal) => Verdict::Refused(refusal),
+        Verdict::Accepted => {
+            if bad_dates(swap.first, swap.second) {
+                return Verdict::Refused(refuse(15));
+            }
+            Verdict::Accepted
+        }
+    }
+}
+
+pub fn judge_any(swap: AnySwap, tenors: &[f64], zeros: &[f64]) -> Verdict
+    ensures { λ r. ⌜ verdictOutcome r ≡ judged (linesOf swap (now (tenors .entry)) (now (zeros .entry))) tt ⌝ }
+{
+    match swap {
+        AnySwap::Undated(undated) => judge_swap(undated, tenors, zeros),
+        AnySwap::Dated(dated) => judge_dated(dated, tenors, zeros),
     }
 }

@@ -1,30 +1,32 @@
-// The two legs of a swap and the sums that all its values are made of, each discount factor worked out once.
+// The two legs of a swap of either kind and the sums that all its values are made of, each discount factor worked out once.
 ghost use mathlib.Core.Path.{_≡_};
+ghost use mathlib.Core.Bool.{cond};
 ghost use mathlib.Core.List.{List};
-ghost use Prim.Native.Nat.{_+_, _<_, _≤_};
+ghost use Prim.Native.Nat.{ℕ, _+_, _<_, _≤_};
 ghost use lib.ListN.{length};
-ghost use lib.Ieee.{Float};
+ghost use lib.Ieee.{Float, eq};
+ghost use Rattle.numbers.specs.Literals.{one};
+ghost use Rattle.numbers.specs.Clamps.{plusZero};
 ghost use Rattle.refusals.specs.Answers.{numberOutcome};
 ghost use Rattle.curves.specs.Segments.{Rising};
-ghost use Rattle.swaps.specs.Legs.{lastFactor, fixedLeg, floatingLeg, weightedSum};
-ghost use Rattle.swaps.specs.inner.LegSums.{annuity};
-ghost use Rattle.swaps.specs.inner.Runs.{FactorsAfter, Summed};
-ghost use Rattle.swaps.specs.Swap.{payments, period};
+ghost use Rattle.swaps.specs.Periods.{Terms, termsOf};
 ghost use Rattle.swaps.specs.Valuation.{fixedLegPv, floatingLegPv};
-use crate::Swap;
+ghost use Rattle.swaps.specs.inner.Runs.{HasPeriods, Listed, FactorsOf, Summed, SummedOnBoth, LegsOn};
+use crate::AnySwap;
 use crate::discount::discount_of;
-use crate::judging::judge_swap;
-use crate::periods::fixed_payment;
-use crate::periods::fraction;
-use crate::periods::payments;
-use crate::periods::period;
+use crate::judging::judge_any;
+use crate::runs::put_periods;
+use crate::terms::end;
+use crate::terms::fixed_rate;
+use crate::terms::notional;
+use crate::terms::period_count;
+use curves::each::discounts_onward;
 use curves::kinds::Kind;
-use curves::runs::factors_after;
 use refusals::Number;
 use refusals::Verdict;
 
-// The sums over payments, without the notional: of the fixed leg, of the floating leg, of the discount factors in fractions of a year,
-// and of the fixed leg with each payment times its date; and the discount factor of the last of them.
+// The sums over periods, without the notional: of the fixed leg, of the floating leg, of the discount factors in fractions of a year,
+// and of the fixed leg with each payment times its date; and the discount factor at the end of the last of them.
 pub struct PaymentSums {
     pub fixed: f64,
     pub floating: f64,
@@ -33,34 +35,39 @@ pub struct PaymentSums {
     pub last: f64,
 }
 
-// So many payments after the first ones, whose discount factors are at hand, added one by one.
+// An amount, or 0 where its period counts no day.
+fn counted(part: f64, amount: f64) -> f64
+    ensures { λ r. ⌜ r ≡ cond (eq part plusZero) plusZero amount ⌝ }
+{
+    if part == 0.0 { 0.0 } else { amount }
+}
+
+// So many periods, whose times, fractions and discount factors are at hand, added one by one.
 fn add_payments(
-    swap: Swap,
+    notional: f64,
+    rate: f64,
     sums: PaymentSums,
-    first: u32,
+    times: &[f64],
+    fractions: &[f64],
     factors: &[f64],
     count: usize,
 ) -> PaymentSums
-    requires { ⌜ (count ≤ length (now factors)) × (first + count < 4294967296) ⌝ }
-    ensures { λ r. ⌜ ((tenors zeros : List Float) → FactorsAfter (period swap) tenors zeros first count (now (factors .entry)) → Summed swap tenors zeros first sums
-        → Summed swap tenors zeros (first + count) r) ⌝ }
+    requires { ⌜ (count ≤ length (now times)) × (count ≤ length (now fractions)) × (count ≤ length (now factors)) ⌝ }
+    ensures { λ r. ⌜ ((t : Terms) (tenors zeros : List Float) (first : ℕ) → notional ≡ t .notional → rate ≡ t .rate → Listed (t .periods) first count (now (times .entry)) (now (fractions .entry)) → FactorsOf t tenors zeros first count (now (factors .entry)) → Summed t tenors zeros first sums → Summed t tenors zeros (first + count) r) ⌝ }
 {
-    let dt = period(swap);
-    let part = fraction(swap);
-    let payment = fixed_payment(swap);
+    let yearly = notional * rate;
     let mut added = sums;
-    let mut k = first;
     let mut j: usize = 0;
     while j < count {
-        k += 1;
-        let date = k as f64 * dt;
+        let part = fractions[j];
         let factor = factors[j];
+        let payment = yearly * part;
         let forward = (added.last / factor - 1.0) / part;
         added = PaymentSums {
-            fixed: added.fixed + payment * factor,
-            floating: added.floating + swap.notional * forward * part * factor,
-            annuity: added.annuity + factor * part,
-            timed: added.timed + date * payment * factor,
+            fixed: added.fixed + counted(part, payment * factor),
+            floating: added.floating + counted(part, notional * forward * part * factor),
+            annuity: added.annuity + counted(part, factor * part),
+            timed: added.timed + counted(part, times[j] * payment * factor),
             last: factor,
         };
         j += 1;
@@ -68,51 +75,114 @@ fn add_payments(
     added
 }
 
-// At most 64 payments after the first ones.
-fn add_run(
-    swap: Swap,
+// So many periods, whose times and fractions are at hand, on a curve.
+fn add_on(
+    swap: AnySwap,
     tenors: &[f64],
     zeros: &[f64],
+    times: [f64; 64],
+    fractions: &[f64],
     sums: PaymentSums,
-    first: u32,
     count: usize,
 ) -> PaymentSums
-    requires { ⌜ (count ≤ 64) × (first + count < 4294967296) × Rising (now tenors) × Summed swap (now tenors) (now zeros) first sums ⌝ }
-    ensures { λ r. ⌜ Summed swap (now (tenors .entry)) (now (zeros .entry)) (first + count) r ⌝ }
+    requires { ⌜ (count ≤ 64) × Rising (now tenors) × (length times ≡ 64) × (length (now fractions) ≡ 64) ⌝ }
+    ensures { λ r. ⌜ ((first : ℕ) → Listed (termsOf swap .periods) first count times (now (fractions .entry)) → Summed (termsOf swap) (now (tenors .entry)) (now (zeros .entry)) first sums → Summed (termsOf swap) (now (tenors .entry)) (now (zeros .entry)) (first + count) r) ⌝ }
 {
-    let factors = factors_after(
-        Kind::DiscountCurve,
-        period(swap),
-        tenors,
-        zeros,
-        first,
+    let mut factors = times;
+    discounts_onward(Kind::DiscountCurve, tenors, zeros, &mut factors[..count]);
+    add_payments(
+        notional(swap),
+        fixed_rate(swap),
+        sums,
+        &times,
+        fractions,
+        &factors,
         count,
-    );
-    add_payments(swap, sums, first, &factors, count)
+    )
 }
 
-// All payments, 64 at a time.
-fn payment_sums(swap: Swap, tenors: &[f64], zeros: &[f64]) -> PaymentSums
-    requires { ⌜ Rising (now tenors) ⌝ }
-    ensures { λ r. ⌜ Summed swap (now (tenors .entry)) (now (zeros .entry)) (payments swap) r ⌝ }
+// The sums on a curve, and on another with the same tenors where that is asked for too.
+pub struct BothSums {
+    pub base: PaymentSums,
+    pub higher: PaymentSums,
+}
+
+// At most 64 periods after the first ones: each is worked out once for both curves.
+fn add_run(
+    swap: AnySwap,
+    tenors: &[f64],
+    zeros: &[f64],
+    higher: &[f64],
+    both: bool,
+    sums: BothSums,
+    first: u32,
+    count: usize,
+) -> BothSums
+    requires { ⌜ (count ≤ 64) × Rising (now tenors) × HasPeriods swap × (first + count ≤ termsOf swap .periods .count) × (termsOf swap .periods .count < 4294967296) × SummedOnBoth (termsOf swap) (now tenors) (now zeros) (now higher) both first sums ⌝ }
+    ensures { λ r. ⌜ SummedOnBoth (termsOf swap) (now (tenors .entry)) (now (zeros .entry)) (now (higher .entry)) both (first + count) r ⌝ }
 {
-    let count = payments(swap);
-    let mut sums = PaymentSums {
+    let mut times = [0.0; 64];
+    let mut fractions = [0.0; 64];
+    put_periods(swap, first, &mut times[..count], &mut fractions[..count]);
+    let base = add_on(swap, tenors, zeros, times, &fractions, sums.base, count);
+    if both {
+        return BothSums {
+            base,
+            higher: add_on(swap, tenors, higher, times, &fractions, sums.higher, count),
+        };
+    }
+    BothSums {
+        base,
+        higher: sums.higher,
+    }
+}
+
+fn no_payments() -> PaymentSums
+    ensures { λ r. ⌜ r ≡ record { fixed = plusZero; floating = plusZero; annuity = plusZero; timed = plusZero; last = one } ⌝ }
+{
+    PaymentSums {
         fixed: 0.0,
         floating: 0.0,
         annuity: 0.0,
         timed: 0.0,
         last: 1.0,
+    }
+}
+
+// All periods, 64 at a time.
+fn payment_sums(
+    swap: AnySwap,
+    tenors: &[f64],
+    zeros: &[f64],
+    higher: &[f64],
+    both: bool,
+) -> BothSums
+    requires { ⌜ Rising (now tenors) × HasPeriods swap ⌝ }
+    ensures { λ r. ⌜ SummedOnBoth (termsOf swap) (now (tenors .entry)) (now (zeros .entry)) (now (higher .entry)) both (termsOf swap .periods .count) r ⌝ }
+{
+    let count = period_count(swap);
+    let mut sums = BothSums {
+        base: no_payments(),
+        higher: no_payments(),
     };
     let mut k: u32 = 0;
     while count - k >= 64 {
-        sums = add_run(swap, tenors, zeros, sums, k, 64);
+        sums = add_run(swap, tenors, zeros, higher, both, sums, k, 64);
         k += 64;
     }
-    add_run(swap, tenors, zeros, sums, k, (count - k) as usize)
+    add_run(
+        swap,
+        tenors,
+        zeros,
+        higher,
+        both,
+        sums,
+        k,
+        (count - k) as usize,
+    )
 }
 
-// The legs, with the notional at the tenor; the annuity; the fixed leg with each amount times its date; and the discount factor of the tenor.
+// The legs, with the notional at the end; the annuity; the fixed leg with each amount times its date; and the discount factor at the end.
 pub struct Legs {
     pub fixed: f64,
     pub floating: f64,
@@ -121,26 +191,53 @@ pub struct Legs {
     pub last: f64,
 }
 
-// The legs, whatever the swap and the zero rates are.
-pub(crate) fn legs_of(swap: Swap, tenors: &[f64], zeros: &[f64]) -> Legs
-    requires { ⌜ Rising (now tenors) ⌝ }
-    ensures { λ r. ⌜ (r .fixed ≡ fixedLeg swap (now (tenors .entry)) (now (zeros .entry))) × (r .floating ≡ floatingLeg swap (now (tenors .entry)) (now (zeros .entry))) × (r .annuity ≡ annuity swap (now (tenors .entry)) (now (zeros .entry))) × (r .weighted ≡ weightedSum swap (now (tenors .entry)) (now (zeros .entry))) × (r .last ≡ lastFactor swap (now (tenors .entry)) (now (zeros .entry))) ⌝ }
+// The legs that sums over all periods make.
+fn legs_with(swap: AnySwap, tenors: &[f64], zeros: &[f64], sums: PaymentSums) -> Legs
+    requires { ⌜ Rising (now tenors) × HasPeriods swap × Summed (termsOf swap) (now tenors) (now zeros) (termsOf swap .periods .count) sums ⌝ }
+    ensures { λ r. ⌜ LegsOn (termsOf swap) (now (tenors .entry)) (now (zeros .entry)) r ⌝ }
 {
-    let sums = payment_sums(swap, tenors, zeros);
-    let last = discount_of(tenors, zeros, swap.tenor);
+    let principal = notional(swap);
+    let time = end(swap);
+    let last = discount_of(tenors, zeros, time);
     Legs {
-        fixed: sums.fixed + swap.notional * last,
-        floating: sums.floating + swap.notional * last,
+        fixed: sums.fixed + principal * last,
+        floating: sums.floating + principal * last,
         annuity: sums.annuity,
-        weighted: sums.timed + swap.tenor * swap.notional * last,
+        weighted: sums.timed + time * principal * last,
         last,
     }
 }
 
-pub fn fixed_leg_pv(swap: Swap, tenors: &[f64], zeros: &[f64]) -> Number
+// The legs of a swap, whatever the zero rates are.
+pub(crate) fn legs_of(swap: AnySwap, tenors: &[f64], zeros: &[f64]) -> Legs
+    requires { ⌜ Rising (now tenors) × HasPeriods swap ⌝ }
+    ensures { λ r. ⌜ LegsOn (termsOf swap) (now (tenors .entry)) (now (zeros .entry)) r ⌝ }
+{
+    let sums = payment_sums(swap, tenors, zeros, zeros, false);
+    legs_with(swap, tenors, zeros, sums.base)
+}
+
+// The legs on two curves with the same tenors.
+pub struct BothLegs {
+    pub base: Legs,
+    pub higher: Legs,
+}
+
+pub(crate) fn both_legs_of(swap: AnySwap, tenors: &[f64], zeros: &[f64], higher: &[f64]) -> BothLegs
+    requires { ⌜ Rising (now tenors) × HasPeriods swap ⌝ }
+    ensures { λ r. ⌜ LegsOn (termsOf swap) (now (tenors .entry)) (now (zeros .entry)) (r .base) × LegsOn (termsOf swap) (now (tenors .entry)) (now (higher .entry)) (r .higher) ⌝ }
+{
+    let sums = payment_sums(swap, tenors, zeros, higher, true);
+    BothLegs {
+        base: legs_with(swap, tenors, zeros, sums.base),
+        higher: legs_with(swap, tenors, higher, sums.higher),
+    }
+}
+
+pub fn fixed_leg_pv(swap: AnySwap, tenors: &[f64], zeros: &[f64]) -> Number
     ensures { λ r. ⌜ numberOutcome r ≡ fixedLegPv swap (now (tenors .entry)) (now (zeros .entry)) ⌝ }
 {
-    match judge_swap(swap, tenors, zeros) {
+    match judge_any(swap, tenors, zeros) {
         Verdict::Refused(refusal) => Number::Refused(refusal),
         Verdict::Accepted => {
             let legs = legs_of(swap, tenors, zeros);
@@ -149,10 +246,10 @@ pub fn fixed_leg_pv(swap: Swap, tenors: &[f64], zeros: &[f64]) -> Number
     }
 }
 
-pub fn floating_leg_pv(swap: Swap, tenors: &[f64], zeros: &[f64]) -> Number
+pub fn floating_leg_pv(swap: AnySwap, tenors: &[f64], zeros: &[f64]) -> Number
     ensures { λ r. ⌜ numberOutcome r ≡ floatingLegPv swap (now (tenors .entry)) (now (zeros .entry)) ⌝ }
 {
-    match judge_swap(swap, tenors, zeros) {
+    match judge_any(swap, tenors, zeros) {
         Verdict::Refused(refusal) => Number::Refused(refusal),
         Verdict::Accepted => {
             let legs = legs_of(swap, tenors, zeros);

@@ -1,6 +1,5 @@
-// A swap's payments: how many, how far apart, and what a fixed one is.
+// An undated swap's payments: how many, how far apart, and what fraction of a year lies between.
 ghost use mathlib.Core.Path.{_≡_};
-ghost use lib.Ieee.{binary64, mul};
 ghost use Rattle.swaps.specs.Swap.{perYear, payments, period, fraction};
 use crate::Swap;
 use numbers::whole::nearest_whole;
@@ -32,10 +31,4 @@ pub(crate) fn fraction(swap: Swap) -> f64
 {
     let day_count = swap.day_count;
     crate::day_counts::day_count_fraction(day_count, nearest_whole(365.0 * period(swap)))
-}
-
-pub(crate) fn fixed_payment(swap: Swap) -> f64
-    ensures { λ r. ⌜ r ≡ mul binary64 (mul binary64 (swap .notional) (swap .«fixed_rate»)) (fraction swap) ⌝ }
-{
-    swap.notional * swap.fixed_rate * fraction(swap)
 }

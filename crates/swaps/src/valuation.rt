@@ -1,4 +1,4 @@
-// What a swap is worth on a curve, what a basis point changes, and a whole valuation.
+// What a swap of either kind is worth on a curve, what a basis point changes, and a whole valuation.
 ghost use mathlib.Core.Path.{_≡_};
 ghost use mathlib.Core.Bool.{cond};
 ghost use Prim.Native.Nat.{_≤_};
@@ -8,16 +8,19 @@ ghost use Rattle.numbers.specs.Literals.{one};
 ghost use Rattle.numbers.specs.Clamps.{plusZero};
 ghost use Rattle.refusals.specs.Answers.{numberOutcome};
 ghost use Rattle.curves.specs.Segments.{Rising};
-ghost use Rattle.swaps.specs.Swap.{perYear};
 ghost use Rattle.swaps.specs.Discount.{zeroRateOf};
-ghost use Rattle.swaps.specs.Legs.{netValue};
+ghost use Rattle.swaps.specs.Periods.{termsOf};
 ghost use Rattle.swaps.specs.Valuation.{bumped, swapNpv, parSwapRate, swapDv01, swapDuration, valuation, valueSwap, valuationOutcome};
-use crate::Swap;
+ghost use Rattle.swaps.specs.inner.Runs.{HasPeriods, LegsOn};
+use crate::AnySwap;
 use crate::discount::zero_rate_of;
-use crate::judging::judge_swap;
+use crate::judging::judge_any;
+use crate::legs::BothLegs;
 use crate::legs::Legs;
+use crate::legs::both_legs_of;
 use crate::legs::legs_of;
-use crate::periods::per_year;
+use crate::terms::end;
+use crate::terms::per_year;
 use refusals::Number;
 use refusals::Verdict;
 
@@ -54,14 +57,14 @@ fn par_of(legs: Legs) -> f64
 }
 
 // The fixed leg's duration, 0 where the leg is worth nothing.
-fn duration_of(swap: Swap, tenors: &[f64], zeros: &[f64], legs: Legs) -> f64
-    requires { ⌜ Rising (now tenors) ⌝ }
-    ensures { λ r. ⌜ r ≡ cond (eq (legs .fixed) plusZero) plusZero (div binary64 (div binary64 (legs .weighted) (legs .fixed)) (add binary64 one (div binary64 (zeroRateOf (now (tenors .entry)) (now (zeros .entry)) (swap .tenor)) (perYear swap)))) ⌝ }
+fn duration_of(swap: AnySwap, tenors: &[f64], zeros: &[f64], legs: Legs) -> f64
+    requires { ⌜ Rising (now tenors) × HasPeriods swap ⌝ }
+    ensures { λ r. ⌜ r ≡ cond (eq (legs .fixed) plusZero) plusZero (div binary64 (div binary64 (legs .weighted) (legs .fixed)) (add binary64 one (div binary64 (zeroRateOf (now (tenors .entry)) (now (zeros .entry)) (termsOf swap .periods .end)) (termsOf swap .perYear)))) ⌝ }
 {
     if legs.fixed == 0.0 {
         return 0.0;
     }
-    legs.weighted / legs.fixed / (1.0 + zero_rate_of(tenors, zeros, swap.tenor) / per_year(swap))
+    legs.weighted / legs.fixed / (1.0 + zero_rate_of(tenors, zeros, end(swap)) / per_year(swap))
 }
 
 // Every zero rate a basis point higher.
@@ -76,52 +79,52 @@ fn bump(zeros: &[f64], out: &mut [f64])
     }
 }
 
-// What the swap is worth where every zero rate is a basis point higher.
-fn bumped_net(swap: Swap, tenors: &[f64], zeros: &[f64], receives_fixed: bool) -> f64
-    requires { ⌜ (length (now zeros) ≤ 120) × Rising (now tenors) ⌝ }
-    ensures { λ r. ⌜ r ≡ netValue swap (now (tenors .entry)) (bumped (now (zeros .entry))) «receives_fixed» ⌝ }
+// The legs on the curve as it is, and where every zero rate is a basis point higher.
+fn legs_with_bump(swap: AnySwap, tenors: &[f64], zeros: &[f64]) -> BothLegs
+    requires { ⌜ (length (now zeros) ≤ 120) × Rising (now tenors) × HasPeriods swap ⌝ }
+    ensures { λ r. ⌜ LegsOn (termsOf swap) (now (tenors .entry)) (now (zeros .entry)) (r .base) × LegsOn (termsOf swap) (now (tenors .entry)) (bumped (now (zeros .entry))) (r .higher) ⌝ }
 {
     let mut room = crate::rooms::empty_room();
     let n = zeros.len();
     bump(zeros, &mut room[..n]);
-    net(legs_of(swap, tenors, &room[..n]), receives_fixed)
+    both_legs_of(swap, tenors, zeros, &room[..n])
 }
 
-pub fn swap_npv(swap: Swap, tenors: &[f64], zeros: &[f64], receives_fixed: bool) -> Number
+pub fn swap_npv(swap: AnySwap, tenors: &[f64], zeros: &[f64], receives_fixed: bool) -> Number
     ensures { λ r. ⌜ numberOutcome r ≡ swapNpv swap (now (tenors .entry)) (now (zeros .entry)) «receives_fixed» ⌝ }
 {
-    match judge_swap(swap, tenors, zeros) {
+    match judge_any(swap, tenors, zeros) {
         Verdict::Refused(refusal) => Number::Refused(refusal),
         Verdict::Accepted => Number::Given(net(legs_of(swap, tenors, zeros), receives_fixed)),
     }
 }
 
-pub fn par_swap_rate(swap: Swap, tenors: &[f64], zeros: &[f64]) -> Number
+pub fn par_swap_rate(swap: AnySwap, tenors: &[f64], zeros: &[f64]) -> Number
     ensures { λ r. ⌜ numberOutcome r ≡ parSwapRate swap (now (tenors .entry)) (now (zeros .entry)) ⌝ }
 {
-    match judge_swap(swap, tenors, zeros) {
+    match judge_any(swap, tenors, zeros) {
         Verdict::Refused(refusal) => Number::Refused(refusal),
         Verdict::Accepted => Number::Given(par_of(legs_of(swap, tenors, zeros))),
     }
 }
 
 // What a basis point more in every zero rate changes the value by.
-pub fn swap_dv01(swap: Swap, tenors: &[f64], zeros: &[f64], receives_fixed: bool) -> Number
+pub fn swap_dv01(swap: AnySwap, tenors: &[f64], zeros: &[f64], receives_fixed: bool) -> Number
     ensures { λ r. ⌜ numberOutcome r ≡ swapDv01 swap (now (tenors .entry)) (now (zeros .entry)) «receives_fixed» ⌝ }
 {
-    match judge_swap(swap, tenors, zeros) {
+    match judge_any(swap, tenors, zeros) {
         Verdict::Refused(refusal) => Number::Refused(refusal),
         Verdict::Accepted => {
-            let base = net(legs_of(swap, tenors, zeros), receives_fixed);
-            Number::Given(bumped_net(swap, tenors, zeros, receives_fixed) - base)
+            let legs = legs_with_bump(swap, tenors, zeros);
+            Number::Given(net(legs.higher, receives_fixed) - net(legs.base, receives_fixed))
         }
     }
 }
 
-pub fn swap_duration(swap: Swap, tenors: &[f64], zeros: &[f64]) -> Number
+pub fn swap_duration(swap: AnySwap, tenors: &[f64], zeros: &[f64]) -> Number
     ensures { λ r. ⌜ numberOutcome r ≡ swapDuration swap (now (tenors .entry)) (now (zeros .entry)) ⌝ }
 {
-    match judge_swap(swap, tenors, zeros) {
+    match judge_any(swap, tenors, zeros) {
         Verdict::Refused(refusal) => Number::Refused(refusal),
         Verdict::Accepted => Number::Given(duration_of(
             swap,
@@ -132,32 +135,32 @@ pub fn swap_duration(swap: Swap, tenors: &[f64], zeros: &[f64]) -> Number
     }
 }
 
-// The legs once on the curve as it is, once on the bumped one.
-fn valuation_of(swap: Swap, tenors: &[f64], zeros: &[f64], receives_fixed: bool) -> SwapValuation
-    requires { ⌜ (length (now zeros) ≤ 120) × Rising (now tenors) ⌝ }
-    ensures { λ r. ⌜ r ≡ valuation swap (now (tenors .entry)) (now (zeros .entry)) «receives_fixed» ⌝ }
+fn valuation_of(swap: AnySwap, tenors: &[f64], zeros: &[f64], receives_fixed: bool) -> SwapValuation
+    requires { ⌜ (length (now zeros) ≤ 120) × Rising (now tenors) × HasPeriods swap ⌝ }
+    ensures { λ r. ⌜ r ≡ valuation (termsOf swap) (now (tenors .entry)) (now (zeros .entry)) «receives_fixed» ⌝ }
 {
-    let legs = legs_of(swap, tenors, zeros);
+    let both = legs_with_bump(swap, tenors, zeros);
+    let legs = both.base;
     let npv = net(legs, receives_fixed);
     SwapValuation {
         npv,
         fixed_pv: legs.fixed,
         floating_pv: legs.floating,
         par_rate: par_of(legs),
-        dv01: bumped_net(swap, tenors, zeros, receives_fixed) - npv,
+        dv01: net(both.higher, receives_fixed) - npv,
         duration: duration_of(swap, tenors, zeros, legs),
     }
 }
 
 pub fn value_swap(
-    swap: Swap,
+    swap: AnySwap,
     tenors: &[f64],
     zeros: &[f64],
     receives_fixed: bool,
 ) -> ValuationAnswer
     ensures { λ r. ⌜ valuationOutcome r ≡ valueSwap swap (now (tenors .entry)) (now (zeros .entry)) «receives_fixed» ⌝ }
 {
-    match judge_swap(swap, tenors, zeros) {
+    match judge_any(swap, tenors, zeros) {
         Verdict::Refused(refusal) => ValuationAnswer::Refused(refusal),
         Verdict::Accepted => ValuationAnswer::Given(valuation_of(
             swap,
