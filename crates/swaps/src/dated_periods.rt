@@ -12,6 +12,8 @@ ghost use Rattle.swaps.specs.inner.Runs.{Listed};
 use crate::DatedSwap;
 use crate::day_counts::DayCount;
 use crate::day_counts::day_count_fraction;
+use dates::counts::actual_days;
+use dates::counts::thirty_days;
 use dates::periods::Numbered;
 use dates::periods::Span;
 use dates::periods::bound_at;
@@ -21,9 +23,11 @@ pub(crate) fn span_of(swap: DatedSwap) -> Span
     requires { ⌜ 1 ≤ swap .frequency ⌝ }
     ensures { λ r. ⌜ r ≡ spanOf swap ⌝ }
 {
+    let first = swap.first;
+    let second = swap.second;
     Span {
-        first: swap.first,
-        second: swap.second,
+        first,
+        second,
         step: 12 / swap.frequency,
     }
 }
@@ -40,8 +44,9 @@ pub(crate) fn end(swap: DatedSwap) -> f64
     requires { ⌜ isSpan (spanOf swap) ≡ true ⌝ }
     ensures { λ r. ⌜ r ≡ ofDates swap .end ⌝ }
 {
-    let days = dates::counts::actual_days(swap.first, swap.second);
-    day_count_fraction(DayCount::Actual365, days)
+    let first = swap.first;
+    let second = swap.second;
+    day_count_fraction(DayCount::Actual365, actual_days(first, second))
 }
 
 // The fraction of a year from one date to a later one, whose day numbers are at hand.
@@ -49,10 +54,12 @@ fn fraction_between(day_count: DayCount, start: Numbered, end: Numbered) -> f64
     requires { ⌜ (start .number ≡ dayNumber (start .date)) × (end .number ≡ dayNumber (end .date)) × (start .number ≤ end .number) ⌝ }
     ensures { λ r. ⌜ r ≡ datedFraction «day_count» (start .date) (end .date) ⌝ }
 {
+    let from = start.date;
+    let to = end.date;
     let days = match day_count {
         DayCount::Actual360 => end.number - start.number,
         DayCount::Actual365 => end.number - start.number,
-        DayCount::Thirty360 => dates::counts::thirty_days(start.date, end.date),
+        DayCount::Thirty360 => thirty_days(from, to),
     };
     day_count_fraction(day_count, days)
 }

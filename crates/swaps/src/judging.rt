@@ -5,6 +5,7 @@ ghost use mathlib.Core.List.{[], _∷_};
 ghost use Rattle.refusals.specs.Outcome.{line, judged};
 ghost use Rattle.refusals.specs.Answers.{verdictOutcome};
 ghost use Rattle.refusals.specs.Table.{badTime, tooManyPeriods, badFrequency, badDatedFrequency, badNumber};
+ghost use Rattle.dates.specs.Answers.{datesLine};
 ghost use Rattle.swaps.specs.Swap.{payments, swapLines};
 ghost use Rattle.swaps.specs.DatedSwap.{tooManyDated, uncodedDatedLines, datedLines};
 ghost use Rattle.swaps.specs.Periods.{linesOf};
@@ -83,7 +84,9 @@ fn too_many_dated(swap: DatedSwap) -> bool
     if bad_dated_frequency(swap.frequency) {
         return false;
     }
-    if bad_dates(swap.first, swap.second) {
+    let first = swap.first;
+    let second = swap.second;
+    if bad_dates(first, second) {
         return false;
     }
     period_count(swap) > 1200
@@ -105,7 +108,7 @@ fn judge_dated_terms(swap: DatedSwap) -> Verdict
     Verdict::Accepted
 }
 
-// All lines of a dated swap but 15.
+// Those of a dated swap and its curve, all but line 15.
 pub fn judge_but_dates(swap: DatedSwap, tenors: &[f64], zeros: &[f64]) -> Verdict
     ensures { λ r. ⌜ verdictOutcome r ≡ judged (uncodedDatedLines swap (now (tenors .entry)) (now (zeros .entry))) tt ⌝ }
 {
@@ -118,17 +121,25 @@ pub fn judge_but_dates(swap: DatedSwap, tenors: &[f64], zeros: &[f64]) -> Verdic
     }
 }
 
+// Line 15.
+fn judge_dates(swap: DatedSwap) -> Verdict
+    ensures { λ r. ⌜ verdictOutcome r ≡ judged (datesLine (swap .first) (swap .second) ∷ []) tt ⌝ }
+{
+    let first = swap.first;
+    let second = swap.second;
+    if bad_dates(first, second) {
+        return Verdict::Refused(refuse(15));
+    }
+    Verdict::Accepted
+}
+
+// All lines of a dated swap.
 fn judge_dated(swap: DatedSwap, tenors: &[f64], zeros: &[f64]) -> Verdict
     ensures { λ r. ⌜ verdictOutcome r ≡ judged (datedLines swap (now (tenors .entry)) (now (zeros .entry))) tt ⌝ }
 {
     match judge_but_dates(swap, tenors, zeros) {
         Verdict::Refused(refusal) => Verdict::Refused(refusal),
-        Verdict::Accepted => {
-            if bad_dates(swap.first, swap.second) {
-                return Verdict::Refused(refuse(15));
-            }
-            Verdict::Accepted
-        }
+        Verdict::Accepted => judge_dates(swap),
     }
 }
 

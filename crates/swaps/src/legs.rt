@@ -124,16 +124,18 @@ fn add_run(
     let mut times = [0.0; 64];
     let mut fractions = [0.0; 64];
     put_periods(swap, first, &mut times[..count], &mut fractions[..count]);
-    let base = add_on(swap, tenors, zeros, times, &fractions, sums.base, count);
+    let before = sums.base;
+    let base = add_on(swap, tenors, zeros, times, &fractions, before, count);
+    let other = sums.higher;
     if both {
         return BothSums {
             base,
-            higher: add_on(swap, tenors, higher, times, &fractions, sums.higher, count),
+            higher: add_on(swap, tenors, higher, times, &fractions, other, count),
         };
     }
     BothSums {
         base,
-        higher: sums.higher,
+        higher: other,
     }
 }
 
@@ -214,7 +216,8 @@ pub(crate) fn legs_of(swap: AnySwap, tenors: &[f64], zeros: &[f64]) -> Legs
     ensures { λ r. ⌜ LegsOn (termsOf swap) (now (tenors .entry)) (now (zeros .entry)) r ⌝ }
 {
     let sums = payment_sums(swap, tenors, zeros, zeros, false);
-    legs_with(swap, tenors, zeros, sums.base)
+    let base = sums.base;
+    legs_with(swap, tenors, zeros, base)
 }
 
 // The legs on two curves with the same tenors.
@@ -228,9 +231,11 @@ pub(crate) fn both_legs_of(swap: AnySwap, tenors: &[f64], zeros: &[f64], higher:
     ensures { λ r. ⌜ LegsOn (termsOf swap) (now (tenors .entry)) (now (zeros .entry)) (r .base) × LegsOn (termsOf swap) (now (tenors .entry)) (now (higher .entry)) (r .higher) ⌝ }
 {
     let sums = payment_sums(swap, tenors, zeros, higher, true);
+    let base = sums.base;
+    let other = sums.higher;
     BothLegs {
-        base: legs_with(swap, tenors, zeros, sums.base),
-        higher: legs_with(swap, tenors, higher, sums.higher),
+        base: legs_with(swap, tenors, zeros, base),
+        higher: legs_with(swap, tenors, higher, other),
     }
 }
 

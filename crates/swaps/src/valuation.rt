@@ -115,8 +115,10 @@ pub fn swap_dv01(swap: AnySwap, tenors: &[f64], zeros: &[f64], receives_fixed: b
     match judge_any(swap, tenors, zeros) {
         Verdict::Refused(refusal) => Number::Refused(refusal),
         Verdict::Accepted => {
-            let legs = legs_with_bump(swap, tenors, zeros);
-            Number::Given(net(legs.higher, receives_fixed) - net(legs.base, receives_fixed))
+            let both = legs_with_bump(swap, tenors, zeros);
+            let base = both.base;
+            let higher = both.higher;
+            Number::Given(net(higher, receives_fixed) - net(base, receives_fixed))
         }
     }
 }
@@ -141,13 +143,14 @@ fn valuation_of(swap: AnySwap, tenors: &[f64], zeros: &[f64], receives_fixed: bo
 {
     let both = legs_with_bump(swap, tenors, zeros);
     let legs = both.base;
+    let higher = both.higher;
     let npv = net(legs, receives_fixed);
     SwapValuation {
         npv,
         fixed_pv: legs.fixed,
         floating_pv: legs.floating,
         par_rate: par_of(legs),
-        dv01: net(both.higher, receives_fixed) - npv,
+        dv01: net(higher, receives_fixed) - npv,
         duration: duration_of(swap, tenors, zeros, legs),
     }
 }
