@@ -192,17 +192,17 @@ datedSwapLayout = record {
   fields = float ∷ float ∷ float ∷ whole ∷ pair ∷ byte ∷ byte ∷ pair ∷ byte ∷ byte ∷ code 2 ∷ [];
   heldOf = λ s. (s .notional, (s .rate, (s .tenor, (s .frequency, (s .first .year, (s .first .month, (s .first .day, (s .second .year, (s .second .month, (s .second .day, (s .count, tt)))))))))));
   valueOf = λ h.
-    let first = h .1 .1 .1 .1 in
-    let second = first .1 .1 .1 in
-    record {
-      notional = h .0;
-      rate = h .1 .0;
-      tenor = h .1 .1 .0;
-      frequency = h .1 .1 .1 .0;
-      first = record { year = first .0; month = first .1 .0; day = first .1 .1 .0 };
-      second = record { year = second .0; month = second .1 .0; day = second .1 .1 .0 };
-      count = second .1 .1 .1 .0;
-    };
+      let first = h .1 .1 .1 .1 in
+      let second = first .1 .1 .1 in
+      record {
+        notional = h .0;
+        rate = h .1 .0;
+        tenor = h .1 .1 .0;
+        frequency = h .1 .1 .1 .0;
+        first = record { year = first .0; month = first .1 .0; day = first .1 .1 .0 };
+        second = record { year = second .0; month = second .1 .0; day = second .1 .1 .0 };
+        count = second .1 .1 .1 .0;
+      };
 }
 
 abbrev pub datedSwapKind : ℕ
