@@ -176,7 +176,7 @@ swapOutcome (swap-is.Given s) = accepted s
 
 -- ---- kind 5, a dated swap, document 02's: "kind 4's body without its day count, then two dates and a day count, each date u16 year, u8 month, u8 day; its tenor is not read"; 38
 
--- a date, of the calendar or not: its fields, and the one that bytes hold from a place on
+-- a date, of the calendar or not: its fields, its bytes, and the date that bytes hold from a place on
 abbrev pub dateFields : List Field
 dateFields = pair ∷ byte ∷ byte ∷ []
 
