@@ -5,7 +5,7 @@ use Prim.Native.Nat.{ℕ}
 use Rattle.refusals.specs.Outcome.{ExactlyWhen, above, line, judged}
 use Rattle.refusals.specs.Table.{badRecord, badCode}
 use Rattle.refusals.proofs.Judging.{exactly}
-use Rattle.records.specs.Kinds.{termsKind, termsSize, termsIn, readTerms, bondKind, bondSize, bondIn, readBond, readBondUncoded, rowKind, rowSize, rowIn, readRow, swapKind, swapSize, swapIn, readSwap, readSwapUncoded}
+use Rattle.records.specs.Kinds.{termsKind, termsSize, termsIn, readTerms, bondKind, bondSize, bondIn, readBond, readBondUncoded, rowKind, rowSize, rowIn, readRow, swapKind, swapSize, swapIn, readSwap, readSwapUncoded, datedSwapKind, datedSwapSize, datedSwapIn, readDatedSwap, readDatedSwapUncoded}
 use Rattle.refusals.proofs.Causes.{or-false}
 
 -- what is judged by line 11 alone
@@ -33,6 +33,10 @@ pub read-swap-exactly : (bytes : List ℕ) → ExactlyWhen (line 11 (badCode 2 (
 unfolding readSwap swapIn
 read-swap-exactly bytes = by-code (swapIn bytes) (badCode 2 (swapIn bytes .count)) (badRecord swapKind swapSize bytes)
 
+pub read-dated-swap-exactly : (bytes : List ℕ) → ExactlyWhen (line 11 (badCode 2 (datedSwapIn bytes .count) || badRecord datedSwapKind datedSwapSize bytes) ∷ []) (readDatedSwap bytes)
+unfolding readDatedSwap datedSwapIn
+read-dated-swap-exactly bytes = by-code (datedSwapIn bytes) (badCode 2 (datedSwapIn bytes .count)) (badRecord datedSwapKind datedSwapSize bytes)
+
 -- whatever the code
 pub read-bond-uncoded-exactly : (bytes : List ℕ) → ExactlyWhen (line 11 (badRecord bondKind bondSize bytes) ∷ []) (readBondUncoded bytes)
 unfolding readBondUncoded
@@ -41,3 +45,7 @@ read-bond-uncoded-exactly bytes = by-11 (bondIn bytes) (badRecord bondKind bondS
 pub read-swap-uncoded-exactly : (bytes : List ℕ) → ExactlyWhen (line 11 (badRecord swapKind swapSize bytes) ∷ []) (readSwapUncoded bytes)
 unfolding readSwapUncoded
 read-swap-uncoded-exactly bytes = by-11 (swapIn bytes) (badRecord swapKind swapSize bytes)
+
+pub read-dated-swap-uncoded-exactly : (bytes : List ℕ) → ExactlyWhen (line 11 (badRecord datedSwapKind datedSwapSize bytes) ∷ []) (readDatedSwapUncoded bytes)
+unfolding readDatedSwapUncoded
+read-dated-swap-uncoded-exactly bytes = by-11 (datedSwapIn bytes) (badRecord datedSwapKind datedSwapSize bytes)

@@ -16,7 +16,7 @@ use Rattle.numbers.proofs.Nans.{is-nan, pattern-of-nan}
 use Rattle.refusals.specs.Table.{badCode}
 use Rattle.steps.proofs.Rooms.{sets-append}
 use Rattle.records.specs.Bytes.{valueOf, bytesOf, field, pairAt, wholeAt, floatAt, pairBytes, wholeBytes, floatBytes}
-use Rattle.records.specs.Fields.{Field, code, pair, whole, float, sizeOf, sizeOfAll, Held, HeldByAll, bytesIn, bytesInAll, heldAt, heldFrom, anyBadCode}
+use Rattle.records.specs.Fields.{Field, code, byte, pair, whole, float, sizeOf, sizeOfAll, Held, HeldByAll, bytesIn, bytesInAll, heldAt, heldFrom, anyBadCode}
 use Rattle.records.specs.OneNan.{AreBytes, oneNanIn, oneNan}
 use Rattle.records.proofs.Bytes.{length-bytes, value-of-bytes, value-below, bytes-of-value}
 
@@ -28,6 +28,7 @@ Every P (f ∷ fs) held = P f (held .0) × Every P fs (held .1)
 -- the value is one that the field can hold
 abbrev pub Fits : (f : Field) → Held f → Type 0
 Fits (code highest) n = n ≤ highest
+Fits byte n = n < 2 ^ 8
 Fits pair n = n < 2 ^ 16
 Fits whole n = n < 2 ^ 32
 Fits float x = T (fits binary64 x)
@@ -35,6 +36,7 @@ Fits float x = T (fits binary64 x)
 -- it is no NaN
 abbrev pub NoNan : (f : Field) → Held f → Type 0
 NoNan (code highest) n = Unit
+NoNan byte n = Unit
 NoNan pair n = Unit
 NoNan whole n = Unit
 NoNan float x = isNan x ≡ false
@@ -42,6 +44,7 @@ NoNan float x = isNan x ≡ false
 -- what the bytes of a field alone hold
 unfoldable heldIn : (f : Field) → List ℕ → Held f
 heldIn (code highest) bytes = getD bytes 0 0
+heldIn byte bytes = getD bytes 0 0
 heldIn pair bytes = valueOf bytes
 heldIn whole bytes = valueOf bytes
 heldIn float bytes = ofBits binary64 (valueOf bytes)
@@ -51,13 +54,18 @@ heldIn float bytes = ofBits binary64 (valueOf bytes)
 length-field : (f : Field) (v : Held f) → length (bytesIn f v) ≡ sizeOf f
 unfolding pairBytes wholeBytes floatBytes
 length-field (code highest) n = refl
+length-field byte n = refl
 length-field pair n = length-bytes 2 n
 length-field whole n = length-bytes 4 n
 length-field float x = length-bytes 8 (toBits binary64 x)
 
+byte-at : (at : ℕ) (bytes : List ℕ) → getD bytes at 0 ≡ getD (field at 1 bytes) 0 0
+byte-at at bytes = rw (getD-take 1 (drop at bytes) 0 0 (omega arith), getD-drop at bytes 0 0, add-zero at)
+
 held-at : (f : Field) (at : ℕ) (bytes : List ℕ) → heldAt f at bytes ≡ heldIn f (field at (sizeOf f) bytes)
 unfolding heldIn pairAt wholeAt floatAt
-held-at (code highest) at bytes = rw (getD-take 1 (drop at bytes) 0 0 (omega arith), getD-drop at bytes 0 0, add-zero at)
+held-at (code highest) at bytes = byte-at at bytes
+held-at byte at bytes = byte-at at bytes
 held-at pair at bytes = refl
 held-at whole at bytes = refl
 held-at float at bytes = refl
@@ -65,6 +73,7 @@ held-at float at bytes = refl
 value-again : (f : Field) (v : Held f) → Fits f v → heldIn f (bytesIn f v) ≡ v
 unfolding heldIn pairBytes wholeBytes floatBytes
 value-again (code highest) n h = refl
+value-again byte n h = refl
 value-again pair n h = value-of-bytes 2 n h
 value-again whole n h = value-of-bytes 4 n h
 value-again float x h = ap (ofBits binary64) (value-of-bytes 8 (toBits binary64 x) (toBits-lt binary64 x h)) ∙ ofBits-toBits binary64 x h
@@ -95,6 +104,7 @@ float-again bytes small l = go (isNan (ofBits binary64 (valueOf bytes))) refl
 field-again : (f : Field) (bytes : List ℕ) → AreBytes bytes → length bytes ≡ sizeOf f → bytesIn f (heldIn f bytes) ≡ oneNanIn f bytes
 unfolding heldIn oneNanIn pairBytes wholeBytes floatBytes
 field-again (code highest) bytes small l = one-byte bytes l
+field-again byte bytes small l = one-byte bytes l
 field-again pair bytes small l = rw l at (bytes-of-value bytes small)
 field-again whole bytes small l = rw l at (bytes-of-value bytes small)
 field-again float bytes small l = float-again bytes small l
@@ -102,6 +112,7 @@ field-again float bytes small l = float-again bytes small l
 field-stays : (f : Field) (bytes : List ℕ) → NoNan f (heldIn f bytes) → oneNanIn f bytes ≡ bytes
 unfolding heldIn oneNanIn
 field-stays (code highest) bytes h = refl
+field-stays byte bytes h = refl
 field-stays pair bytes h = refl
 field-stays whole bytes h = refl
 field-stays float bytes h = rw h
@@ -162,6 +173,7 @@ pub codes-good : (fs : List Field) (held : HeldByAll fs) → Every Fits fs held 
 unfolding badCode
 codes-good [] held h = refl
 codes-good (code highest ∷ fs) held h = rw (le-ltb highest (held .0) (h .0), codes-good fs (held .1) (h .1))
+codes-good (byte ∷ fs) held h = codes-good fs (held .1) (h .1)
 codes-good (pair ∷ fs) held h = codes-good fs (held .1) (h .1)
 codes-good (whole ∷ fs) held h = codes-good fs (held .1) (h .1)
 codes-good (float ∷ fs) held h = codes-good fs (held .1) (h .1)
@@ -172,7 +184,7 @@ abbrev pub puts : List ℕ → ℕ → (fs : List Field) → HeldByAll fs → Li
 puts out at [] held = out
 puts out at (f ∷ fs) held = puts (sets out at (bytesIn f (held .0))) (at + sizeOf f) fs (held .1)
 
-puts-is : (out : List ℕ) (at : ℕ) (fs : List Field) (held : HeldByAll fs) → puts out at fs held ≡ sets out at (bytesInAll fs held)
+pub puts-is : (out : List ℕ) (at : ℕ) (fs : List Field) (held : HeldByAll fs) → puts out at fs held ≡ sets out at (bytesInAll fs held)
 puts-is out at [] held = refl
 puts-is out at (f ∷ fs) held =
     puts-is (sets out at (bytesIn f (held .0))) (at + sizeOf f) fs (held .1)

@@ -1,5 +1,5 @@
 -- Line 11 over the bytes of any kind: where the record is bad or a code is, 11 at place 0 is given, and where neither is, the value. Assumes nothing.
-use mathlib.Core.Path.{_≡_, refl}
+use mathlib.Core.Path.{_≡_, refl, sym, ap, _∙_}
 use mathlib.Core.Logic.{_⊎_, inl, inr}
 use mathlib.Core.Bool.{Bool, true, false, not, cond, _&&_, _||_}
 use mathlib.Core.List.{List, [], _∷_}
@@ -9,8 +9,8 @@ use borrow.Author.Tests.{eq-eqb, ne-eqb, eqb-true}
 use lib.Dec.{eqb}
 use lib.ListN.{length, getD}
 use Rattle.refusals.specs.Outcome.{refused, accepted, line, firstOr, judged}
-use Rattle.refusals.specs.Table.{badRecord}
-use Rattle.refusals.proofs.Causes.{or-true}
+use Rattle.refusals.specs.Table.{badRecord, badCode}
+use Rattle.refusals.proofs.Causes.{or-true, or-false}
 use Rattle.records.specs.Fields.{heldFrom, anyBadCode}
 use Rattle.records.specs.Kinds.{Layout, recordSize, valueIn, readAs, readUncoded}
 
@@ -57,6 +57,10 @@ module _ {Value : Type 0} (v : Value) (a b : Bool) where
       go true d e = let z : _≡_ {A = ℕ} 0 1 = cc in absurd (omega arith)
       go false true e = let z : _≡_ {A = ℕ} 0 1 = cc in absurd (omega arith)
       go false false e = (refl, cc)
+
+-- of a kind with one code: the code of the value that was read is the only one
+pub code-is : {Value : Type 0} (codeOf : Value → ℕ) (highest : ℕ) {v w : Value} {bad : Bool} → v ≡ w → badCode highest (codeOf v) ≡ bad → (badCode highest (codeOf w) || false) ≡ bad
+code-is codeOf highest {v} {w} e h = or-false (badCode highest (codeOf w)) ∙ ap (λ (u : _). badCode highest (codeOf u)) (sym e) ∙ h
 
 module _ {Value : Type 0} (l : Layout Value) (bytes : List ℕ) where
   -- whether a code of the record is outside its set, and whether the record is of another kind or length

@@ -1,5 +1,6 @@
 pub mod Bytes
 pub mod FieldLists
+pub mod Dates
 pub mod Judged
 pub mod RoundTrip
 pub mod Exactly

@@ -1,5 +1,5 @@
 -- Reading a written record gives its value, and writing what was read gives the record's bytes, with the one NaN for any NaN. One law for every layout that loses nothing, and
--- kinds 1 to 4 by it. Assumes nothing.
+-- kinds 1 to 5 by it. Assumes nothing.
 use mathlib.Core.Path.{_≡_, refl, sym, ap, _∙_, subst}
 use mathlib.Core.Bool.{false}
 use mathlib.Core.List.{List, [], _∷_, _++_}
@@ -13,8 +13,9 @@ use Rattle.records.specs.declared.Terms.{Terms}
 use Rattle.records.specs.declared.BondRecord.{BondRecord}
 use Rattle.records.specs.declared.Row.{Row}
 use Rattle.records.specs.declared.SwapRecord.{SwapRecord}
+use Rattle.records.specs.declared.DatedSwapRecord.{DatedSwapRecord}
 use Rattle.records.specs.Fields.{HeldByAll, anyBadCode, heldFrom, bytesInAll, sizeOfAll}
-use Rattle.records.specs.Kinds.{Layout, recordSize, recordOf, valueIn, readAs, termsLayout, termsBytes, readTerms, bondLayout, bondBytes, readBond, rowLayout, rowBytes, readRow, swapLayout, swapBytes, readSwap}
+use Rattle.records.specs.Kinds.{Layout, recordSize, recordOf, valueIn, readAs, termsLayout, termsBytes, readTerms, bondLayout, bondBytes, readBond, rowLayout, rowBytes, readRow, swapLayout, swapBytes, readSwap, datedSwapLayout, datedSwapBytes, readDatedSwap}
 use Rattle.records.specs.OneNan.{AreBytes, oneNan, oneNanAfterKind}
 use Rattle.records.proofs.FieldLists.{Every, Fits, NoNan, length-fields, values-again, bytes-again, bytes-stay, codes-good}
 use Rattle.records.proofs.Judged.{good, good-only, isBad, codeIsBad, accepts, reads-only}
@@ -136,3 +137,25 @@ module _ (bytes : List ℕ) (s : SwapRecord) (small : AreBytes bytes) (reads : r
   pub swap-same-record : isNan (s .notional) ≡ false → isNan (s .rate) ≡ false → isNan (s .tenor) ≡ false → swapBytes s ≡ bytes
   unfolding readSwap swapBytes
   swap-same-record notional rate tenor = same-record swapLayout swap-lossless bytes s small reads (notional, (rate, (tenor, (tt, (tt, tt)))))
+
+-- ---- kind 5: its dates may be any, of the calendar or not
+
+dated-swap-lossless : Lossless datedSwapLayout
+dated-swap-lossless = record { value = λ v. refl; held = λ h. refl }
+
+pub dated-swap-again : (s : DatedSwapRecord) → T (fits binary64 (s .notional)) → T (fits binary64 (s .rate)) → T (fits binary64 (s .tenor)) → s .frequency < 2 ^ 32
+    → s .first .year < 2 ^ 16 → s .first .month < 2 ^ 8 → s .first .day < 2 ^ 8 → s .second .year < 2 ^ 16 → s .second .month < 2 ^ 8 → s .second .day < 2 ^ 8 → s .count ≤ 2
+    → readDatedSwap (datedSwapBytes s) ≡ accepted s
+unfolding readDatedSwap datedSwapBytes
+dated-swap-again s notional rate tenor frequency year month day year′ month′ day′ count =
+    value-again datedSwapLayout dated-swap-lossless s (notional, (rate, (tenor, (frequency, (year, (month, (day, (year′, (month′, (day′, (count, tt)))))))))))
+
+module _ (bytes : List ℕ) (s : DatedSwapRecord) (small : AreBytes bytes) (reads : readDatedSwap bytes ≡ accepted s) where
+  pub dated-swap-record-again : datedSwapBytes s ≡ oneNanAfterKind (datedSwapLayout .fields) bytes
+  unfolding readDatedSwap datedSwapBytes
+  dated-swap-record-again = record-again datedSwapLayout dated-swap-lossless bytes s small reads
+
+  pub dated-swap-same-record : isNan (s .notional) ≡ false → isNan (s .rate) ≡ false → isNan (s .tenor) ≡ false → datedSwapBytes s ≡ bytes
+  unfolding readDatedSwap datedSwapBytes
+  dated-swap-same-record notional rate tenor =
+      same-record datedSwapLayout dated-swap-lossless bytes s small reads (notional, (rate, (tenor, (tt, (tt, (tt, (tt, (tt, (tt, (tt, (tt, tt)))))))))))

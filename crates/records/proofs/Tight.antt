@@ -12,7 +12,9 @@ use Rattle.records.specs.declared.BondRead.{BondRead}
 use Rattle.records.specs.declared.BondRead.the-variants as bond-is
 use Rattle.records.specs.declared.SwapRead.{SwapRead}
 use Rattle.records.specs.declared.SwapRead.the-variants as swap-is
-use Rattle.records.specs.Kinds.{swapOutcome, bondOutcome, termsOutcome, rowOutcome}
+use Rattle.records.specs.declared.DatedSwapRead.{DatedSwapRead}
+use Rattle.records.specs.declared.DatedSwapRead.the-variants as dated-swap-is
+use Rattle.records.specs.Kinds.{datedSwapOutcome, swapOutcome, bondOutcome, termsOutcome, rowOutcome}
 use Rattle.records.proofs.bond_record.read_bond.Kinds as read-bond-kinds
 use Rattle.records.proofs.bond_record.read_bond.Reads as read-bond
 use Rattle.records.proofs.bond_record.read_bond_uncoded.Kinds as read-bond-uncoded-kinds
@@ -25,6 +27,12 @@ use Rattle.records.proofs.swap_record.read_swap_uncoded.Kinds as read-s
 use Rattle.records.proofs.swap_record.read_swap_uncoded.Reads as read-swap-uncoded
 use Rattle.records.proofs.swap_record.write_swap.Kinds as write-swap-kinds
 use Rattle.records.proofs.swap_record.write_swap.Reads as write-swap
+use Rattle.records.proofs.dated_swap_record.read_dated_swap.Kinds as read-dated-swap-kinds
+use Rattle.records.proofs.dated_swap_record.read_dated_swap.Reads as read-dated-swap
+use Rattle.records.proofs.dated_swap_record.read_dated_swap_uncoded.Kinds as read-dated-swap-uncoded-kinds
+use Rattle.records.proofs.dated_swap_record.read_dated_swap_uncoded.Reads as read-dated-swap-uncoded
+use Rattle.records.proofs.dated_swap_record.write_dated_swap.Kinds as write-dated-swap-kinds
+use Rattle.records.proofs.dated_swap_record.write_dated_swap.Reads as write-dated-swap
 use Rattle.records.proofs.terms_record.read_terms.Kinds as read-terms-kinds
 use Rattle.records.proofs.terms_record.read_terms.Reads as read-terms
 use Rattle.records.proofs.terms_record.write_terms.Kinds as write-terms-kinds
@@ -95,3 +103,20 @@ read-swap-uncoded-determined κs a x y e e′ p q = swap-told x y (p ∙ sym q)
 
 pub write-swap-settled : Settled 1 write-swap-kinds.ps write-swap-kinds.r write-swap.Post
 write-swap-settled κs a x y w w′ p q = ap (λ (l : List ℕ). (tt, (l, tt))) (p ∙ sym q)
+
+-- ---- kind 5
+
+pub dated-swap-told : (a b : DatedSwapRead) → datedSwapOutcome a ≡ datedSwapOutcome b → a ≡ b
+dated-swap-told (dated-swap-is.Refused a) (dated-swap-is.Refused b) e = ap dated-swap-is.Refused (same-refusal a b e)
+dated-swap-told (dated-swap-is.Given v) (dated-swap-is.Given w) e = cc
+dated-swap-told (dated-swap-is.Refused a) (dated-swap-is.Given w) e = cc
+dated-swap-told (dated-swap-is.Given v) (dated-swap-is.Refused b) e = cc
+
+pub read-dated-swap-determined : Determined 1 read-dated-swap-kinds.ps read-dated-swap-kinds.r read-dated-swap.Post
+read-dated-swap-determined κs a x y e e′ p q = dated-swap-told x y (p ∙ sym q)
+
+pub read-dated-swap-uncoded-determined : Determined 1 read-dated-swap-uncoded-kinds.ps read-dated-swap-uncoded-kinds.r read-dated-swap-uncoded.Post
+read-dated-swap-uncoded-determined κs a x y e e′ p q = dated-swap-told x y (p ∙ sym q)
+
+pub write-dated-swap-settled : Settled 1 write-dated-swap-kinds.ps write-dated-swap-kinds.r write-dated-swap.Post
+write-dated-swap-settled κs a x y w w′ p q = ap (λ (l : List ℕ). (tt, (l, tt))) (p ∙ sym q)

@@ -1,14 +1,16 @@
--- The records of document 01: "Little-endian, one byte of kind, then a fixed body." A layout says a kind's number, its fields, and how a value is held by them; its size, its bytes and
+-- The records of document 01, kinds 1 to 4, and of document 02, kind 5: "Little-endian, one byte of kind, then a fixed body." A layout says a kind's number, its fields, and how a value is held by them; its size, its bytes and
 -- what its readers answer follow. Definitions only. Assumes nothing.
 use Prim.Native.Nat.{ℕ, suc}
 use mathlib.Core.Bool.{_||_}
 use mathlib.Core.List.{List, [], _∷_}
 use Rattle.refusals.specs.Outcome.{Outcome, refused, accepted, line, judged}
 use Rattle.refusals.specs.Table.{badRecord}
+use Rattle.dates.specs.declared.Date.{Date}
 use Rattle.records.specs.declared.Terms.{Terms}
 use Rattle.records.specs.declared.BondRecord.{BondRecord}
 use Rattle.records.specs.declared.Row.{Row}
 use Rattle.records.specs.declared.SwapRecord.{SwapRecord}
+use Rattle.records.specs.declared.DatedSwapRecord.{DatedSwapRecord}
 use Rattle.records.specs.declared.TermsRead.{TermsRead}
 use Rattle.records.specs.declared.TermsRead.the-variants as terms-is
 use Rattle.records.specs.declared.RowRead.{RowRead}
@@ -17,7 +19,9 @@ use Rattle.records.specs.declared.BondRead.{BondRead}
 use Rattle.records.specs.declared.BondRead.the-variants as bond-is
 use Rattle.records.specs.declared.SwapRead.{SwapRead}
 use Rattle.records.specs.declared.SwapRead.the-variants as swap-is
-use Rattle.records.specs.Fields.{Field, code, whole, float, sizeOfAll, HeldByAll, bytesInAll, heldFrom, anyBadCode}
+use Rattle.records.specs.declared.DatedSwapRead.{DatedSwapRead}
+use Rattle.records.specs.declared.DatedSwapRead.the-variants as dated-swap-is
+use Rattle.records.specs.Fields.{Field, code, byte, pair, whole, float, sizeOfAll, HeldByAll, bytesInAll, heldFrom, anyBadCode}
 
 pub record Layout (Value : Type 0) : Type 0 where
   pub kind : ℕ
@@ -169,3 +173,58 @@ readSwapUncoded = readUncoded swapLayout
 abbrev pub swapOutcome : SwapRead → Outcome SwapRecord
 swapOutcome (swap-is.Refused r) = refused (r .number) (r .place)
 swapOutcome (swap-is.Given s) = accepted s
+
+-- ---- kind 5, a dated swap, document 02's: "kind 4's body without its day count, then two dates and a day count, each date u16 year, u8 month, u8 day; its tenor is not read"; 38
+
+-- a date, of the calendar or not: its fields, its bytes, and the date that bytes hold from a place on
+abbrev pub dateFields : List Field
+dateFields = pair ∷ byte ∷ byte ∷ []
+
+unfoldable pub dateBytes : Date → List ℕ
+dateBytes d = bytesInAll dateFields (d .year, (d .month, (d .day, tt)))
+
+unfoldable pub dateAt : ℕ → List ℕ → Date
+dateAt at bytes = let h = heldFrom dateFields at bytes in record { year = h .0; month = h .1 .0; day = h .1 .1 .0 }
+
+abbrev pub datedSwapLayout : Layout DatedSwapRecord
+datedSwapLayout = record {
+  kind = 5;
+  fields = float ∷ float ∷ float ∷ whole ∷ pair ∷ byte ∷ byte ∷ pair ∷ byte ∷ byte ∷ code 2 ∷ [];
+  heldOf = λ s. (s .notional, (s .rate, (s .tenor, (s .frequency, (s .first .year, (s .first .month, (s .first .day, (s .second .year, (s .second .month, (s .second .day, (s .count, tt)))))))))));
+  valueOf = λ h.
+      let first = h .1 .1 .1 .1 in
+      let second = first .1 .1 .1 in
+      record {
+        notional = h .0;
+        rate = h .1 .0;
+        tenor = h .1 .1 .0;
+        frequency = h .1 .1 .1 .0;
+        first = record { year = first .0; month = first .1 .0; day = first .1 .1 .0 };
+        second = record { year = second .0; month = second .1 .0; day = second .1 .1 .0 };
+        count = second .1 .1 .1 .0;
+      };
+}
+
+abbrev pub datedSwapKind : ℕ
+datedSwapKind = datedSwapLayout .kind
+
+abbrev pub datedSwapSize : ℕ
+datedSwapSize = recordSize datedSwapLayout
+
+unfoldable pub datedSwapBytes : DatedSwapRecord → List ℕ
+datedSwapBytes = recordOf datedSwapLayout
+
+unfoldable pub datedSwapIn : List ℕ → DatedSwapRecord
+datedSwapIn = valueIn datedSwapLayout
+
+unfoldable pub readDatedSwap : List ℕ → Outcome DatedSwapRecord
+unfolding datedSwapIn
+readDatedSwap = readAs datedSwapLayout
+
+unfoldable pub readDatedSwapUncoded : List ℕ → Outcome DatedSwapRecord
+unfolding datedSwapIn
+readDatedSwapUncoded = readUncoded datedSwapLayout
+
+abbrev pub datedSwapOutcome : DatedSwapRead → Outcome DatedSwapRecord
+datedSwapOutcome (dated-swap-is.Refused r) = refused (r .number) (r .place)
+datedSwapOutcome (dated-swap-is.Given s) = accepted s

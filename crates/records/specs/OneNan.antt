@@ -5,7 +5,7 @@ use mathlib.Core.List.{List, [], _∷_, _++_}
 use lib.ListN.{take, drop, getD}
 use lib.Ieee.{binary64, ofBits, isNan}
 use Rattle.records.specs.Bytes.{valueOf, bytesOf}
-use Rattle.records.specs.Fields.{Field, code, pair, whole, float, sizeOf}
+use Rattle.records.specs.Fields.{Field, code, byte, pair, whole, float, sizeOf}
 
 abbrev pub AreBytes : List ℕ → Type 0
 AreBytes bytes = (i : ℕ) → getD bytes i 0 < 256
@@ -14,6 +14,7 @@ AreBytes bytes = (i : ℕ) → getD bytes i 0 < 256
 unfoldable pub oneNanIn : Field → List ℕ → List ℕ
 oneNanIn float bytes = cond (isNan (ofBits binary64 (valueOf bytes))) (bytesOf 8 0x7ff8_0000_0000_0000) bytes
 oneNanIn (code highest) bytes = bytes
+oneNanIn byte bytes = bytes
 oneNanIn pair bytes = bytes
 oneNanIn whole bytes = bytes
 

@@ -6,7 +6,7 @@ ghost use lib.Seq.{sets};
 ghost use Rattle.records.specs.Bytes.{valueOf, bytesOf, field, pairAt, wholeAt, floatAt, pairBytes, wholeBytes, floatBytes};
 
 // A whole number of two bytes.
-fn pair_at(bytes: &[u8], at: usize) -> u16
+pub(crate) fn pair_at(bytes: &[u8], at: usize) -> u16
     requires { ⌜ at + 2 ≤ length (now bytes) ⌝ }
     ensures { λ r. ⌜ r ≡ pairAt at (now (bytes .entry)) ⌝ }
 {
@@ -44,7 +44,7 @@ pub(crate) fn float_at(bytes: &[u8], at: usize) -> f64
 }
 
 // A whole number in its two places: no other place changes.
-fn put_pair(out: &mut [u8], at: usize, n: u16)
+pub(crate) fn put_pair(out: &mut [u8], at: usize, n: u16)
     requires { ⌜ at + 2 ≤ length (now out) ⌝ }
     ensures { λ _. ⌜ now (out .exit) ≡ sets (now (out .entry)) at (pairBytes n) ⌝ }
 {

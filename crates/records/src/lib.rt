@@ -4,6 +4,7 @@ ghost use Prim.Native.Nat.{_<_};
 ghost use Rattle.refusals.specs.Table.{badRecord};
 
 pub mod bond_record;
+pub mod dated_swap_record;
 mod fields;
 pub mod row_record;
 pub mod swap_record;
@@ -42,6 +43,17 @@ pub struct SwapRecord {
     pub count: u8,
 }
 
+// Kind 5, a dated swap: kind 4's numbers, two dates, of the calendar or not, and the day count's code. Its tenor is kept and read by nothing.
+pub struct DatedSwapRecord {
+    pub notional: f64,
+    pub rate: f64,
+    pub tenor: f64,
+    pub frequency: u32,
+    pub first: dates::Date,
+    pub second: dates::Date,
+    pub count: u8,
+}
+
 pub enum TermsRead {
     Refused(refusals::Refusal),
     Given(Terms),
@@ -60,6 +72,11 @@ pub enum BondRead {
 pub enum SwapRead {
     Refused(refusals::Refusal),
     Given(SwapRecord),
+}
+
+pub enum DatedSwapRead {
+    Refused(refusals::Refusal),
+    Given(DatedSwapRecord),
 }
 
 // Line 11: a record of another kind or another length.

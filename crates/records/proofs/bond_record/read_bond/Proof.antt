@@ -1,15 +1,13 @@
 -- `records::bond_record::read_bond` meets its contract. Assumes nothing.
-use mathlib.Core.Path.{_≡_, sym, ap, _∙_}
+use mathlib.Core.Path.{sym, _∙_}
 use mathlib.Core.Logic.{inl, inr}
-use mathlib.Core.Bool.{Bool, true, false, _||_}
 use borrow.Author.Needs.{needs}
 use borrow.Author.Tests.{lt-ltb, le-ltb}
 use denote.Ref.{now}
 use Rattle.refusals.specs.Table.{badCode}
 use Rattle.records.specs.declared.BondRecord.{BondRecord}
 use Rattle.records.specs.Kinds.{bondLayout, bondKind, bondSize, bondIn, readBond}
-use Rattle.refusals.proofs.Causes.{or-false}
-use Rattle.records.proofs.Judged.{good-only, refuses, accepts}
+use Rattle.records.proofs.Judged.{good-only, code-is, refuses, accepts}
 use Rattle.records.proofs.bond_record.read_bond.Statement.{statement}
 use Rattle.records.proofs.bond_record.read_bond.Tie as tie
 
@@ -29,21 +27,17 @@ bond-in-requires c κs = good-only bondKind bondSize _ (sym (c .before .bad-reco
 refuse-requires-2 : tie.Need-refuse-requires-2
 refuse-requires-2 c κs = search needs
 
--- the code that was read is the only one
-code-is : (v w : BondRecord) (bad : Bool) → v ≡ w → badCode 3 (v .frequency) ≡ bad → (badCode 3 (w .frequency) || false) ≡ bad
-code-is v w bad e h = or-false (badCode 3 (w .frequency)) ∙ ap (λ (b : BondRecord). badCode 3 (b .frequency)) (sym e) ∙ h
-
 returns-2 : tie.Need-returns-2
 unfolding readBond bondIn badCode
 returns-2 c =
     let d = c .before .before .before in
-    refuses bondLayout (now (d .before .before .before .before .args .bytes)) (c .refuse2 .ensures) (inl (code-is _ _ true (d .bond-in .ensures) (lt-ltb _ _ (c .before .if2 .taken))))
+    refuses bondLayout (now (d .before .before .before .before .args .bytes)) (c .refuse2 .ensures) (inl (code-is (λ (v : BondRecord). v .frequency) 3 (d .bond-in .ensures) (lt-ltb _ _ (c .before .if2 .taken))))
 
 returns-3 : tie.Need-returns-3
 unfolding readBond bondIn badCode
 returns-3 c =
     let d = c .before .before in
-    accepts bondLayout _ (d .bond-in .ensures) (code-is _ _ false (d .bond-in .ensures) (le-ltb _ _ (c .if2 .left))) (sym (d .before .before .bad-record .ensures) ∙ d .before .if1 .left)
+    accepts bondLayout _ (d .bond-in .ensures) (code-is (λ (v : BondRecord). v .frequency) 3 (d .bond-in .ensures) (le-ltb _ _ (c .if2 .left))) (sym (d .before .before .bad-record .ensures) ∙ d .before .if1 .left)
 
 pub read-bond-spec : {M : Type 1} → statement M
 read-bond-spec =

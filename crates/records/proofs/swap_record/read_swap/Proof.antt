@@ -1,15 +1,13 @@
 -- `records::swap_record::read_swap` meets its contract. Assumes nothing.
-use mathlib.Core.Path.{_≡_, sym, ap, _∙_}
+use mathlib.Core.Path.{sym, _∙_}
 use mathlib.Core.Logic.{inl, inr}
-use mathlib.Core.Bool.{Bool, true, false, _||_}
 use borrow.Author.Needs.{needs}
 use borrow.Author.Tests.{lt-ltb, le-ltb}
 use denote.Ref.{now}
 use Rattle.refusals.specs.Table.{badCode}
 use Rattle.records.specs.declared.SwapRecord.{SwapRecord}
 use Rattle.records.specs.Kinds.{swapLayout, swapKind, swapSize, swapIn, readSwap}
-use Rattle.refusals.proofs.Causes.{or-false}
-use Rattle.records.proofs.Judged.{good-only, refuses, accepts}
+use Rattle.records.proofs.Judged.{good-only, code-is, refuses, accepts}
 use Rattle.records.proofs.swap_record.read_swap.Statement.{statement}
 use Rattle.records.proofs.swap_record.read_swap.Tie as tie
 
@@ -29,21 +27,17 @@ swap-in-requires c κs = good-only swapKind swapSize _ (sym (c .before .bad-reco
 refuse-requires-2 : tie.Need-refuse-requires-2
 refuse-requires-2 c κs = search needs
 
--- the code that was read is the only one
-code-is : (v w : SwapRecord) (bad : Bool) → v ≡ w → badCode 2 (v .count) ≡ bad → (badCode 2 (w .count) || false) ≡ bad
-code-is v w bad e h = or-false (badCode 2 (w .count)) ∙ ap (λ (b : SwapRecord). badCode 2 (b .count)) (sym e) ∙ h
-
 returns-2 : tie.Need-returns-2
 unfolding readSwap swapIn badCode
 returns-2 c =
     let d = c .before .before .before in
-    refuses swapLayout (now (d .before .before .before .before .args .bytes)) (c .refuse2 .ensures) (inl (code-is _ _ true (d .swap-in .ensures) (lt-ltb _ _ (c .before .if2 .taken))))
+    refuses swapLayout (now (d .before .before .before .before .args .bytes)) (c .refuse2 .ensures) (inl (code-is (λ (v : SwapRecord). v .count) 2 (d .swap-in .ensures) (lt-ltb _ _ (c .before .if2 .taken))))
 
 returns-3 : tie.Need-returns-3
 unfolding readSwap swapIn badCode
 returns-3 c =
     let d = c .before .before in
-    accepts swapLayout _ (d .swap-in .ensures) (code-is _ _ false (d .swap-in .ensures) (le-ltb _ _ (c .if2 .left))) (sym (d .before .before .bad-record .ensures) ∙ d .before .if1 .left)
+    accepts swapLayout _ (d .swap-in .ensures) (code-is (λ (v : SwapRecord). v .count) 2 (d .swap-in .ensures) (le-ltb _ _ (c .if2 .left))) (sym (d .before .before .bad-record .ensures) ∙ d .before .if1 .left)
 
 pub read-swap-spec : {M : Type 1} → statement M
 read-swap-spec =
