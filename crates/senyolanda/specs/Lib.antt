@@ -4,6 +4,7 @@ pub mod Calls
 pub mod YearCalls
 pub mod Bonds
 pub mod Models
+pub mod Dates
 pub mod Swaps
 pub mod Pools
 pub mod Spreads

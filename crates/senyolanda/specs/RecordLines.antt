@@ -6,14 +6,15 @@ use Prim.Native.Nat.{ℕ}
 use lib.Ieee.{Float}
 use Rattle.refusals.specs.Outcome.{Line, line, lineOfTwo}
 use Rattle.refusals.specs.Table.{badRecord, badCode}
-use Rattle.records.specs.Kinds.{termsKind, termsSize, termsIn, bondKind, bondSize, bondIn, swapKind, swapSize, swapIn}
+use Rattle.records.specs.Kinds.{termsKind, termsSize, termsIn, bondKind, bondSize, bondIn, swapKind, swapSize, swapIn, datedSwapKind, datedSwapSize, datedSwapIn}
 use Rattle.mortgage.specs.Terms.{termsLines}
 use Rattle.mortgage.specs.BreakEven.{breakEvenLines}
 use Rattle.bond.specs.Codes.{lastCode as lastFrequency}
 use Rattle.swaps.specs.Codes.{lastCode as lastDayCount}
 use Rattle.swaps.specs.Swap.{swapLines}
+use Rattle.swaps.specs.DatedSwap.{uncodedDatedLines, datedLines}
 use Rattle.senyolanda.specs.Bonds.{uncodedLines}
-use Rattle.senyolanda.specs.Swaps.{swapOf}
+use Rattle.senyolanda.specs.Swaps.{swapOf, datedSwapOf}
 
 -- 11 and nothing else where the record is bad, else the lines of what it holds
 abbrev pub afterRecord : Bool → List Line → List Line
@@ -44,3 +45,9 @@ abbrev pub swapRecordLines : List ℕ → List Float → List Float → List Lin
 swapRecordLines bytes tenors zeros =
     afterRecord (badRecord swapKind swapSize bytes)
     (afterCode (badCode lastDayCount (swapIn bytes .count)) (swapLines (swapOf (swapIn bytes)) tenors zeros) (swapLines (swapOf (swapIn bytes)) tenors zeros))
+
+-- ---- a dated swap's: an unknown day count is 11 in its turn, before 15
+abbrev pub datedSwapRecordLines : List ℕ → List Float → List Float → List Line
+datedSwapRecordLines bytes tenors zeros =
+    afterRecord (badRecord datedSwapKind datedSwapSize bytes)
+    (afterCode (badCode lastDayCount (datedSwapIn bytes .count)) (uncodedDatedLines (datedSwapOf (datedSwapIn bytes)) tenors zeros) (datedLines (datedSwapOf (datedSwapIn bytes)) tenors zeros))

@@ -3,7 +3,9 @@
 // lent memory, which a refusal leaves as it was. include/senyolanda.h declares each.
 mod bonds;
 mod books;
+mod date_counts;
 mod dated;
+mod dated_swaps;
 mod lists;
 mod loans;
 mod models;

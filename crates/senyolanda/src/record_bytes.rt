@@ -1,17 +1,22 @@
-// Readers and writers of records, kinds 1 to 4.
+// Readers and writers of records, kinds 1 to 5.
 ghost use mathlib.Core.Path.{_≡_};
 ghost use mathlib.Core.List.{[], _∷_};
 ghost use Rattle.refusals.specs.Outcome.{line, judged};
-ghost use Rattle.refusals.specs.Table.{badCode};
-ghost use Rattle.records.specs.Kinds.{readTerms, termsBytes, readBond, bondBytes, readRow, rowBytes, readSwap, swapBytes};
+ghost use Rattle.refusals.specs.Table.{badCode, noSuchDate};
+ghost use Rattle.records.specs.Kinds.{readTerms, termsBytes, readBond, bondBytes, readRow, rowBytes, readSwap, swapBytes, readDatedSwap, datedSwapBytes};
 ghost use Rattle.senyolanda.specs.Told.{always, told};
 ghost use Rattle.senyolanda.specs.Loans.{termsNumbers, rowNumbers};
 ghost use Rattle.senyolanda.specs.Bonds.{bondNumbers};
-ghost use Rattle.senyolanda.specs.Swaps.{swapNumbers};
+ghost use Rattle.senyolanda.specs.Dates.{dateOf, heldByRecord, writtenLines};
+ghost use Rattle.senyolanda.specs.Swaps.{swapNumbers, datedSwapNumbers};
+use crate::date_counts::DATE_NUMBERS;
 use crate::results::ACCEPTED;
 use crate::results::refusal_result;
+use dates::Date;
 use records::BondRead;
 use records::BondRecord;
+use records::DatedSwapRead;
+use records::DatedSwapRecord;
 use records::Row;
 use records::RowRead;
 use records::SwapRead;
@@ -196,5 +201,96 @@ pub extern "C" fn senyolanda_write_swap(
         count: day_count as u8,
     };
     records::swap_record::write_swap(swap, record);
+    ACCEPTED
+}
+
+#[no_mangle]
+pub extern "C" fn senyolanda_read_dated_swap(
+    record: &[u8],
+    notional: &mut f64,
+    rate: &mut f64,
+    tenor: &mut f64,
+    frequency: &mut u32,
+    first: &mut [u32; DATE_NUMBERS],
+    second: &mut [u32; DATE_NUMBERS],
+    day_count: &mut u32,
+) -> u64
+    ensures { λ r. ⌜ (r, (now (notional .exit), now (rate .exit), now (tenor .exit), now (frequency .exit), now (first .exit), now (second .exit), now («day_count» .exit))) ≡ told datedSwapNumbers (readDatedSwap (now («record» .entry))) (now (notional .entry), now (rate .entry), now (tenor .entry), now (frequency .entry), now (first .entry), now (second .entry), now («day_count» .entry)) ⌝ }
+{
+    match records::dated_swap_record::read_dated_swap(record) {
+        DatedSwapRead::Refused(refusal) => refusal_result(refusal),
+        DatedSwapRead::Given(swap) => {
+            let from = swap.first;
+            let to = swap.second;
+            *notional = swap.notional;
+            *rate = swap.rate;
+            *tenor = swap.tenor;
+            *frequency = swap.frequency;
+            *first = [from.year as u32, from.month as u32, from.day as u32];
+            *second = [to.year as u32, to.month as u32, to.day as u32];
+            *day_count = swap.count as u32;
+            ACCEPTED
+        }
+    }
+}
+
+// Line 15, of a date that a record cannot hold.
+fn too_large(year: u32, month: u32, day: u32) -> bool
+    ensures { λ r. ⌜ r ≡ noSuchDate (heldByRecord (dateOf year month day)) ⌝ }
+{
+    if year > 0xffff {
+        return true;
+    }
+    if month > 0xff {
+        return true;
+    }
+    day > 0xff
+}
+
+// A day count code outside 0 to 2 is line 11, and a date that the record cannot hold is line 15; any other is written, of the calendar or not.
+#[no_mangle]
+pub extern "C" fn senyolanda_write_dated_swap(
+    notional: f64,
+    rate: f64,
+    tenor: f64,
+    frequency: u32,
+    first_year: u32,
+    first_month: u32,
+    first_day: u32,
+    second_year: u32,
+    second_month: u32,
+    second_day: u32,
+    day_count: u32,
+    record: &mut [u8; records::dated_swap_record::DATED_SWAP_SIZE],
+) -> u64
+    ensures { λ r. ⌜ (r, now («record» .exit)) ≡ told datedSwapBytes (judged (writtenLines «day_count» (dateOf «first_year» «first_month» «first_day») (dateOf «second_year» «second_month» «second_day»)) (record { notional = notional; rate = rate; tenor = tenor; frequency = frequency; first = dateOf «first_year» «first_month» «first_day»; second = dateOf «second_year» «second_month» «second_day»; count = «day_count» })) (now («record» .entry)) ⌝ }
+{
+    if day_count > 2 {
+        return refusal_result(refusals::refuse(11));
+    }
+    if too_large(first_year, first_month, first_day) {
+        return refusal_result(refusals::refuse(15));
+    }
+    if too_large(second_year, second_month, second_day) {
+        return refusal_result(refusals::refuse(15));
+    }
+    let swap = DatedSwapRecord {
+        notional,
+        rate,
+        tenor,
+        frequency,
+        first: Date {
+            year: first_year as u16,
+            month: first_month as u8,
+            day: first_day as u8,
+        },
+        second: Date {
+            year: second_year as u16,
+            month: second_month as u8,
+            day: second_day as u8,
+        },
+        count: day_count as u8,
+    };
+    records::dated_swap_record::write_dated_swap(swap, record);
     ACCEPTED
 }

@@ -1,4 +1,4 @@
-// Swaps: a swap comes as a kind 4 record, its curve as tenors and zero rates.
+// Swaps: a swap comes as a kind 4 record, its curve as tenors and zero rates. What is asked of it is asked of a dated swap too.
 ghost use mathlib.Core.Path.{_≡_};
 ghost use Prim.Native.Nat.{_≤_};
 ghost use mathlib.Core.List.{_++_};
@@ -6,7 +6,8 @@ ghost use lib.ListN.{length, drop};
 ghost use Rattle.swaps.specs.Discount.{rateAt, discountFactor};
 ghost use Rattle.swaps.specs.Bootstrap.{fromParRates};
 ghost use Rattle.swaps.specs.Valuation.{fixedLegPv, floatingLegPv, swapNpv, parSwapRate, swapDv01, swapDuration, valueSwap, valuationOutcome};
-ghost use Rattle.swaps.specs.declared.Swap.{Swap};
+ghost use Rattle.refusals.specs.Outcome.{andThen};
+ghost use Rattle.swaps.specs.declared.AnySwap.{AnySwap};
 ghost use Rattle.senyolanda.specs.Told.{told, toldNumber};
 ghost use Rattle.senyolanda.specs.Swaps.{countedBy, swapRead, swapInOutcome, ofSwap, isTrue, fractionOf, valuationNumbers, zerosOver};
 use crate::results::ACCEPTED;
@@ -16,6 +17,7 @@ use records::SwapRead;
 use records::SwapRecord;
 use refusals::Refusal;
 use refusals::Verdict;
+use swaps::AnySwap;
 use swaps::Swap;
 use swaps::day_counts::DayCount;
 use swaps::day_counts::DayCountRead;
@@ -23,7 +25,7 @@ use swaps::valuation::ValuationAnswer;
 
 pub(crate) enum SwapIn {
     Refused(Refusal),
-    Given(Swap),
+    Given(AnySwap),
 }
 
 fn counted_by(day_count: DayCount, fields: SwapRecord) -> Swap
@@ -45,7 +47,9 @@ fn swap_in(bytes: &[u8], tenors: &[f64], zeros: &[f64]) -> SwapIn
     match records::swap_record::read_swap_uncoded(bytes) {
         SwapRead::Refused(refusal) => SwapIn::Refused(refusal),
         SwapRead::Given(fields) => match swaps::day_counts::day_count_of(fields.count) {
-            DayCountRead::Given(day_count) => SwapIn::Given(counted_by(day_count, fields)),
+            DayCountRead::Given(day_count) => {
+                SwapIn::Given(AnySwap::Undated(counted_by(day_count, fields)))
+            }
             DayCountRead::Refused(unknown) => {
                 let swap = counted_by(DayCount::Thirty360, fields);
                 match swaps::judging::judge_swap(swap, tenors, zeros) {
@@ -136,111 +140,6 @@ pub extern "C" fn senyolanda_discount_curve_factor(
     put_number(swaps::discount::discount_factor(tenors, zeros, t), factor)
 }
 
-#[no_mangle]
-pub extern "C" fn senyolanda_fixed_leg_pv(
-    record: &[u8],
-    tenors: &[f64],
-    zeros: &[f64],
-    pv: &mut f64,
-) -> u64
-    ensures { λ r. ⌜ (r, now (pv .exit)) ≡ toldNumber (ofSwap (now («record» .entry)) (now (tenors .entry)) (now (zeros .entry)) (λ (s : Swap). fixedLegPv s (now (tenors .entry)) (now (zeros .entry)))) (now (pv .entry)) ⌝ }
-{
-    match swap_in(record, tenors, zeros) {
-        SwapIn::Refused(refusal) => refusal_result(refusal),
-        SwapIn::Given(swap) => put_number(swaps::legs::fixed_leg_pv(swap, tenors, zeros), pv),
-    }
-}
-
-#[no_mangle]
-pub extern "C" fn senyolanda_floating_leg_pv(
-    record: &[u8],
-    tenors: &[f64],
-    zeros: &[f64],
-    pv: &mut f64,
-) -> u64
-    ensures { λ r. ⌜ (r, now (pv .exit)) ≡ toldNumber (ofSwap (now («record» .entry)) (now (tenors .entry)) (now (zeros .entry)) (λ (s : Swap). floatingLegPv s (now (tenors .entry)) (now (zeros .entry)))) (now (pv .entry)) ⌝ }
-{
-    match swap_in(record, tenors, zeros) {
-        SwapIn::Refused(refusal) => refusal_result(refusal),
-        SwapIn::Given(swap) => put_number(swaps::legs::floating_leg_pv(swap, tenors, zeros), pv),
-    }
-}
-
-#[no_mangle]
-pub extern "C" fn senyolanda_swap_npv(
-    record: &[u8],
-    tenors: &[f64],
-    zeros: &[f64],
-    receive_fixed: u32,
-    npv: &mut f64,
-) -> u64
-    ensures { λ r. ⌜ (r, now (npv .exit)) ≡ toldNumber (ofSwap (now («record» .entry)) (now (tenors .entry)) (now (zeros .entry)) (λ (s : Swap). swapNpv s (now (tenors .entry)) (now (zeros .entry)) (isTrue «receive_fixed»))) (now (npv .entry)) ⌝ }
-{
-    match swap_in(record, tenors, zeros) {
-        SwapIn::Refused(refusal) => refusal_result(refusal),
-        SwapIn::Given(swap) => {
-            let value = swaps::valuation::swap_npv(swap, tenors, zeros, receive_fixed != 0);
-            put_number(value, npv)
-        }
-    }
-}
-
-#[no_mangle]
-pub extern "C" fn senyolanda_par_swap_rate(
-    record: &[u8],
-    tenors: &[f64],
-    zeros: &[f64],
-    rate: &mut f64,
-) -> u64
-    ensures { λ r. ⌜ (r, now (rate .exit)) ≡ toldNumber (ofSwap (now («record» .entry)) (now (tenors .entry)) (now (zeros .entry)) (λ (s : Swap). parSwapRate s (now (tenors .entry)) (now (zeros .entry)))) (now (rate .entry)) ⌝ }
-{
-    match swap_in(record, tenors, zeros) {
-        SwapIn::Refused(refusal) => refusal_result(refusal),
-        SwapIn::Given(swap) => {
-            put_number(swaps::valuation::par_swap_rate(swap, tenors, zeros), rate)
-        }
-    }
-}
-
-#[no_mangle]
-pub extern "C" fn senyolanda_swap_dv01(
-    record: &[u8],
-    tenors: &[f64],
-    zeros: &[f64],
-    receive_fixed: u32,
-    dv01: &mut f64,
-) -> u64
-    ensures { λ r. ⌜ (r, now (dv01 .exit)) ≡ toldNumber (ofSwap (now («record» .entry)) (now (tenors .entry)) (now (zeros .entry)) (λ (s : Swap). swapDv01 s (now (tenors .entry)) (now (zeros .entry)) (isTrue «receive_fixed»))) (now (dv01 .entry)) ⌝ }
-{
-    match swap_in(record, tenors, zeros) {
-        SwapIn::Refused(refusal) => refusal_result(refusal),
-        SwapIn::Given(swap) => {
-            let value = swaps::valuation::swap_dv01(swap, tenors, zeros, receive_fixed != 0);
-            put_number(value, dv01)
-        }
-    }
-}
-
-#[no_mangle]
-pub extern "C" fn senyolanda_swap_duration(
-    record: &[u8],
-    tenors: &[f64],
-    zeros: &[f64],
-    duration: &mut f64,
-) -> u64
-    ensures { λ r. ⌜ (r, now (duration .exit)) ≡ toldNumber (ofSwap (now («record» .entry)) (now (tenors .entry)) (now (zeros .entry)) (λ (s : Swap). swapDuration s (now (tenors .entry)) (now (zeros .entry)))) (now (duration .entry)) ⌝ }
-{
-    match swap_in(record, tenors, zeros) {
-        SwapIn::Refused(refusal) => refusal_result(refusal),
-        SwapIn::Given(swap) => {
-            put_number(
-                swaps::valuation::swap_duration(swap, tenors, zeros),
-                duration,
-            )
-        }
-    }
-}
-
 fn put_valuation(answer: ValuationAnswer, valuation: &mut [f64; 6]) -> u64
     ensures { λ r. ⌜ (r, now (valuation .exit)) ≡ told valuationNumbers (valuationOutcome answer) (now (valuation .entry)) ⌝ }
 {
@@ -260,7 +159,190 @@ fn put_valuation(answer: ValuationAnswer, valuation: &mut [f64; 6]) -> u64
     }
 }
 
+// ---- what is asked of a swap of either kind that was read
+pub(crate) fn put_fixed_leg(read: SwapIn, tenors: &[f64], zeros: &[f64], pv: &mut f64) -> u64
+    ensures { λ r. ⌜ (r, now (pv .exit)) ≡ toldNumber (andThen (swapInOutcome read) (λ (s : AnySwap). fixedLegPv s (now (tenors .entry)) (now (zeros .entry)))) (now (pv .entry)) ⌝ }
+{
+    match read {
+        SwapIn::Refused(refusal) => refusal_result(refusal),
+        SwapIn::Given(swap) => {
+            let answer = swaps::legs::fixed_leg_pv(swap, tenors, zeros);
+            put_number(answer, pv)
+        }
+    }
+}
+
+pub(crate) fn put_floating_leg(read: SwapIn, tenors: &[f64], zeros: &[f64], pv: &mut f64) -> u64
+    ensures { λ r. ⌜ (r, now (pv .exit)) ≡ toldNumber (andThen (swapInOutcome read) (λ (s : AnySwap). floatingLegPv s (now (tenors .entry)) (now (zeros .entry)))) (now (pv .entry)) ⌝ }
+{
+    match read {
+        SwapIn::Refused(refusal) => refusal_result(refusal),
+        SwapIn::Given(swap) => {
+            let answer = swaps::legs::floating_leg_pv(swap, tenors, zeros);
+            put_number(answer, pv)
+        }
+    }
+}
+
+pub(crate) fn put_npv(
+    read: SwapIn,
+    tenors: &[f64],
+    zeros: &[f64],
+    receive_fixed: u32,
+    npv: &mut f64,
+) -> u64
+    ensures { λ r. ⌜ (r, now (npv .exit)) ≡ toldNumber (andThen (swapInOutcome read) (λ (s : AnySwap). swapNpv s (now (tenors .entry)) (now (zeros .entry)) (isTrue «receive_fixed»))) (now (npv .entry)) ⌝ }
+{
+    match read {
+        SwapIn::Refused(refusal) => refusal_result(refusal),
+        SwapIn::Given(swap) => {
+            let answer = swaps::valuation::swap_npv(swap, tenors, zeros, receive_fixed != 0);
+            put_number(answer, npv)
+        }
+    }
+}
+
+pub(crate) fn put_par_rate(read: SwapIn, tenors: &[f64], zeros: &[f64], rate: &mut f64) -> u64
+    ensures { λ r. ⌜ (r, now (rate .exit)) ≡ toldNumber (andThen (swapInOutcome read) (λ (s : AnySwap). parSwapRate s (now (tenors .entry)) (now (zeros .entry)))) (now (rate .entry)) ⌝ }
+{
+    match read {
+        SwapIn::Refused(refusal) => refusal_result(refusal),
+        SwapIn::Given(swap) => {
+            let answer = swaps::valuation::par_swap_rate(swap, tenors, zeros);
+            put_number(answer, rate)
+        }
+    }
+}
+
+pub(crate) fn put_dv01(
+    read: SwapIn,
+    tenors: &[f64],
+    zeros: &[f64],
+    receive_fixed: u32,
+    dv01: &mut f64,
+) -> u64
+    ensures { λ r. ⌜ (r, now (dv01 .exit)) ≡ toldNumber (andThen (swapInOutcome read) (λ (s : AnySwap). swapDv01 s (now (tenors .entry)) (now (zeros .entry)) (isTrue «receive_fixed»))) (now (dv01 .entry)) ⌝ }
+{
+    match read {
+        SwapIn::Refused(refusal) => refusal_result(refusal),
+        SwapIn::Given(swap) => {
+            let answer = swaps::valuation::swap_dv01(swap, tenors, zeros, receive_fixed != 0);
+            put_number(answer, dv01)
+        }
+    }
+}
+
+pub(crate) fn put_duration(read: SwapIn, tenors: &[f64], zeros: &[f64], duration: &mut f64) -> u64
+    ensures { λ r. ⌜ (r, now (duration .exit)) ≡ toldNumber (andThen (swapInOutcome read) (λ (s : AnySwap). swapDuration s (now (tenors .entry)) (now (zeros .entry)))) (now (duration .entry)) ⌝ }
+{
+    match read {
+        SwapIn::Refused(refusal) => refusal_result(refusal),
+        SwapIn::Given(swap) => {
+            let answer = swaps::valuation::swap_duration(swap, tenors, zeros);
+            put_number(answer, duration)
+        }
+    }
+}
+
 // All of it at once: value, fixed leg, floating leg, par rate, value of a basis point, duration.
+pub(crate) fn put_values(
+    read: SwapIn,
+    tenors: &[f64],
+    zeros: &[f64],
+    receive_fixed: u32,
+    valuation: &mut [f64; 6],
+) -> u64
+    ensures { λ r. ⌜ (r, now (valuation .exit)) ≡ told valuationNumbers (andThen (swapInOutcome read) (λ (s : AnySwap). valueSwap s (now (tenors .entry)) (now (zeros .entry)) (isTrue «receive_fixed»))) (now (valuation .entry)) ⌝ }
+{
+    match read {
+        SwapIn::Refused(refusal) => refusal_result(refusal),
+        SwapIn::Given(swap) => {
+            let answer = swaps::valuation::value_swap(swap, tenors, zeros, receive_fixed != 0);
+            put_valuation(answer, valuation)
+        }
+    }
+}
+
+#[no_mangle]
+pub extern "C" fn senyolanda_fixed_leg_pv(
+    record: &[u8],
+    tenors: &[f64],
+    zeros: &[f64],
+    pv: &mut f64,
+) -> u64
+    ensures { λ r. ⌜ (r, now (pv .exit)) ≡ toldNumber (ofSwap (now («record» .entry)) (now (tenors .entry)) (now (zeros .entry)) (λ (s : AnySwap). fixedLegPv s (now (tenors .entry)) (now (zeros .entry)))) (now (pv .entry)) ⌝ }
+{
+    let read = swap_in(record, tenors, zeros);
+    put_fixed_leg(read, tenors, zeros, pv)
+}
+
+#[no_mangle]
+pub extern "C" fn senyolanda_floating_leg_pv(
+    record: &[u8],
+    tenors: &[f64],
+    zeros: &[f64],
+    pv: &mut f64,
+) -> u64
+    ensures { λ r. ⌜ (r, now (pv .exit)) ≡ toldNumber (ofSwap (now («record» .entry)) (now (tenors .entry)) (now (zeros .entry)) (λ (s : AnySwap). floatingLegPv s (now (tenors .entry)) (now (zeros .entry)))) (now (pv .entry)) ⌝ }
+{
+    let read = swap_in(record, tenors, zeros);
+    put_floating_leg(read, tenors, zeros, pv)
+}
+
+#[no_mangle]
+pub extern "C" fn senyolanda_swap_npv(
+    record: &[u8],
+    tenors: &[f64],
+    zeros: &[f64],
+    receive_fixed: u32,
+    npv: &mut f64,
+) -> u64
+    ensures { λ r. ⌜ (r, now (npv .exit)) ≡ toldNumber (ofSwap (now («record» .entry)) (now (tenors .entry)) (now (zeros .entry)) (λ (s : AnySwap). swapNpv s (now (tenors .entry)) (now (zeros .entry)) (isTrue «receive_fixed»))) (now (npv .entry)) ⌝ }
+{
+    let read = swap_in(record, tenors, zeros);
+    put_npv(read, tenors, zeros, receive_fixed, npv)
+}
+
+#[no_mangle]
+pub extern "C" fn senyolanda_par_swap_rate(
+    record: &[u8],
+    tenors: &[f64],
+    zeros: &[f64],
+    rate: &mut f64,
+) -> u64
+    ensures { λ r. ⌜ (r, now (rate .exit)) ≡ toldNumber (ofSwap (now («record» .entry)) (now (tenors .entry)) (now (zeros .entry)) (λ (s : AnySwap). parSwapRate s (now (tenors .entry)) (now (zeros .entry)))) (now (rate .entry)) ⌝ }
+{
+    let read = swap_in(record, tenors, zeros);
+    put_par_rate(read, tenors, zeros, rate)
+}
+
+#[no_mangle]
+pub extern "C" fn senyolanda_swap_dv01(
+    record: &[u8],
+    tenors: &[f64],
+    zeros: &[f64],
+    receive_fixed: u32,
+    dv01: &mut f64,
+) -> u64
+    ensures { λ r. ⌜ (r, now (dv01 .exit)) ≡ toldNumber (ofSwap (now («record» .entry)) (now (tenors .entry)) (now (zeros .entry)) (λ (s : AnySwap). swapDv01 s (now (tenors .entry)) (now (zeros .entry)) (isTrue «receive_fixed»))) (now (dv01 .entry)) ⌝ }
+{
+    let read = swap_in(record, tenors, zeros);
+    put_dv01(read, tenors, zeros, receive_fixed, dv01)
+}
+
+#[no_mangle]
+pub extern "C" fn senyolanda_swap_duration(
+    record: &[u8],
+    tenors: &[f64],
+    zeros: &[f64],
+    duration: &mut f64,
+) -> u64
+    ensures { λ r. ⌜ (r, now (duration .exit)) ≡ toldNumber (ofSwap (now («record» .entry)) (now (tenors .entry)) (now (zeros .entry)) (λ (s : AnySwap). swapDuration s (now (tenors .entry)) (now (zeros .entry)))) (now (duration .entry)) ⌝ }
+{
+    let read = swap_in(record, tenors, zeros);
+    put_duration(read, tenors, zeros, duration)
+}
+
 #[no_mangle]
 pub extern "C" fn senyolanda_value_swap(
     record: &[u8],
@@ -269,13 +351,8 @@ pub extern "C" fn senyolanda_value_swap(
     receive_fixed: u32,
     valuation: &mut [f64; 6],
 ) -> u64
-    ensures { λ r. ⌜ (r, now (valuation .exit)) ≡ told valuationNumbers (ofSwap (now («record» .entry)) (now (tenors .entry)) (now (zeros .entry)) (λ (s : Swap). valueSwap s (now (tenors .entry)) (now (zeros .entry)) (isTrue «receive_fixed»))) (now (valuation .entry)) ⌝ }
+    ensures { λ r. ⌜ (r, now (valuation .exit)) ≡ told valuationNumbers (ofSwap (now («record» .entry)) (now (tenors .entry)) (now (zeros .entry)) (λ (s : AnySwap). valueSwap s (now (tenors .entry)) (now (zeros .entry)) (isTrue «receive_fixed»))) (now (valuation .entry)) ⌝ }
 {
-    match swap_in(record, tenors, zeros) {
-        SwapIn::Refused(refusal) => refusal_result(refusal),
-        SwapIn::Given(swap) => {
-            let answer = swaps::valuation::value_swap(swap, tenors, zeros, receive_fixed != 0);
-            put_valuation(answer, valuation)
-        }
-    }
+    let read = swap_in(record, tenors, zeros);
+    put_values(read, tenors, zeros, receive_fixed, valuation)
 }
