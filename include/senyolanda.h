@@ -18,17 +18,18 @@
  *
  * RECORDS. Loans, bonds, rows and swaps cross as bytes: one byte of kind, then a fixed body, little-endian, so that what one
  * machine wrote every other reads. The body is what the kind's senyolanda_write_.. takes, in that order: 8 bytes for a double, 4
- * for a count, 1 for a code; of a date 2 for the year, 1 for the month, 1 for the day. A record of another kind or length is refused with 11 before anything else is looked at.
+ * for a count, 1 for a code; of a date 2 for the year, 1 for the month, 1 for the day. A record of another kind or length is
+ * refused with 11 before anything else is looked at.
  *
  * UNITS. Rates, yields and coupons are decimals a year (0.06 is six per cent), spreads are basis points, times are years and a
  * loan's term is months. Amounts are in your own money, and a price is for the whole face, not for 100 of it; nothing is rounded
  * to cents. A loan's rate is compounded monthly, a bond's yield as often as the bond pays, and the rates of curves continuously: 1
  * at time t is worth exp(-rate * t) today.
  *
- * DATES. A date is three numbers, year, month and day, of the Gregorian calendar from 1900 to 2199. Two rules for 30/360 live side
- * by side. An undated swap (kind 4) has a tenor and no dates: each of its periods counts the whole days nearest to 365 / frequency,
- * over 360. A dated swap (kind 5) runs from a first date to a second: each of its periods counts its own days, by the bond basis of
- * 30/360 (ISDA 2006) or actual days.
+ * DATES. A date is three numbers, year, month and day, of the Gregorian calendar from 1900 to 2199. There are two rules for
+ * 30/360. An undated swap (kind 4) has a tenor and no dates: each of its periods counts the whole days nearest to 365 / frequency,
+ * over 360. A dated swap (kind 5) runs from a first date to a second: each of its periods counts its own days, by the bond basis
+ * of 30/360 (ISDA 2006), or actual days.
  *
  * SCHEDULES. A loan is opened once and drawn in portions, through as little room as one row. Written plus owed is always what
  * was owed before; draw until nothing is. A draw with lines, senyolanda_loan_draw_with_years, keeps year-end totals beside the
@@ -136,8 +137,8 @@ enum senyolanda_refusal {
                                         it; to bootstrap: a tenor of 0, or above 100 years */
     SENYOLANDA_BAD_TIME = 7,         /* a maturity, tenor or time infinite or NaN, or of more than 1,200 periods; more than 1,200
                                         flows; more than 64 loans */
-    SENYOLANDA_BAD_FREQUENCY = 8,    /* a swap that pays 0, or more than 365, times a year; a dated swap that does not pay 1, 2, 3,
-                                        4, 6 or 12 times a year */
+    SENYOLANDA_BAD_FREQUENCY = 8,    /* a swap that pays 0, or more than 365, times a year; a dated swap that does not pay 1, 2,
+                                        3, 4, 6 or 12 times a year */
     SENYOLANDA_BAD_NUMBER = 9,       /* a price, yield, coupon, closing cost, flow amount or swap rate infinite or NaN */
     SENYOLANDA_PAST_THE_TERM = 10,   /* a loan in hand with more months done than its term has */
     SENYOLANDA_BAD_RECORD = 11,      /* bytes of another kind or length, or a code that stands for nothing; a book of more than
@@ -157,8 +158,8 @@ enum senyolanda_frequency {
     SENYOLANDA_MONTHLY = 3
 };
 
-/* What a number of days is divided by, to be a part of a year: 360, 365, 360. Between two dates the first two count actual days, the
-   third counts by the bond basis of 30/360; without dates the days are yours to count, and all three only divide. */
+/* What a number of days is divided by, to be a part of a year: 360, 365, 360. Between two dates the first two count actual days,
+   the third counts by the bond basis of 30/360; without dates the days are yours to count, and all three only divide. */
 enum senyolanda_day_count {
     SENYOLANDA_ACTUAL_360 = 0,
     SENYOLANDA_ACTUAL_365 = 1,
@@ -199,7 +200,7 @@ static inline const char *senyolanda_refusal_text(uint32_t number) {
     case SENYOLANDA_BAD_KNOT_COUNT: return "the curve does not have from 1 to 120 knots";
     case SENYOLANDA_BAD_KNOT: return "a knot of the curve is not finite, out of order or out of range";
     case SENYOLANDA_BAD_TIME: return "a time is not finite or there are too many periods, flows or loans";
-    case SENYOLANDA_BAD_FREQUENCY: return "the swap does not pay from 1 to 365 times a year, or has dates and its payments do not divide 12";
+    case SENYOLANDA_BAD_FREQUENCY: return "the swap does not pay from 1 to 365 times a year, or, dated, not each 1, 2, 3, 4, 6 or 12 months";
     case SENYOLANDA_BAD_NUMBER: return "a price, yield, coupon, cost, flow or rate is not finite";
     case SENYOLANDA_PAST_THE_TERM: return "the loan has more months done than its term";
     case SENYOLANDA_BAD_RECORD: return "the record is of another kind or length, or has an unknown code";
@@ -300,9 +301,9 @@ senyolanda_result senyolanda_read_dated_swap(
     uint32_t first[SENYOLANDA_FILLED SENYOLANDA_DATE_NUMBERS], uint32_t second[SENYOLANDA_FILLED SENYOLANDA_DATE_NUMBERS],
     uint32_t *SENYOLANDA_RESTRICT day_count) SENYOLANDA_CHECKED;
 
-/* The record of a dated swap; frequency is the number of payments a year, day_count an enum senyolanda_day_count. The tenor is kept
-   and read by nothing. Dates are tested by whoever values the swap; only a year above 65,535, or a month or day above 255, which no
-   record can hold, is 15. Refuses 11, 15. */
+/* The record of a dated swap; frequency is the number of payments a year, day_count an enum senyolanda_day_count. The tenor is
+   kept, and read by nothing. Dates are tested by whoever values the swap; 15 is here only for a year above 65,535, or a month or
+   day above 255, which no record can hold. Refuses 11, 15. */
 senyolanda_result senyolanda_write_dated_swap(
     double notional, double rate, double tenor, uint32_t frequency,
     uint32_t first_year, uint32_t first_month, uint32_t first_day,
@@ -311,7 +312,8 @@ senyolanda_result senyolanda_write_dated_swap(
 
 /* ---- dates: year, month from 1, day from 1, of the Gregorian calendar from 1900 to 2199 ---- */
 
-/* The number of a date: 2 on 1 January 1900, one more each day; from March 1900 on the number that spreadsheets have. Refuses 15. */
+/* The number of a date: 2 on 1 January 1900, one more each day; from March 1900 on the number that spreadsheets have.
+   Refuses 15. */
 senyolanda_result senyolanda_day_number(
     uint32_t year, uint32_t month, uint32_t day, uint32_t *SENYOLANDA_RESTRICT number) SENYOLANDA_CHECKED;
 
@@ -331,16 +333,16 @@ senyolanda_result senyolanda_actual_days(
     uint32_t second_year, uint32_t second_month, uint32_t second_day,
     uint32_t *SENYOLANDA_RESTRICT days) SENYOLANDA_CHECKED;
 
-/* The days from the first date to the second by the bond basis of 30/360 (ISDA 2006): 360 for each year, 30 for each month, and the
-   days, a first day of 31 read as 30, and a second day of 31 read as 30 when the first is then 30. The end of February is no
+/* The days from the first date to the second by the bond basis of 30/360 (ISDA 2006): 360 for each year, 30 for each month, and
+   the days, a first day of 31 read as 30, and a second day of 31 read as 30 when the first is then 30. The end of February is no
    special day, as it is in some spreadsheets. Refuses 15. */
 senyolanda_result senyolanda_days_30_360(
     uint32_t first_year, uint32_t first_month, uint32_t first_day,
     uint32_t second_year, uint32_t second_month, uint32_t second_day,
     uint32_t *SENYOLANDA_RESTRICT days) SENYOLANDA_CHECKED;
 
-/* The part of a year from the first date to the second, a decimal: actual days over 360 or 365, or 30/360 days over 360; day_count
-   is an enum senyolanda_day_count. Refuses 11, 15. */
+/* The part of a year from the first date to the second, a decimal: actual days over 360 or 365, or 30/360 days over 360;
+   day_count is an enum senyolanda_day_count. Refuses 11, 15. */
 senyolanda_result senyolanda_dated_fraction(
     uint32_t day_count,
     uint32_t first_year, uint32_t first_month, uint32_t first_day,
@@ -753,9 +755,9 @@ senyolanda_result senyolanda_nelson_siegel_instantaneous_forward(
 senyolanda_result senyolanda_nelson_siegel_metrics(
     const double model[SENYOLANDA_READ 4], double metrics[SENYOLANDA_FILLED 3]);
 
-/* ---- swaps: the swap comes as its record (kind 4), its discount curve as tenors and zero rates, flat outside; receive_fixed is 0 for the
-   side that pays the fixed rate, anything else for the other. A swap has as many periods of 1 / frequency years as its tenor is
-   nearest to, halves up. It pays at the end of each, for the whole days nearest to 365 / frequency, by its day count. ---- */
+/* ---- swaps: the swap comes as its record (kind 4), its discount curve as tenors and zero rates, flat outside; receive_fixed is 0
+   for the side that pays the fixed rate, anything else for the other. A swap has as many periods of 1 / frequency years as its
+   tenor is nearest to, halves up. It pays at the end of each, for the whole days nearest to 365 / frequency, by its day count. ---- */
 
 /* What part of a year so many days are, a decimal; day_count is an enum senyolanda_day_count. Refuses 11. */
 senyolanda_result senyolanda_day_count_fraction(
@@ -835,10 +837,11 @@ senyolanda_result senyolanda_value_swap(
     const double *tenors, size_t tenors_count, const double *zeros, size_t zeros_count,
     uint32_t receive_fixed, double valuation[SENYOLANDA_FILLED 6]) SENYOLANDA_CHECKED;
 
-/* ---- dated swaps: the swap comes as its record (kind 5), its curve as an undated swap's. Its periods are of 12 / frequency months,
-   counted from the first date, a day that a month lacks cut to the month's end; the last ends at the second date, whole or not. Each
-   pays for its own days by the day count, at its end; one that counts 0 days (30/360, from a 30th to the 31st) pays 0. Times are
-   actual days from the first date over 365, and the notional is paid at the second date. The record's tenor is not read. ---- */
+/* ---- dated swaps: the swap comes as its record (kind 5), its curve as an undated swap's. Its periods are of 12 / frequency
+   months, counted from the first date, a day that a month lacks cut to the month's end; the last ends at the second date, whole or
+   not. Each pays at its end for its own days by the day count; one that counts 0 days (30/360, from a 30th to the 31st) pays 0.
+   Times are actual days from the first date over 365, and the notional is paid at the second date. The record's tenor is not
+   read. ---- */
 
 /* As senyolanda_fixed_leg_pv, of a dated swap. Refuses 1, 4, 5, 6, 7, 8, 9, 11, 15. */
 senyolanda_result senyolanda_dated_fixed_leg_pv(
@@ -846,7 +849,8 @@ senyolanda_result senyolanda_dated_fixed_leg_pv(
     const double *tenors, size_t tenors_count, const double *zeros, size_t zeros_count,
     double *SENYOLANDA_RESTRICT pv) SENYOLANDA_CHECKED;
 
-/* As senyolanda_floating_leg_pv, each forward rate over the period's own fraction of a year. Refuses 1, 4, 5, 6, 7, 8, 9, 11, 15. */
+/* As senyolanda_floating_leg_pv, each forward rate over the period's own fraction of a year.
+   Refuses 1, 4, 5, 6, 7, 8, 9, 11, 15. */
 senyolanda_result senyolanda_dated_floating_leg_pv(
     const uint8_t *record, size_t length,
     const double *tenors, size_t tenors_count, const double *zeros, size_t zeros_count,
