@@ -4,6 +4,7 @@ use refusals::Number;
 use replaying::float_at;
 use replaying::whole_at;
 use replaying::word_at;
+use swaps::AnySwap;
 use swaps::Swap;
 use swaps::day_counts::DayCount;
 use swaps::day_counts::DayCountRead;
@@ -31,7 +32,7 @@ fn fraction(day_count: DayCountRead, days: Count) -> Number {
 
 fn of_swap(
     question: u64,
-    swap: Swap,
+    swap: AnySwap,
     tenors: &[f64],
     zeros: &[f64],
     receives_fixed: bool,
@@ -64,7 +65,13 @@ fn counted_by(
                 frequency,
                 day_count,
             };
-            of_swap(question, swap, tenors, zeros, word_at(case, 10) != 0)
+            of_swap(
+                question,
+                AnySwap::Undated(swap),
+                tenors,
+                zeros,
+                word_at(case, 10) != 0,
+            )
         }
     }
 }
