@@ -31,6 +31,8 @@ static uint32_t counts[SENYOLANDA_LOAN_COUNTS], term, written, owed, count, code
 static double loan_amounts[SENYOLANDA_LOAN_AMOUNTS];
 static uint32_t year_counts[SENYOLANDA_LOAN_COUNTS];
 static double year_amounts[SENYOLANDA_LOAN_AMOUNTS], years[YEARS * SENYOLANDA_YEAR_PLACES], line[SENYOLANDA_YEAR_PLACES];
+static uint8_t dated_swap[SENYOLANDA_DATED_SWAP_BYTES];
+static uint32_t first[SENYOLANDA_DATE_NUMBERS], second[SENYOLANDA_DATE_NUMBERS];
 static uint8_t book[BOOK * SENYOLANDA_LOAN_BYTES];
 static double book_room[BOOK * MONTHS * SENYOLANDA_ROW_PLACES];
 static uint32_t answers[BOOK];
@@ -56,6 +58,7 @@ static int set_out(void) {
     for (int i = 0; i < MONTHS; i++) history[i] = 0.005;
     return senyolanda_write_bond(1000.0, 0.05, 100.0, SENYOLANDA_MONTHLY, bond) == 0
         && senyolanda_write_swap(1e6, 0.04, 100.0, 12, SENYOLANDA_ACTUAL_360, swap) == 0
+        && senyolanda_write_dated_swap(1e6, 0.04, 0.0, 12, 2000, 1, 31, 2100, 1, 31, SENYOLANDA_THIRTY_360, dated_swap) == 0
         && senyolanda_open(loan, sizeof loan, year_counts, year_amounts) == 0;
 }
 
@@ -68,6 +71,8 @@ static int set_out(void) {
 #define BOND OF(bond)
 #define CURVE OF(times), OF(rates)
 #define SWAP OF(swap), CURVE
+#define DATED_SWAP OF(dated_swap), CURVE
+#define DATES 2000, 1, 31, 2100, 1, 31
 #define LISTS OF(flow_times), OF(amounts), CURVE
 #define DATED OF(dated), CURVE
 #define CALLS(CALL)                                                                                     \
@@ -83,6 +88,14 @@ static int set_out(void) {
     CALL(write_row, (1, 1500.0, 250.0, 1250.0, 249750.0, row))                                          \
     CALL(read_swap, (OF(swap), &x, &rate, &payment, &count, &code))                                     \
     CALL(write_swap, (1e6, 0.04, 100.0, 12, SENYOLANDA_ACTUAL_360, swap))                               \
+    CALL(read_dated_swap, (OF(dated_swap), &x, &rate, &payment, &count, first, second, &code))          \
+    CALL(write_dated_swap, (1e6, 0.04, 0.0, 12, DATES, SENYOLANDA_THIRTY_360, dated_swap))              \
+    CALL(day_number, (2199, 12, 31, &count))                                                            \
+    CALL(date_of_number, (109574, first))                                                               \
+    CALL(months_later, (2000, 1, 31, 1200, first))                                                      \
+    CALL(actual_days, (DATES, &count))                                                                  \
+    CALL(days_30_360, (DATES, &count))                                                                  \
+    CALL(dated_fraction, (SENYOLANDA_THIRTY_360, DATES, &x))                                            \
     CALL(monthly_payment, (LOAN, &x))                                                                   \
     CALL(open, (LOAN, HAND))                                                                            \
     CALL(open_with_payment, (LOAN, 1500.0, HAND))                                                       \
@@ -141,6 +154,13 @@ static int set_out(void) {
     CALL(swap_dv01, (SWAP, 1, &x))                                                                      \
     CALL(swap_duration, (SWAP, &x))                                                                     \
     CALL(value_swap, (SWAP, 1, numbers))                                                                \
+    CALL(dated_fixed_leg_pv, (DATED_SWAP, &x))                                                          \
+    CALL(dated_floating_leg_pv, (DATED_SWAP, &x))                                                       \
+    CALL(dated_swap_npv, (DATED_SWAP, 1, &x))                                                           \
+    CALL(dated_par_swap_rate, (DATED_SWAP, &x))                                                         \
+    CALL(dated_swap_dv01, (DATED_SWAP, 1, &x))                                                          \
+    CALL(dated_swap_duration, (DATED_SWAP, &x))                                                         \
+    CALL(value_dated_swap, (DATED_SWAP, 1, numbers))                                                    \
     CALL(zero_curve_rate, (CURVE, 50.0, &x))                                                            \
     CALL(zero_curve_rate_each, (CURVE, OF(asked)))                                                      \
     CALL(swap_curve_rate, (CURVE, 50.0, &x))                                                            \

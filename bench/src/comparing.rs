@@ -37,6 +37,7 @@ pub fn hold_to_the_other(job: &mut Job) {
     match job.beside {
         Beside::TheRust => hold_to(job, "the Rust", &other, FROM_THE_RUST),
         Beside::Draw => hold_to(job, "the plain draw", &other, FROM_OUR_OWN),
+        Beside::Undated => hold_to(job, "its numbers one by one", &other, FROM_OUR_OWN),
     }
 }
 
@@ -68,6 +69,7 @@ pub fn compare(jobs: &mut [Job], v3: &mut Sides, quantlib: &mut Sides) {
     let count = |beside| jobs.iter().filter(|job| job.beside == beside).count();
     println!("{} answers compared with the Rust's: within {FROM_THE_RUST:e}", count(Beside::TheRust));
     println!("{} compared with the plain draw's rows and with sums over them: the same numbers", count(Beside::Draw));
+    println!("{} compared with the dated swap's numbers one by one: the same numbers", count(Beside::Undated));
     if !v3.is_empty() {
         compare_bits(jobs, v3);
     }

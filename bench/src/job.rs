@@ -8,6 +8,8 @@ pub enum Beside {
     TheRust,
     /// The library's own plain draw.
     Draw,
+    /// The library's own valuation of an undated swap.
+    Undated,
 }
 
 impl Beside {
@@ -16,6 +18,7 @@ impl Beside {
         match self {
             Beside::TheRust => "rust",
             Beside::Draw => "draw",
+            Beside::Undated => "undated",
         }
     }
 }
@@ -41,6 +44,11 @@ impl Job {
     /// A job whose other side is the library's plain draw.
     pub fn beside_the_draw(name: impl Into<String>, rows: usize, ours: Box<dyn Side>, draw: Box<dyn Side>) -> Job {
         Job { beside: Beside::Draw, ..Job::new(name, rows, ours, draw) }
+    }
+
+    /// A job whose other side is the library's valuation of an undated swap.
+    pub fn beside_the_undated(name: impl Into<String>, rows: usize, ours: Box<dyn Side>, undated: Box<dyn Side>) -> Job {
+        Job { beside: Beside::Undated, ..Job::new(name, rows, ours, undated) }
     }
 
     pub fn aims_at(self, ratio: f64) -> Job {

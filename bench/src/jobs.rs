@@ -50,6 +50,7 @@ pub fn all() -> Vec<Job> {
         spreads::spread(60).aims_at(2.0),
         spreads::pv(60).aims_at(1.0),
         swaps::value(120, 30).aims_at(5.0),
+        swaps::dated_value(120, 30).aims_at(0.67),
         curves::fit(30).aims_at(1.0),
         elementary::exps(4096),
         elementary::lns(4096),
