@@ -1,5 +1,5 @@
 -- The calendar: which dates there are, which of two comes later, and which comes next. Document 02, K3: "valid calendar dates (1900 to 2199, leap years)". Definitions only. Assumes nothing.
-use Prim.Native.Nat.{ℕ, suc, _%_}
+use Prim.Native.Nat.{ℕ, zero, suc, _%_}
 use mathlib.Core.Bool.{Bool, cond, not, _&&_, _||_}
 use lib.Dec.{eqb, leb, ltb}
 use Rattle.dates.specs.declared.Date.{Date}
