@@ -2,3 +2,8 @@ pub mod Tests
 pub mod Parts
 pub mod YearDays
 pub mod MonthDays
+pub mod Ranks
+pub mod LaterMonths
+pub mod NextDay
+pub mod OneLine
+pub mod InOrder
