@@ -13,7 +13,7 @@ use Rattle.dates.specs.declared.Date.{Date}
 use Rattle.dates.specs.Calendar.{leap, daysIn, daysInYear, isDate, isAfter, daysLater}
 use Rattle.dates.specs.DayNumbers.{total, daysBeforeYear, daysBeforeMonth, dayNumber}
 use Rattle.dates.specs.Answers.{firstOfAll, lastOfAll, dayNumberOf, hasDate, dateNumbered}
-use Rattle.dates.proofs.Tests.{both, joined, decided}
+use Rattle.dates.proofs.Tests.{both, joined, decided, clash}
 use Rattle.dates.proofs.Parts.{Parts, parts}
 use Rattle.dates.proofs.OneLine.{caused, clear}
 use Rattle.dates.proofs.YearDays.{year-more, years-no-less, in-2200}
@@ -98,17 +98,6 @@ module _ (a b : Date) (e : isDate a ≡ true) (f : isDate b ≡ true) where
   pub later-number : isAfter a b ≡ true → dayNumber a < dayNumber b
   later-number h = higher a b (parts a e) (parts b f) (shaped a e) (shaped b f) (after-rank a b (shaped a e) (shaped b f) h)
 
-  ranked : dayNumber a ≤ dayNumber b → rank a ≤ rank b
-  ranked h = ⊎-elim (λ r. less (rank a) (rank b) r)
-      (λ r. ⊎-elim (λ s. absurd (let k = higher b a (parts b f) (parts a e) (shaped b f) (shaped a e) s in omega arith)) (λ s. same (rank a) (rank b) s) r)
-      (three-ways (rank a) (rank b))
-    where
-      less : (m n : ℕ) → m < n → m ≤ n
-      less m n h = omega arith
-
-      same : (m n : ℕ) → m ≡ n → m ≤ n
-      same m n h = omega arith
-
   -- a number has one date
   pub one-date : dayNumber a ≡ dayNumber b → a ≡ b
   one-date h =
@@ -124,6 +113,10 @@ module _ (a b : Date) (e : isDate a ≡ true) (f : isDate b ≡ true) where
       (λ r. absurd (⊎-elim (λ s. let k = higher b a (parts b f) (parts a e) (shaped b f) (shaped a e) s in omega arith)
       (λ s. let k : dayNumber a ≡ dayNumber b = ap dayNumber (same-rank a b (shaped a e) (shaped b f) s) in omega arith) r))
       (three-ways (rank a) (rank b)))
+
+  -- and where it is not later, the number is no higher
+  pub no-later-number : isAfter a b ≡ false → dayNumber b ≤ dayNumber a
+  no-later-number h = ⊎-elim (λ r. absurd (clash (number-later (ltb-true (dayNumber a) (dayNumber b) r)) h)) (λ r. ltb-false (dayNumber a) (dayNumber b) r) (decided (ltb (dayNumber a) (dayNumber b)))
 
 -- ---- the numbers that have a date
 pub from-first : (d : Date) → isDate d ≡ true → 2 ≤ dayNumber d

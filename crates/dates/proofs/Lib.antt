@@ -7,3 +7,5 @@ pub mod LaterMonths
 pub mod NextDay
 pub mod OneLine
 pub mod InOrder
+pub mod BondBasis
+pub mod Tiling
