@@ -1,7 +1,7 @@
 -- A date in a month of such an index: it has that index, its rank is the month's and a day's from 1 to 31, and no months later a date is itself. Assumes nothing.
-use mathlib.Core.Path.{_≡_, ap, _∙_}
+use mathlib.Core.Path.{_≡_, sym, ap, _∙_}
 use mathlib.Core.Bool.{true}
-use Prim.Native.Nat.{ℕ, suc, _+_, _-_, _*_, _/_, _%_, _≤_, min}
+use Prim.Native.Nat.{ℕ, suc, _+_, _-_, _*_, _/_, _%_, _≤_, _<_, min}
 use native.Mathlib.Omega.{arith}
 use Rattle.dates.specs.declared.Date.{Date}
 use Rattle.dates.specs.Calendar.{daysIn, isDate}
@@ -64,3 +64,27 @@ no-months-later d e =
 
     cut : (k last : ℕ) → k ≤ last → min k last ≡ k
     cut k last h = omega arith
+
+-- the date as the code makes it, with the day or with the month's last
+module _ (index day last : ℕ) (e : last ≡ daysIn (index / 12) (index % 12 + 1)) where
+  is-last : lastDay index ≡ last
+  is-last = ap (daysIn (index / 12)) (next (index % 12)) ∙ sym e
+    where
+      next : (n : ℕ) → suc n ≡ n + 1
+      next n = omega arith
+
+  pub with-day : day < last → record { year = index / 12; month = index % 12 + 1; day = day } ≡ dayInMonth index day
+  unfolding dayInMonth
+  with-day h =
+      let l = is-last in
+      let d : day ≡ min day (lastDay index) = omega arith in
+      let m : index % 12 + 1 ≡ suc (index % 12) = omega arith in
+      ap (λ (u : ℕ). record { year = index / 12; month = u; day = day }) m ∙ ap (λ (u : ℕ). record { year = index / 12; month = suc (index % 12); day = u }) d
+
+  pub with-last : last ≤ day → record { year = index / 12; month = index % 12 + 1; day = last } ≡ dayInMonth index day
+  unfolding dayInMonth
+  with-last h =
+      let l = is-last in
+      let d : last ≡ min day (lastDay index) = omega arith in
+      let m : index % 12 + 1 ≡ suc (index % 12) = omega arith in
+      ap (λ (u : ℕ). record { year = index / 12; month = u; day = last }) m ∙ ap (λ (u : ℕ). record { year = index / 12; month = suc (index % 12); day = u }) d

@@ -9,3 +9,5 @@ pub mod OneLine
 pub mod InOrder
 pub mod BondBasis
 pub mod Tiling
+pub mod Following
+pub mod Bounds

@@ -69,3 +69,6 @@ at-most-31 year (suc k) =
     let b = days-in-bounds year (suc k) in
     let i = at-most-31 year k in
     omega arith
+
+pub at-most-372 : (year month : ℕ) → month ≤ 12 → daysBeforeMonth year month ≤ 372
+at-most-372 year month h = let a = at-most-31 year 12 in let b = months-no-less year month 13 (omega arith) in omega arith

@@ -51,7 +51,7 @@ no-later-month : (m n p q : ℕ) → m * 32 + p < n * 32 + q → 1 ≤ p → q �
 no-later-month m n p q h a b = omega arith
 
 module _ (s : Span) (e : isSpan s ≡ true) where
-  abbrev indexAt : ℕ → ℕ
+  abbrev pub indexAt : ℕ → ℕ
   indexAt i = monthIndex (s .first) + i * s .step
 
   abbrev dayAt : ℕ → ℕ
@@ -132,7 +132,7 @@ module _ (s : Span) (e : isSpan s ≡ true) where
       no-later-month (monthIndex (s .first)) (monthIndex (s .second)) (s .first .day) (s .second .day) (omega arith) day-low (second-shaped .day-high)
 
   -- ---- as many periods as it takes
-  whole-low : indexAt (wholePeriods s) ≤ monthIndex (s .second)
+  pub whole-low : indexAt (wholePeriods s) ≤ monthIndex (s .second)
   unfolding wholePeriods
   whole-low =
       let f = first-no-later in
