@@ -146,7 +146,7 @@ has-date : (n : ℕ) → 2 ≤ n → n ≤ 109574 → hasDate n ≡ true
 unfolding hasDate
 has-date n low high = joined (leb (dayNumber firstOfAll) n) (leb n (dayNumber lastOfAll)) (rw first-number (le-leb 2 n low)) (rw last-number (le-leb n 109574 high))
 
-has-bounds : (n : ℕ) → hasDate n ≡ true → (2 ≤ n) × (n ≤ 109574)
+pub has-bounds : (n : ℕ) → hasDate n ≡ true → (2 ≤ n) × (n ≤ 109574)
 unfolding hasDate
 has-bounds n e =
     let b = both (leb (dayNumber firstOfAll) n) (leb n (dayNumber lastOfAll)) e in

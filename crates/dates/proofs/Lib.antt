@@ -11,3 +11,4 @@ pub mod BondBasis
 pub mod Tiling
 pub mod Following
 pub mod Bounds
+pub mod Asked

@@ -1,13 +1,15 @@
 -- The days of a year's months before a month: one month's more with each, by turns 30 and 31 with two or one fewer behind February, and a year's before a thirteenth. Assumes nothing.
 use mathlib.Core.Path.{_≡_, refl, ap, _∙_}
+use mathlib.Core.Logic.{⊎-elim}
 use mathlib.Core.Bool.{Bool, true, false, cond, _||_}
-use Prim.Native.Nat.{ℕ, zero, suc, _+_, _-_, _*_, _/_, _≤_}
+use Prim.Native.Nat.{ℕ, zero, suc, _+_, _-_, _*_, _/_, _≤_, _<_}
 use native.Mathlib.Omega.{arith}
-use lib.Dec.{eqb, ltb}
+use lib.Dec.{eqb, leb, ltb}
+use borrow.Author.Tests.{leb-true, leb-false}
 use Rattle.dates.specs.Calendar.{leap, daysIn, daysInYear}
 use Rattle.dates.specs.DayNumbers.{total, daysBeforeMonth}
 use Rattle.dates.proofs.Parts.{days-in-bounds}
-use Rattle.dates.proofs.Tests.{by-month}
+use Rattle.dates.proofs.Tests.{by-month, decided}
 use Rattle.dates.proofs.YearDays.{total-no-less}
 
 pub month-more : (year month : ℕ) → 1 ≤ month → daysBeforeMonth year (suc month) ≡ daysBeforeMonth year month + daysIn year month
@@ -72,3 +74,22 @@ at-most-31 year (suc k) =
 
 pub at-most-372 : (year month : ℕ) → month ≤ 12 → daysBeforeMonth year month ≤ 372
 at-most-372 year month h = let a = at-most-31 year 12 in let b = months-no-less year month 13 (omega arith) in omega arith
+
+-- ---- what a search for a month needs
+pub next-month : (year month : ℕ) → 1 ≤ month → daysBeforeMonth year (month + 1) ≡ daysBeforeMonth year month + daysIn year month
+next-month year month h =
+    let e : month + 1 ≡ suc month = omega arith in
+    ap (daysBeforeMonth year) e ∙ month-more year month h
+
+pub starts-early : (year days : ℕ) → daysBeforeMonth year (days / 31 + 1) ≤ days
+starts-early year days =
+    let a = at-most-31 year (days / 31) in
+    let e : daysBeforeMonth year (days / 31 + 1) ≡ daysBeforeMonth year (suc (days / 31)) = ap (daysBeforeMonth year) (next (days / 31)) in
+    omega arith
+  where
+    next : (n : ℕ) → n + 1 ≡ suc n
+    next n = omega arith
+
+pub in-the-year : (year month days : ℕ) → daysBeforeMonth year month ≤ days → days < daysBeforeMonth year 13 → month ≤ 12
+in-the-year year month days h k =
+    ⊎-elim (λ e. leb-true month 12 e) (λ e. absurd (let l = leb-false month 12 e in let m = months-no-less year 13 month l in omega arith)) (decided (leb month 12))

@@ -145,3 +145,11 @@ before-2200 year days h k = lt-by (λ late. let m = years-no-less 2200 year late
   where
     lt-by : (2200 ≤ year → ⊥) → year < 2200
     lt-by f = ⊎-elim (λ e. ltb-true year 2200 e) (λ e. absurd (f (ltb-false year 2200 e))) (decided (ltb year 2200))
+
+-- so many days after 1 January 1900 is no earlier than one year for each 366
+pub starts-early : (days : ℕ) → daysBeforeYear (1900 + days / 366) ≤ days
+starts-early days =
+    let a = at-most-366 (1900 + days / 366) in
+    let e : 1900 + days / 366 - 1900 ≡ days / 366 = omega arith in
+    let f : daysBeforeYear (1900 + days / 366) ≤ 366 * (days / 366) = subst (λ (k : ℕ). daysBeforeYear (1900 + days / 366) ≤ 366 * k) e a in
+    omega arith

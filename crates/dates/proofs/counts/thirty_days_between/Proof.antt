@@ -1,31 +1,25 @@
+-- `dates::counts::thirty_days_between` meets its contract. Assumes nothing.
+use mathlib.Core.Path.{sym, _∙_}
+use Rattle.refusals.proofs.Verdicts.{refused-as}
+use Rattle.dates.proofs.Asked.{no-thirty, all-thirty}
 use borrow.Author.Needs.{needs}
 use Rattle.dates.proofs.counts.thirty_days_between.Statement.{statement}
 use Rattle.dates.proofs.counts.thirty_days_between.Tie as tie
-use Rattle.dates.proofs.counts.thirty_days_between.Reads as reads
-use Rattle.dates.proofs.counts.thirty_days_between.Lts as lts
-use Rattle.dates.proofs.counts.bad_dates.Reads as bad-dates-reads
-use Rattle.dates.proofs.counts.thirty_days.Reads as thirty-days-reads
-use Rattle.refusals.proofs.refuse.Reads as refuse-reads
 
--- src/counts.rt:82:8
 bad-dates-requires : tie.Need-bad-dates-requires
 bad-dates-requires c κs = search needs
 
--- src/counts.rt:83:31
 refuse-requires : tie.Need-refuse-requires
 refuse-requires c κs = search needs
 
--- src/counts.rt:83:9
 returns : tie.Need-returns
-returns c = ?
+returns c = refused-as 15 _ _ (c .refuse .ensures) (no-thirty _ _ (sym (c .before .before .bad-dates .ensures) ∙ c .before .if1 .taken))
 
--- src/counts.rt:85:18
 thirty-days-requires : tie.Need-thirty-days-requires
 thirty-days-requires c κs = search needs
 
--- src/counts.rt:79:1
 returns-2 : tie.Need-returns-2
-returns-2 c = ?
+returns-2 c = all-thirty _ _ (sym (c .before .before .bad-dates .ensures) ∙ c .before .if1 .left) _ (c .thirty-days .ensures)
 
 pub thirty-days-between-spec : {M : Type 1} → statement M
 thirty-days-between-spec =

@@ -1,51 +1,59 @@
+-- `dates::day_numbers::month_at` meets its contract. The loop's invariant: the month is one of the year's and no more days lie before it. The measure is the months left to the thirteenth. Assumes nothing.
+use mathlib.Core.Path.{sym, ap, _∙_}
+use Prim.Native.Nat.{_+_, _-_, _/_, _≤_}
+use native.Mathlib.Omega.{arith}
+use borrow.Author.Needs.{needs}
+use Rattle.dates.specs.DayNumbers.{daysBeforeMonth}
+use Rattle.dates.proofs.Parts.{days-in-bounds}
+use Rattle.dates.proofs.MonthDays.{at-most-372, next-month, starts-early, in-the-year}
 use Rattle.dates.proofs.day_numbers.month_at.Statement.{statement}
 use Rattle.dates.proofs.day_numbers.month_at.Tie as tie
-use Rattle.dates.proofs.day_numbers.month_at.Reads as reads
-use Rattle.dates.proofs.day_numbers.month_at.Lts as lts
-use Rattle.dates.proofs.calendar.days_in.Reads as days-in-reads
-use Rattle.dates.proofs.day_numbers.days_before_month.Reads as days-before-month-reads
 
 abbrev Inv-loop : tie.InvT-loop
-Inv-loop year days month₀ month = ?
+Inv-loop year days month₀ month = (1 ≤ month) × (month ≤ 12) × (daysBeforeMonth year month ≤ days)
 
 abbrev μ-loop : tie.MeasureT-loop
-μ-loop year days month₀ month = ?
+μ-loop year days month₀ month = 13 - month
 
--- src/day_numbers.rt:87:21
 add-month : tie.Need-add-month Inv-loop μ-loop
-add-month c = ?
+add-month c = omega arith
 
--- src/day_numbers.rt:88:5
 loop-holds : tie.Need-loop-holds Inv-loop μ-loop
-loop-holds c = ?
+loop-holds c =     let y = c .args .year in
+    let d = c .args .days in
+    let s = starts-early y d in
+    (omega arith, in-the-year y (d / 31 + 1) d s (c .pre), s)
 
--- src/day_numbers.rt:88:11
 days-before-month-requires : tie.Need-days-before-month-requires Inv-loop μ-loop
-days-before-month-requires c κs = ?
+days-before-month-requires c κs = (omega arith, omega arith)
 
--- src/day_numbers.rt:88:44
 days-in-requires : tie.Need-days-in-requires Inv-loop μ-loop
-days-in-requires c κs = ?
+days-in-requires c κs = search needs
 
--- src/day_numbers.rt:88:11
 add-if1 : tie.Need-add-if1 Inv-loop μ-loop
-add-if1 c = ?
+add-if1 c =     let y = c .before .before .before .args .year in
+    let m = c .before .before .loop .month in
+    let b = at-most-372 y m (omega arith) in
+    let l = days-in-bounds y m in
+    omega arith
 
--- src/day_numbers.rt:89:9
 add-month-2 : tie.Need-add-month-2 Inv-loop μ-loop
-add-month-2 c = ?
+add-month-2 c = omega arith
 
--- src/day_numbers.rt:88:5
 loop-less : tie.Need-loop-less Inv-loop μ-loop
-loop-less c = ?
+loop-less c = omega arith
 
--- src/day_numbers.rt:88:5
 loop-again : tie.Need-loop-again Inv-loop μ-loop
-loop-again c = ?
+loop-again c =     let y = c .before .before .before .before .args .year in
+    let d = c .before .before .before .before .args .days in
+    let m = c .before .before .before .loop .month in
+    let n = next-month y m (omega arith) in
+    let h : daysBeforeMonth y (m + 1) ≤ d = omega arith in
+    (omega arith, in-the-year y (m + 1) d h (c .before .before .before .before .pre), h)
 
--- src/day_numbers.rt:83:1
 returns : tie.Need-returns Inv-loop μ-loop
-returns c = ?
+returns c =     let n = next-month (c .before .before .before .before .args .year) (c .before .before .before .loop .month) (omega arith) in
+    (omega arith, omega arith, omega arith, omega arith)
 
 pub month-at-spec : {M : Type 1} → statement M
 month-at-spec =

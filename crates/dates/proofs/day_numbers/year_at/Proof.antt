@@ -1,46 +1,45 @@
+-- `dates::day_numbers::year_at` meets its contract. The loop's invariant: the year is from 1900 to 2199 and no more days lie before it. The measure is the years left to 2200. Assumes nothing.
+use Prim.Native.Nat.{_+_, _-_, _/_, _≤_, _<_}
+use native.Mathlib.Omega.{arith}
+use Rattle.dates.specs.DayNumbers.{daysBeforeYear}
+use Rattle.dates.proofs.YearDays.{starts-early, before-2200}
 use Rattle.dates.proofs.day_numbers.year_at.Statement.{statement}
 use Rattle.dates.proofs.day_numbers.year_at.Tie as tie
-use Rattle.dates.proofs.day_numbers.year_at.Reads as reads
-use Rattle.dates.proofs.day_numbers.year_at.Lts as lts
-use Rattle.dates.proofs.day_numbers.days_before_year.Reads as days-before-year-reads
 
 abbrev Inv-loop : tie.InvT-loop
-Inv-loop days year₀ year = ?
+Inv-loop days year₀ year = (1900 ≤ year) × (year < 2200) × (daysBeforeYear year ≤ days)
 
 abbrev μ-loop : tie.MeasureT-loop
-μ-loop days year₀ year = ?
+μ-loop days year₀ year = 2200 - year
 
--- src/day_numbers.rt:75:20
 add-year : tie.Need-add-year Inv-loop μ-loop
-add-year c = ?
+add-year c = omega arith
 
--- src/day_numbers.rt:76:5
 loop-holds : tie.Need-loop-holds Inv-loop μ-loop
-loop-holds c = ?
+loop-holds c =     let d = c .args .days in
+    let s = starts-early d in
+    (omega arith, before-2200 (1900 + d / 366) d s (c .pre), s)
 
--- src/day_numbers.rt:76:28
 add-days-before-year : tie.Need-add-days-before-year Inv-loop μ-loop
-add-days-before-year c = ?
+add-days-before-year c = omega arith
 
--- src/day_numbers.rt:76:11
 days-before-year-requires : tie.Need-days-before-year-requires Inv-loop μ-loop
-days-before-year-requires c κs = ?
+days-before-year-requires c κs = (omega arith, omega arith)
 
--- src/day_numbers.rt:77:9
 add-year-2 : tie.Need-add-year-2 Inv-loop μ-loop
-add-year-2 c = ?
+add-year-2 c = omega arith
 
--- src/day_numbers.rt:76:5
 loop-less : tie.Need-loop-less Inv-loop μ-loop
-loop-less c = ?
+loop-less c = omega arith
 
--- src/day_numbers.rt:76:5
 loop-again : tie.Need-loop-again Inv-loop μ-loop
-loop-again c = ?
+loop-again c =     let y = c .before .before .loop .year in
+    let d = c .before .before .before .args .days in
+    let h : daysBeforeYear (y + 1) ≤ d = omega arith in
+    (omega arith, before-2200 (y + 1) d h (c .before .before .before .pre), h)
 
--- src/day_numbers.rt:71:1
 returns : tie.Need-returns Inv-loop μ-loop
-returns c = ?
+returns c = (omega arith, omega arith, omega arith, omega arith)
 
 pub year-at-spec : {M : Type 1} → statement M
 year-at-spec =

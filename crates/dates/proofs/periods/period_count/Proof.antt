@@ -1,76 +1,62 @@
+-- `dates::periods::period_count` meets its contract. Assumes nothing.
+use mathlib.Core.Path.{sym, _∙_}
+use native.Mathlib.Nat.{div-le-self, div-mul-le-self}
+use native.Mathlib.Omega.{arith}
+use Rattle.dates.proofs.Bounds.{factor-no-more, is-whole, one-more, no-more, whole-within}
+use Rattle.dates.proofs.Tiling.{span-parts}
 use borrow.Author.Needs.{needs}
 use Rattle.dates.proofs.periods.period_count.Statement.{statement}
 use Rattle.dates.proofs.periods.period_count.Tie as tie
-use Rattle.dates.proofs.periods.period_count.Reads as reads
-use Rattle.dates.proofs.periods.period_count.Lts as lts
-use Rattle.dates.proofs.calendar.is_after.Reads as is-after-reads
-use Rattle.dates.proofs.months.day_in_month.Reads as day-in-month-reads
-use Rattle.dates.proofs.months.month_index.Reads as month-index-reads
-use Rattle.dates.proofs.periods.months_between.Reads as months-between-reads
 
--- src/periods.rt:71:9
 returns : tie.Need-returns
-returns c = ?
+returns c = λ e. absurd (let p = span-parts _ e .step-low in omega arith)
 
--- src/periods.rt:73:17
 months-between-requires : tie.Need-months-between-requires
 months-between-requires c κs = search needs
 
--- src/periods.rt:73:17
 div-whole : tie.Need-div-whole
 div-whole c = search needs
 
--- src/periods.rt:74:17
 month-index-requires : tie.Need-month-index-requires
 month-index-requires c κs = search needs
 
--- src/periods.rt:74:17
 cast-index : tie.Need-cast-index
 cast-index c = search needs
 
--- src/periods.rt:74:51
 cast-index-2 : tie.Need-cast-index-2
-cast-index-2 c = ?
+cast-index-2 c = omega (arith, div-le-self (c .before .before .months-between .result) (c .before .before .before .before .before .args .span .step))
 
--- src/periods.rt:74:68
 cast-index-3 : tie.Need-cast-index-3
 cast-index-3 c = search needs
 
--- src/periods.rt:74:50
 mul-index : tie.Need-mul-index
-mul-index c = ?
+mul-index c = omega (arith, div-mul-le-self (c .before .before .before .months-between .result) (c .before .before .before .before .before .before .args .span .step))
 
--- src/periods.rt:74:17
 add-index : tie.Need-add-index
-add-index c = ?
+add-index c = omega (arith, div-mul-le-self (c .before .before .before .months-between .result) (c .before .before .before .before .before .before .args .span .step))
 
--- src/periods.rt:76:9
 returns-2 : tie.Need-returns-2
-returns-2 c = ?
+returns-2 c = λ e. absurd (whole-within _ e _ _ (c .before .before .month-index .ensures) (is-whole _ _ (c .before .before .before .before .months-between .ensures)) (c .if2 .taken))
 
--- src/periods.rt:78:30
 cast-day-in-month : tie.Need-cast-day-in-month
 cast-day-in-month c = search needs
 
--- src/periods.rt:78:17
 day-in-month-requires : tie.Need-day-in-month-requires
 day-in-month-requires c κs = search needs
 
--- src/periods.rt:78:8
 is-after-requires : tie.Need-is-after-requires
 is-after-requires c κs = search needs
 
--- src/periods.rt:79:9
 add-result : tie.Need-add-result
 add-result c = ?
 
--- src/periods.rt:67:1
 returns-3 : tie.Need-returns-3
-returns-3 c = ?
+returns-3 c =     λ e. one-more _ _ _ (c .before .before .before .before .before .month-index .ensures) _ (c .before .before .day-in-month .ensures) (is-whole _ _ (c .before .before .before .before .before .before .before .months-between .ensures))
+    (sym (c .before .is-after .ensures) ∙ c .if3 .taken)
 
--- src/periods.rt:67:1
 returns-4 : tie.Need-returns-4
-returns-4 c = ?
+returns-4 c =     λ e. no-more _ _ _ (c .before .before .before .before .before .month-index .ensures) _ (c .before .before .day-in-month .ensures) (is-whole _ _ (c .before .before .before .before .before .before .before .months-between .ensures))
+    (sym (c .before .is-after .ensures) ∙ c .if3 .left)
 
 pub period-count-spec : {M : Type 1} → statement M
 period-count-spec =
