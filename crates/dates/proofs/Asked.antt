@@ -39,23 +39,25 @@ pub its-date : (n : ℕ) (d : Date) → isDate d ≡ true → dayNumber d ≡ n 
 its-date n d e f = sym (ap dateNumbered (sym f) ∙ read-back d e)
 
 -- ---- the date so many days after 1 January 1900, by its year, its month and its day
-module _ (days year month : ℕ) (early : 1900 ≤ year) (late : year < 2200) (low : 1 ≤ month) (high : month ≤ 12) (in-year : daysBeforeYear year ≤ days)
-    (in-month : daysBeforeMonth year month ≤ days - daysBeforeYear year) (by-next : days - daysBeforeYear year < daysBeforeMonth year (month + 1)) where
-  abbrev dayThere : ℕ
-  dayThere = days - daysBeforeYear year - daysBeforeMonth year month + 1
+module _ (days year month p q : ℕ) (is-p : p ≡ daysBeforeYear year) (is-q : q ≡ daysBeforeMonth year month) (in-years : (1900 ≤ year) × (year < 2200) × (daysBeforeYear year ≤ days) × (days < daysBeforeYear (year + 1)))
+    (in-months : (1 ≤ month) × (month ≤ 12) × (daysBeforeMonth year month ≤ days - p) × (days - p < daysBeforeMonth year (month + 1))) where
+  abbrev there : Date
+  there = record { year = year; month = month; day = days - p - q + 1 }
 
-  pub day-fits : dayThere ≤ daysIn year month
-  day-fits = let m = next-month year month low in omega arith
+  pub day-fits : days - p - q + 1 ≤ daysIn year month
+  day-fits = let m = next-month year month (in-months .0) in omega arith
 
-  pub is-there : isDate (record { year = year; month = month; day = dayThere }) ≡ true
-  is-there =
-      let f = day-fits in
-      of-parts (record { year = year; month = month; day = dayThere })
-      (record { not-early = early; not-late = omega arith; month-low = low; month-high = high; day-low = omega arith; day-high = f })
-
-  pub number-there : dayNumber (record { year = year; month = month; day = dayThere }) ≡ 2 + days
+  number-there : dayNumber there ≡ 2 + days
   unfolding dayNumber
   number-there = omega arith
+
+  pub is-there : (isDate there ≡ true) × (dayNumber there ≡ 2 + days)
+  is-there =
+      let f = day-fits in (
+        of-parts there
+            (record { not-early = in-years .0; not-late = omega arith; month-low = in-months .0; month-high = in-months .1; day-low = omega arith; day-high = f }),
+        number-there,
+      )
 
 pub rest-of-year : (days year : ℕ) → 1900 ≤ year → daysBeforeYear year ≤ days → days < daysBeforeYear (year + 1) → days - daysBeforeYear year < daysBeforeMonth year 13
 rest-of-year days year h k l =

@@ -75,16 +75,16 @@ module _ (a b : Date) (p : Parts a) (q : Parts b) where
   on-later-day s t h =
       let y : daysBeforeYear (b .year) ≡ daysBeforeYear (a .year) = ap daysBeforeYear (sym s) in
       let n : daysBeforeMonth (b .year) (b .month) ≡ daysBeforeMonth (a .year) (a .month)
-          = ap (λ (u : ℕ). daysBeforeMonth u (b .month)) (sym s) ∙ ap (daysBeforeMonth (a .year)) (sym t) in
+      = ap (λ (u : ℕ). daysBeforeMonth u (b .month)) (sym s) ∙ ap (daysBeforeMonth (a .year)) (sym t) in
       omega arith
 
   higher : Shaped a → Shaped b → rank a < rank b → dayNumber a < dayNumber b
   higher s t h =
       ⊎-elim (λ e. in-later-year (ltb-true (a .year) (b .year) e))
       (λ e. let y : a .year ≡ b .year = (let n = ltb-false (a .year) (b .year) e in omega arith) in
-          ⊎-elim (λ f. in-later-month y (ltb-true (a .month) (b .month) f))
-          (λ f. let n = ltb-false (a .month) (b .month) f in let m : a .month ≡ b .month = omega arith in on-later-day y m (omega arith))
-          (decided (ltb (a .month) (b .month))))
+      ⊎-elim (λ f. in-later-month y (ltb-true (a .month) (b .month) f))
+      (λ f. let n = ltb-false (a .month) (b .month) f in let m : a .month ≡ b .month = omega arith in on-later-day y m (omega arith))
+      (decided (ltb (a .month) (b .month))))
       (decided (ltb (a .year) (b .year)))
 
 -- of two ranks the first is lower, the second is, or they are the same

@@ -162,13 +162,13 @@ module _ (s : Span) (e : isSpan s ≡ true) where
   second-later i h = rank-after (uncut s i) (s .second) (uncut-shaped i) second-shaped
       (⊎-elim
       (λ c. let n = c .1 in
-          let l = uncut-no-lower i (wholePeriods s) (omega arith) in
-          let a = after-rank (uncut s (wholePeriods s)) (s .second) (uncut-shaped (wholePeriods s)) second-shaped (c .0) in
-          omega arith)
+      let l = uncut-no-lower i (wholePeriods s) (omega arith) in
+      let a = after-rank (uncut s (wholePeriods s)) (s .second) (uncut-shaped (wholePeriods s)) second-shaped (c .0) in
+      omega arith)
       (λ c. let n = c .1 in
-          let m : i * s .step < wholePeriods s * s .step = mul-lt-mul-of-pos-right (let g : i < wholePeriods s = omega arith in g) (span-parts s e .step-low) in
-          let w = whole-low in
-          month-before i (omega arith))
+      let m : i * s .step < wholePeriods s * s .step = mul-lt-mul-of-pos-right (let g : i < wholePeriods s = omega arith in g) (span-parts s e .step-low) in
+      let w = whole-low in
+      month-before i (omega arith))
       counted)
 
   pub second-reached : isAfter (uncut s (periodCount s)) (s .second) ≡ false
@@ -180,9 +180,9 @@ module _ (s : Span) (e : isSpan s ≡ true) where
   pub some-period : 0 < periodCount s
   some-period = ⊎-elim (λ t. ltb-true 0 (periodCount s) t)
       (λ t. let n : periodCount s ≡ 0 = (let l = ltb-false 0 (periodCount s) t in omega arith) in
-          let r : isAfter (uncut s 0) (s .second) ≡ false = subst (λ (k : ℕ). isAfter (uncut s k) (s .second) ≡ false) n second-reached in
-          let f : isAfter (s .first) (s .second) ≡ false = subst (λ (d : Date). isAfter d (s .second) ≡ false) uncut-first r in
-          absurd (clash (span-parts s e .second-after) f))
+      let r : isAfter (uncut s 0) (s .second) ≡ false = subst (λ (k : ℕ). isAfter (uncut s k) (s .second) ≡ false) n second-reached in
+      let f : isAfter (s .first) (s .second) ≡ false = subst (λ (d : Date). isAfter d (s .second) ≡ false) uncut-first r in
+      absurd (clash (span-parts s e .second-after) f))
       (decided (ltb 0 (periodCount s)))
 
   -- ---- where the periods end
@@ -227,11 +227,11 @@ module _ (s : Span) (e : isSpan s ≡ true) where
       let p = span-parts s e in
       ⊎-elim
       (λ h. let u = uncut-no-lower 0 i (omega arith) in
-          let z : rank (uncut s 0) ≡ rank (s .first) = ap rank uncut-first in
-          let n = rank-not-after (uncut s i) (s .first) (uncut-shaped i) (shaped (s .first) (p .first-is-date)) (omega arith) in
-          subst (λ (d : Date). dayNumber (s .first) ≤ dayNumber d) (sym (bound-uncut i h)) (no-later-number (uncut s i) (s .first) (uncut-is-date i h) (p .first-is-date) n))
+      let z : rank (uncut s 0) ≡ rank (s .first) = ap rank uncut-first in
+      let n = rank-not-after (uncut s i) (s .first) (uncut-shaped i) (shaped (s .first) (p .first-is-date)) (omega arith) in
+      subst (λ (d : Date). dayNumber (s .first) ≤ dayNumber d) (sym (bound-uncut i h)) (no-later-number (uncut s i) (s .first) (uncut-is-date i h) (p .first-is-date) n))
       (λ h. let l = later-number (s .first) (s .second) (p .first-is-date) (p .second-is-date) (p .second-after) in
-          subst (λ (d : Date). dayNumber (s .first) ≤ dayNumber d) (sym (bound-second i h)) (less (dayNumber (s .first)) (dayNumber (s .second)) l))
+      subst (λ (d : Date). dayNumber (s .first) ≤ dayNumber d) (sym (bound-second i h)) (less (dayNumber (s .first)) (dayNumber (s .second)) l))
       (decided (isAfter (uncut s i) (s .second)))
     where
       less : (m n : ℕ) → m < n → m ≤ n
@@ -241,7 +241,7 @@ module _ (s : Span) (e : isSpan s ≡ true) where
   bound-to-second i =
       ⊎-elim
       (λ h. let l = later-number (uncut s i) (s .second) (uncut-is-date i h) (span-parts s e .second-is-date) h in
-          subst (λ (d : Date). dayNumber d ≤ dayNumber (s .second)) (sym (bound-uncut i h)) (less (dayNumber (uncut s i)) (dayNumber (s .second)) l))
+      subst (λ (d : Date). dayNumber d ≤ dayNumber (s .second)) (sym (bound-uncut i h)) (less (dayNumber (uncut s i)) (dayNumber (s .second)) l))
       (λ h. same (dayNumber (bound s i)) (dayNumber (s .second)) (ap dayNumber (bound-second i h)))
       (decided (isAfter (uncut s i) (s .second)))
     where
@@ -290,7 +290,7 @@ module _ (s : Span) (e : isSpan s ≡ true) where
     pub whole-periods : periodCount s ≡ n
     whole-periods = ⊎-elim
         (λ c. let a : isAfter (s .second) (s .second) ≡ true = ap (λ (d : Date). isAfter d (s .second)) (sym (ap (uncut s) as-many ∙ reached-by)) ∙ c .0 in
-            let r = after-rank (s .second) (s .second) second-shaped second-shaped a in
-            absurd (omega arith))
+        let r = after-rank (s .second) (s .second) second-shaped second-shaped a in
+        absurd (omega arith))
         (λ c. c .1 ∙ as-many)
         counted

@@ -31,12 +31,12 @@ returns-5 c = rw (ne-eqb _ 2 (c .before .before .before .if1 .left), ne-eqb _ 4 
 
 returns-6 : tie.Need-returns-6
 unfolding daysIn
-returns-6 c =     rw
+returns-6 c = rw
     (ne-eqb _ 2 (c .before .before .before .before .if1 .left), ne-eqb _ 4 (c .before .before .before .if3 .left), ne-eqb _ 6 (c .before .before .if4 .left), ne-eqb _ 9 (c .before .if5 .left), eq-eqb _ 11 (c .if6 .taken))
 
 returns-7 : tie.Need-returns-7
 unfolding daysIn
-returns-7 c =     rw
+returns-7 c = rw
     (ne-eqb _ 2 (c .before .before .before .before .if1 .left), ne-eqb _ 4 (c .before .before .before .if3 .left), ne-eqb _ 6 (c .before .before .if4 .left), ne-eqb _ 9 (c .before .if5 .left), ne-eqb _ 11 (c .if6 .left))
 
 pub days-in-spec : {M : Type 1} → statement M

@@ -20,7 +20,7 @@ is-after-requires : tie.Need-is-after-requires
 is-after-requires c κs = search needs
 
 returns-3 : tie.Need-returns-3
-returns-3 c =     order-bad _ _ _ _ (c .before .before .before .before .is-date .ensures) (c .before .before .before .if1 .left) _ (c .before .before .is-date2 .ensures) (c .before .if2 .left) _
+returns-3 c = order-bad _ _ _ _ (c .before .before .before .before .is-date .ensures) (c .before .before .before .if1 .left) _ (c .before .before .is-date2 .ensures) (c .before .if2 .left) _
     (c .is-after .ensures)
 
 pub bad-dates-spec : {M : Type 1} → statement M

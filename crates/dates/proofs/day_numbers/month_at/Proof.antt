@@ -19,7 +19,7 @@ add-month : tie.Need-add-month Inv-loop μ-loop
 add-month c = omega arith
 
 loop-holds : tie.Need-loop-holds Inv-loop μ-loop
-loop-holds c =     let y = c .args .year in
+loop-holds c = let y = c .args .year in
     let d = c .args .days in
     let s = starts-early y d in
     (omega arith, in-the-year y (d / 31 + 1) d s (c .pre), s)
@@ -31,7 +31,7 @@ days-in-requires : tie.Need-days-in-requires Inv-loop μ-loop
 days-in-requires c κs = search needs
 
 add-if1 : tie.Need-add-if1 Inv-loop μ-loop
-add-if1 c =     let y = c .before .before .before .args .year in
+add-if1 c = let y = c .before .before .before .args .year in
     let m = c .before .before .loop .month in
     let b = at-most-372 y m (omega arith) in
     let l = days-in-bounds y m in
@@ -44,7 +44,7 @@ loop-less : tie.Need-loop-less Inv-loop μ-loop
 loop-less c = omega arith
 
 loop-again : tie.Need-loop-again Inv-loop μ-loop
-loop-again c =     let y = c .before .before .before .before .args .year in
+loop-again c = let y = c .before .before .before .before .args .year in
     let d = c .before .before .before .before .args .days in
     let m = c .before .before .before .loop .month in
     let n = next-month y m (omega arith) in
@@ -52,7 +52,7 @@ loop-again c =     let y = c .before .before .before .before .args .year in
     (omega arith, in-the-year y (m + 1) d h (c .before .before .before .before .pre), h)
 
 returns : tie.Need-returns Inv-loop μ-loop
-returns c =     let n = next-month (c .before .before .before .before .args .year) (c .before .before .before .loop .month) (omega arith) in
+returns c = let n = next-month (c .before .before .before .before .args .year) (c .before .before .before .loop .month) (omega arith) in
     (omega arith, omega arith, omega arith, omega arith)
 
 pub month-at-spec : {M : Type 1} → statement M

@@ -32,7 +32,7 @@ days-before-month-requires : tie.Need-days-before-month-requires
 days-before-month-requires c κs = search needs
 
 add-result-2 : tie.Need-add-result-2
-add-result-2 c =     let d = c .before .before .before .before .before .before .before .before .before .before .args .date in
+add-result-2 c = let d = c .before .before .before .before .before .before .before .before .before .before .args .date in
     let m = at-most-372 (d .year) (d .month) (omega arith) in
     let y = at-most-366 (d .year) in
     omega arith
@@ -41,7 +41,7 @@ cast-result : tie.Need-cast-result
 cast-result c = search needs
 
 add-result-3 : tie.Need-add-result-3
-add-result-3 c =     let d = c .before .before .before .before .before .before .before .before .before .before .before .args .date in
+add-result-3 c = let d = c .before .before .before .before .before .before .before .before .before .before .before .args .date in
     let m = at-most-372 (d .year) (d .month) (omega arith) in
     let y = at-most-366 (d .year) in
     omega arith

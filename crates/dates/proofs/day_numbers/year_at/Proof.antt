@@ -16,7 +16,7 @@ add-year : tie.Need-add-year Inv-loop μ-loop
 add-year c = omega arith
 
 loop-holds : tie.Need-loop-holds Inv-loop μ-loop
-loop-holds c =     let d = c .args .days in
+loop-holds c = let d = c .args .days in
     let s = starts-early d in
     (omega arith, before-2200 (1900 + d / 366) d s (c .pre), s)
 
@@ -33,7 +33,7 @@ loop-less : tie.Need-loop-less Inv-loop μ-loop
 loop-less c = omega arith
 
 loop-again : tie.Need-loop-again Inv-loop μ-loop
-loop-again c =     let y = c .before .before .loop .year in
+loop-again c = let y = c .before .before .loop .year in
     let d = c .before .before .before .args .days in
     let h : daysBeforeYear (y + 1) ≤ d = omega arith in
     (omega arith, before-2200 (y + 1) d h (c .before .before .before .pre), h)

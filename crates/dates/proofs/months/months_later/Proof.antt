@@ -29,11 +29,11 @@ month-index-requires : tie.Need-month-index-requires
 month-index-requires c κs = search needs
 
 add-day-in-month : tie.Need-add-day-in-month
-add-day-in-month c =     let n = index-bounds (c .before .before .before .before .args .date) (sym (c .before .before .before .is-date .ensures) ∙ not-false _ (c .before .before .if1 .left)) in
+add-day-in-month c = let n = index-bounds (c .before .before .before .before .args .date) (sym (c .before .before .before .is-date .ensures) ∙ not-false _ (c .before .before .if1 .left)) in
     omega arith
 
 day-in-month-requires : tie.Need-day-in-month-requires
-day-in-month-requires c κs =     let n = index-bounds (c .before .before .before .before .args .date) (sym (c .before .before .before .is-date .ensures) ∙ not-false _ (c .before .before .if1 .left)) in
+day-in-month-requires c κs = let n = index-bounds (c .before .before .before .before .args .date) (sym (c .before .before .before .is-date .ensures) ∙ not-false _ (c .before .before .if1 .left)) in
     omega arith
 
 is-date-requires-2 : tie.Need-is-date-requires-2
@@ -43,12 +43,12 @@ refuse-requires-3 : tie.Need-refuse-requires-3
 refuse-requires-3 c κs = search needs
 
 returns-3 : tie.Need-returns-3
-returns-3 c =     refused-as 15 _ _ (c .refuse3 .ensures)
+returns-3 c = refused-as 15 _ _ (c .refuse3 .ensures)
     (bad-end _ _ (sym (c .before .before .before .before .before .before .before .is-date .ensures) ∙ not-false _ (c .before .before .before .before .before .before .if1 .left)) _ (c .before .before .before .before .month-index .ensures) _ (c .before .before .before .day-in-month .ensures)
     (sym (c .before .before .is-date2 .ensures) ∙ not-true _ (c .before .if3 .taken)))
 
 returns-4 : tie.Need-returns-4
-returns-4 c =     good-end _ _ (sym (c .before .before .before .before .before .before .is-date .ensures) ∙ not-false _ (c .before .before .before .before .before .if1 .left)) _ (c .before .before .before .month-index .ensures) _ (c .before .before .day-in-month .ensures)
+returns-4 c = good-end _ _ (sym (c .before .before .before .before .before .before .is-date .ensures) ∙ not-false _ (c .before .before .before .before .before .if1 .left)) _ (c .before .before .before .month-index .ensures) _ (c .before .before .day-in-month .ensures)
     (sym (c .before .is-date2 .ensures) ∙ not-false _ (c .if3 .left))
 
 pub months-later-spec : {M : Type 1} → statement M

@@ -1,5 +1,6 @@
 -- `dates::periods::period_count` meets its contract. Assumes nothing.
 use mathlib.Core.Path.{sym, _∙_}
+use Prim.Native.Nat.{_/_}
 use native.Mathlib.Nat.{div-le-self, div-mul-le-self}
 use native.Mathlib.Omega.{arith}
 use Rattle.dates.proofs.Bounds.{factor-no-more, is-whole, one-more, no-more, whole-within}
@@ -48,14 +49,14 @@ is-after-requires : tie.Need-is-after-requires
 is-after-requires c κs = search needs
 
 add-result : tie.Need-add-result
-add-result c = ?
+add-result c = omega (arith, factor-no-more (c .before .before .before .before .before .before .before .months-between .result / c .before .before .before .before .before .before .before .before .before .before .args .span .step) (c .before .before .before .before .before .before .before .before .before .before .args .span .step) (c .before .before .before .before .before .before .before .before .if1 .left))
 
 returns-3 : tie.Need-returns-3
-returns-3 c =     λ e. one-more _ _ _ (c .before .before .before .before .before .month-index .ensures) _ (c .before .before .day-in-month .ensures) (is-whole _ _ (c .before .before .before .before .before .before .before .months-between .ensures))
+returns-3 c = λ e. one-more _ _ _ (c .before .before .before .before .before .month-index .ensures) _ (c .before .before .day-in-month .ensures) (is-whole _ _ (c .before .before .before .before .before .before .before .months-between .ensures))
     (sym (c .before .is-after .ensures) ∙ c .if3 .taken)
 
 returns-4 : tie.Need-returns-4
-returns-4 c =     λ e. no-more _ _ _ (c .before .before .before .before .before .month-index .ensures) _ (c .before .before .day-in-month .ensures) (is-whole _ _ (c .before .before .before .before .before .before .before .months-between .ensures))
+returns-4 c = λ e. no-more _ _ _ (c .before .before .before .before .before .month-index .ensures) _ (c .before .before .day-in-month .ensures) (is-whole _ _ (c .before .before .before .before .before .before .before .months-between .ensures))
     (sym (c .before .is-after .ensures) ∙ c .if3 .left)
 
 pub period-count-spec : {M : Type 1} → statement M
