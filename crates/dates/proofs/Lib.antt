@@ -1,0 +1,14 @@
+pub mod Tests
+pub mod Parts
+pub mod YearDays
+pub mod MonthDays
+pub mod Ranks
+pub mod LaterMonths
+pub mod NextDay
+pub mod OneLine
+pub mod InOrder
+pub mod BondBasis
+pub mod Tiling
+pub mod Following
+pub mod Bounds
+pub mod Asked
