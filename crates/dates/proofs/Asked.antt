@@ -123,13 +123,15 @@ module _ (a b : Date) where
   abbrev Numbers : Date → ℕ → Type 0
   Numbers d n = (1900 ≤ d .year) → (1 ≤ d .month) → (d .month ≤ 12) → n ≡ dayNumber d
 
-  pub all-actual : bad ≡ false → (m n r : ℕ) → Numbers a m → Numbers b n → r ≡ n - m → accepted r ≡ actualDaysOf a b
-  unfolding actualDaysOf actualDays
-  all-actual e m n r f g h =
-      let t = three-good (isDate a) (isDate b) (isAfter a b) e in
-      let p = parts a (t .0) in
-      let q = parts b (t .1) in
+  pub actual-is : (m n r : ℕ) → Numbers a m → Numbers b n → r ≡ n - m → isDate a ≡ true → isDate b ≡ true → r ≡ actualDays a b
+  unfolding actualDays
+  actual-is m n r f g h is also =
+      let p = parts a is in
+      let q = parts b also in
       let u : m ≡ dayNumber a = f (p .not-early) (p .month-low) (p .month-high) in
       let v : n ≡ dayNumber b = g (q .not-early) (q .month-low) (q .month-high) in
-      let w : r ≡ dayNumber b - dayNumber a = omega arith in
-      ap accepted w ∙ clear _ 15 bad e
+      omega arith
+
+  pub all-actual : bad ≡ false → (n : ℕ) → (isDate a ≡ true → isDate b ≡ true → n ≡ actualDays a b) → accepted n ≡ actualDaysOf a b
+  unfolding actualDaysOf
+  all-actual e n h = let t = three-good (isDate a) (isDate b) (isAfter a b) e in ap accepted (h (t .0) (t .1)) ∙ clear _ 15 bad e

@@ -12,7 +12,7 @@ use Rattle.dates.specs.Months.{monthIndex, dayInMonth, monthsLater}
 use Rattle.dates.specs.Periods.{isSpan, uncut, bound, wholePeriods, periodCount}
 use Rattle.dates.proofs.Parts.{parts}
 use Rattle.dates.proofs.LaterMonths.{index-bounds}
-use Rattle.dates.proofs.Tiling.{span-parts, month-past, whole-low, bound-is-date}
+use Rattle.dates.proofs.Tiling.{span-parts, month-past, whole-low, bound-is-date, before-last}
 
 -- a product of two numbers that a u32 holds
 pub product-fits : (a b : ℕ) → a ≤ 4294967295 → b ≤ 4294967295 → a * b ≤ 18446744065119617025
@@ -23,14 +23,8 @@ module _ (s : Span) (i index : ℕ) (its : index ≡ monthIndex (s .first)) (d :
   unfolding uncut monthsLater
   is-uncut = sym (made ∙ ap (λ (k : ℕ). dayInMonth (k + i * s .step) (s .first .day)) its)
 
-  pub is-before : isAfter d (s .second) ≡ true → d ≡ bound s i
-  unfolding bound
-  is-before h =
-      sym (ap (λ (t : Bool). cond t (uncut s i) (s .second)) (ap (λ (u : Date). isAfter u (s .second)) is-uncut ∙ h) ∙ is-uncut)
-
-  pub is-not-before : isAfter d (s .second) ≡ false → s .second ≡ bound s i
-  unfolding bound
-  is-not-before h = sym (ap (λ (t : Bool). cond t (uncut s i) (s .second)) (ap (λ (u : Date). isAfter u (s .second)) is-uncut ∙ h))
+  pub before-the-last : isSpan s ≡ true → i < periodCount s → d ≡ bound s i
+  before-the-last e h = sym (before-last s e i h ∙ is-uncut)
 
   module _ (whole : i ≡ wholePeriods s) where
     whole-is : uncut s (wholePeriods s) ≡ d

@@ -194,6 +194,16 @@ module _ (s : Span) (e : isSpan s ≡ true) where
   unfolding bound
   bound-second i h = ap (λ (t : Bool). cond t (uncut s i) (s .second)) h
 
+  -- but for the last, where its months lead; from the last on, at the second date
+  pub before-last : (i : ℕ) → i < periodCount s → bound s i ≡ uncut s i
+  before-last i h = bound-uncut i (second-later i h)
+
+  pub from-last : (i : ℕ) → periodCount s ≤ i → bound s i ≡ s .second
+  from-last i h =
+      let r = not-after-rank (uncut s (periodCount s)) (s .second) (uncut-shaped (periodCount s)) second-shaped second-reached in
+      let u = uncut-no-lower (periodCount s) i h in
+      bound-second i (rank-not-after (uncut s i) (s .second) (uncut-shaped i) second-shaped (omega arith))
+
   pub begins-at-first : bound s 0 ≡ s .first
   begins-at-first = bound-uncut 0 (second-later 0 some-period) ∙ uncut-first
 

@@ -15,26 +15,12 @@ refuse-requires c κs = search needs
 returns : tie.Need-returns
 returns c = refused-as 15 _ _ (c .refuse .ensures) (no-actual _ _ (sym (c .before .before .bad-dates .ensures) ∙ c .before .if1 .taken))
 
-number-of-requires : tie.Need-number-of-requires
-number-of-requires c κs = search needs
-
-number-of-requires-2 : tie.Need-number-of-requires-2
-number-of-requires-2 c κs = search needs
-
-less-requires : tie.Need-less-requires
-less-requires c κs = search needs
+actual-days-requires : tie.Need-actual-days-requires
+actual-days-requires c κs = search needs
 
 returns-2 : tie.Need-returns-2
-returns-2 c = all-actual _ _ (sym (c .before .before .before .before .bad-dates .ensures) ∙ c .before .before .before .if1 .left) _ _ _ (c .before .number-of2 .ensures) (c .before .before .number-of .ensures) (c .less .ensures)
+returns-2 c = all-actual _ _ (sym (c .before .before .bad-dates .ensures) ∙ c .before .if1 .left) _ (c .actual-days .ensures)
 
 pub actual-days-between-spec : {M : Type 1} → statement M
 actual-days-between-spec =
-    tie.close
-    (tie.spec
-    bad-dates-requires
-    refuse-requires
-    returns
-    number-of-requires
-    number-of-requires-2
-    less-requires
-    returns-2)
+    tie.close (tie.spec bad-dates-requires refuse-requires returns actual-days-requires returns-2)

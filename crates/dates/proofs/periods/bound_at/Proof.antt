@@ -11,7 +11,7 @@ number-of-requires : tie.Need-number-of-requires
 number-of-requires c κs = search needs
 
 returns : tie.Need-returns
-returns c = λ e. with-number _ e _ _ _ (c .before .bound-date .ensures e) (c .number-of .ensures)
+returns c = λ e n. with-number _ e _ _ _ (c .before .bound-date .ensures e n) (c .number-of .ensures)
 
 pub bound-at-spec : {M : Type 1} → statement M
 bound-at-spec = tie.close (tie.spec bound-date-requires number-of-requires returns)
