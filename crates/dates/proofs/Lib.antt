@@ -12,3 +12,6 @@ pub mod Tiling
 pub mod Following
 pub mod Bounds
 pub mod Asked
+pub mod Worked
+pub mod Exactly
+pub mod Tight
