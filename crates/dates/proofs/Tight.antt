@@ -13,7 +13,8 @@ use Rattle.dates.specs.declared.DateAnswer.{DateAnswer}
 use Rattle.dates.specs.declared.DateAnswer.the-variants as date-is
 use Rattle.dates.specs.declared.periods.Numbered.{Numbered}
 use Rattle.dates.specs.Answers.{dateOutcome}
-use Rattle.dates.specs.Periods.{isSpan}
+use Rattle.dates.specs.Calendar.{isDate}
+use Rattle.dates.specs.Periods.{isSpan, periodCount}
 use Rattle.dates.proofs.calendar.is_date.Kinds as is-date-kinds
 use Rattle.dates.proofs.calendar.is_date.Reads as is-date
 use Rattle.dates.proofs.calendar.is_after.Kinds as is-after-kinds
@@ -22,6 +23,8 @@ use Rattle.dates.proofs.counts.bad_dates.Kinds as bad-dates-kinds
 use Rattle.dates.proofs.counts.bad_dates.Reads as bad-dates
 use Rattle.dates.proofs.counts.thirty_days.Kinds as thirty-days-kinds
 use Rattle.dates.proofs.counts.thirty_days.Reads as thirty-days
+use Rattle.dates.proofs.counts.actual_days.Kinds as actual-days-kinds
+use Rattle.dates.proofs.counts.actual_days.Reads as actual-days
 use Rattle.dates.proofs.counts.actual_days_between.Kinds as actual-days-between-kinds
 use Rattle.dates.proofs.counts.actual_days_between.Reads as actual-days-between
 use Rattle.dates.proofs.counts.thirty_days_between.Kinds as thirty-days-between-kinds
@@ -79,9 +82,12 @@ date-of-determined κs a x y e e′ p q = date-told x y (p ∙ sym q)
 pub months-later-determined : Determined 0 months-later-kinds.ps months-later-kinds.r months-later.Post
 months-later-determined κs a x y e e′ p q = date-told x y (p ∙ sym q)
 
+pub actual-days-determined : DeterminedOn 0 actual-days-kinds.ps actual-days-kinds.r (λ κs a. (isDate (a .0) ≡ true) × (isDate (a .1 .0) ≡ true)) actual-days.Post
+actual-days-determined κs a dates x y e e′ p q = p (dates .0) (dates .1) ∙ sym (q (dates .0) (dates .1))
+
 -- ---- the periods of a span
-pub bound-at-determined : DeterminedOn 0 bound-at-kinds.ps bound-at-kinds.r (λ κs a. isSpan (a .0) ≡ true) bound-at.Post
-bound-at-determined κs a span x y e e′ p q = same-numbered x y (p span .0 ∙ sym (q span .0)) (p span .1 ∙ sym (q span .1))
+pub bound-at-determined : DeterminedOn 0 bound-at-kinds.ps bound-at-kinds.r (λ κs a. (isSpan (a .0) ≡ true) × (a .1 .0 ≡ periodCount (a .0))) bound-at.Post
+bound-at-determined κs a span x y e e′ p q = same-numbered x y (p (span .0) (span .1) .0 ∙ sym (q (span .0) (span .1) .0)) (p (span .0) (span .1) .1 ∙ sym (q (span .0) (span .1) .1))
 
 pub period-count-determined : DeterminedOn 0 period-count-kinds.ps period-count-kinds.r (λ κs a. isSpan (a .0) ≡ true) period-count.Post
 period-count-determined κs a span x y e e′ p q = p span ∙ sym (q span)
