@@ -1,6 +1,6 @@
 // A date so many months later, its day cut to the month's end.
 ghost use mathlib.Core.Path.{_≡_};
-ghost use Prim.Native.Nat.{_<_, _≤_};
+ghost use Prim.Native.Nat.{_<_};
 ghost use Rattle.dates.specs.Months.{monthIndex, dayInMonth};
 ghost use Rattle.dates.specs.Answers.{monthsLaterOf, dateOutcome};
 use crate::Date;
