@@ -1,19 +1,19 @@
 -- What the functions over dates answer, as the code finds it out, and the date so many days after 1 January 1900. Assumes nothing.
-use mathlib.Core.Path.{_≡_, refl, sym, ap, _∙_}
+use mathlib.Core.Path.{_≡_, sym, ap, _∙_}
 use mathlib.Core.Logic.{⊎-elim}
 use mathlib.Core.Bool.{Bool, true, false, not, _&&_}
-use Prim.Native.Nat.{ℕ, suc, _+_, _-_, _*_, _≤_, _<_}
+use Prim.Native.Nat.{ℕ, suc, _+_, _-_, _≤_, _<_}
 use native.Mathlib.Omega.{arith}
 use Rattle.refusals.specs.Outcome.{refused, accepted}
 use Rattle.refusals.specs.Table.{noSuchDate, badDates}
 use Rattle.dates.specs.declared.Date.{Date}
-use Rattle.dates.specs.Calendar.{daysIn, daysInYear, isDate, isAfter}
+use Rattle.dates.specs.Calendar.{daysIn, isDate, isAfter}
 use Rattle.dates.specs.DayNumbers.{daysBeforeYear, daysBeforeMonth, dayNumber}
 use Rattle.dates.specs.Counts.{actualDays, thirtyDays}
 use Rattle.dates.specs.Months.{monthIndex, dayInMonth, monthsLater}
 use Rattle.dates.specs.Answers.{dayNumberOf, hasDate, dateNumbered, actualDaysOf, thirtyDaysOf, monthsLaterOf}
-use Rattle.dates.proofs.Tests.{both, joined, decided, clash}
-use Rattle.dates.proofs.Parts.{Parts, parts, of-parts}
+use Rattle.dates.proofs.Tests.{joined, decided}
+use Rattle.dates.proofs.Parts.{parts, of-parts}
 use Rattle.dates.proofs.Following.{three-good}
 use Rattle.dates.proofs.OneLine.{caused, clear}
 use Rattle.dates.proofs.YearDays.{year-more}

@@ -1,18 +1,18 @@
 -- The 30/360 count of a later date is not cut off at 0, is 0 only from the 30th to the 31st of one month, and is 30 for each month of a whole period that starts on a day to 28. Assumes nothing.
-use mathlib.Core.Path.{_≡_, refl, sym, ap, _∙_}
+use mathlib.Core.Path.{_≡_, refl, _∙_}
 use mathlib.Core.Logic.{_⊎_, inl, inr, ⊎-elim, _↔_}
 use mathlib.Core.Bool.{Bool, true, false, cond, _&&_}
-use Prim.Native.Nat.{ℕ, suc, _+_, _-_, _*_, _/_, _%_, _≤_, _<_, min}
+use Prim.Native.Nat.{ℕ, suc, _+_, _-_, _*_, _≤_, _<_, min}
 use native.Mathlib.Omega.{arith}
 use lib.Dec.{eqb}
-use borrow.Author.Tests.{eqb-true, eqb-false, ne-eqb}
+use borrow.Author.Tests.{eqb-true, eqb-false}
 use Rattle.dates.specs.declared.Date.{Date}
 use Rattle.dates.specs.declared.periods.Span.{Span}
 use Rattle.dates.specs.Calendar.{isDate, isAfter}
 use Rattle.dates.specs.Counts.{firstDay, secondDay, thirtyDays}
 use Rattle.dates.specs.Months.{monthIndex, dayInMonth, monthsLater}
 use Rattle.dates.specs.Periods.{uncut}
-use Rattle.dates.proofs.Ranks.{Shaped, shaped, rank, after-rank}
+use Rattle.dates.proofs.Ranks.{shaped, after-rank}
 use Rattle.dates.proofs.LaterMonths.{lastDay, last-day-bounds}
 
 -- ---- how the two days are read

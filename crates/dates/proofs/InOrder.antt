@@ -1,8 +1,8 @@
 -- Day numbers and dates in one order: a later date has a higher number and a higher number a later date; so a number has one date, the date of a date's number is that date, and every number
 -- from that of 1 January 1900 to that of 31 December 2199 has one. Assumes nothing.
-use mathlib.Core.Path.{_≡_, refl, sym, ap, subst, _∙_}
-use mathlib.Core.Logic.{_⊎_, inl, inr, ⊎-elim}
-use mathlib.Core.Bool.{Bool, true, false, not, _&&_}
+use mathlib.Core.Path.{_≡_, refl, sym, ap, _∙_}
+use mathlib.Core.Logic.{_⊎_, inl, inr, ⊎-elim, _↔_}
+use mathlib.Core.Bool.{true, false, not}
 use Prim.Native.Nat.{ℕ, zero, suc, _+_, _-_, _≤_, _<_}
 use native.Mathlib.Omega.{arith}
 use lib.Dec.{ltb, leb}
@@ -19,7 +19,7 @@ use Rattle.dates.proofs.OneLine.{caused, clear}
 use Rattle.dates.proofs.YearDays.{year-more, years-no-less, in-2200}
 use Rattle.dates.proofs.MonthDays.{month-more, months-no-less, before-thirteenth}
 use Rattle.dates.proofs.Ranks.{Shaped, shaped, rank, after-rank, rank-after, same-rank}
-use Rattle.dates.proofs.NextDay.{next-number, next-is-date}
+use Rattle.dates.proofs.NextDay.{last-is-date, next-number, next-is-date}
 
 -- ---- the two ends
 pub first-number : dayNumber firstOfAll ≡ 2
@@ -33,10 +33,6 @@ last-number = refl
 pub first-is-date : isDate firstOfAll ≡ true
 unfolding isDate daysIn
 first-is-date = refl
-
-pub last-is-date : isDate lastOfAll ≡ true
-unfolding isDate daysIn
-last-is-date = refl
 
 -- ---- a later date has a higher number
 module _ (a : Date) (p : Parts a) where
@@ -113,6 +109,9 @@ module _ (a b : Date) (e : isDate a ≡ true) (f : isDate b ≡ true) where
       (λ r. absurd (⊎-elim (λ s. let k = higher b a (parts b f) (parts a e) (shaped b f) (shaped a e) s in omega arith)
       (λ s. let k : dayNumber a ≡ dayNumber b = ap dayNumber (same-rank a b (shaped a e) (shaped b f) s) in omega arith) r))
       (three-ways (rank a) (rank b)))
+
+  pub later-exactly : (isAfter a b ≡ true) ↔ (dayNumber a < dayNumber b)
+  later-exactly = (later-number, number-later)
 
   -- and where it is not later, the number is no higher
   pub no-later-number : isAfter a b ≡ false → dayNumber b ≤ dayNumber a

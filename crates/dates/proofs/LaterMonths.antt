@@ -6,7 +6,7 @@ use native.Mathlib.Omega.{arith}
 use Rattle.dates.specs.declared.Date.{Date}
 use Rattle.dates.specs.Calendar.{daysIn, isDate}
 use Rattle.dates.specs.Months.{monthIndex, dayInMonth, monthsLater}
-use Rattle.dates.proofs.Parts.{Parts, parts, of-parts, days-in-bounds}
+use Rattle.dates.proofs.Parts.{parts, of-parts, days-in-bounds}
 use Rattle.dates.proofs.Ranks.{Shaped, rank}
 
 -- the last day of a month, by its index

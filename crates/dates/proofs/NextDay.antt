@@ -3,11 +3,11 @@ use mathlib.Core.Path.{_≡_, refl, sym, ap, _∙_}
 use mathlib.Core.Bool.{Bool, true, false, cond}
 use Prim.Native.Nat.{ℕ, suc, _+_, _≤_, _<_}
 use native.Mathlib.Omega.{arith}
-use lib.Dec.{eqb, ltb}
+use lib.Dec.{ltb}
 use borrow.Author.Tests.{ltb-true, ltb-false}
 use Rattle.dates.specs.declared.Date.{Date}
 use Rattle.dates.specs.Calendar.{daysIn, daysInYear, isDate, isAfter, nextDay}
-use Rattle.dates.specs.DayNumbers.{daysBeforeYear, daysBeforeMonth, dayNumber}
+use Rattle.dates.specs.DayNumbers.{daysBeforeMonth, dayNumber}
 use Rattle.dates.specs.Answers.{lastOfAll}
 use Rattle.dates.proofs.Parts.{Parts, parts, of-parts, days-in-bounds}
 use Rattle.dates.proofs.YearDays.{year-more}
@@ -31,7 +31,7 @@ december-ends : (year month day : ℕ) → month ≡ 12 → daysIn year month �
 unfolding daysIn
 december-ends year month day m l = rw m at l
 
-last-is-date : isDate lastOfAll ≡ true
+pub last-is-date : isDate lastOfAll ≡ true
 unfolding isDate daysIn
 last-is-date = refl
 

@@ -1,16 +1,14 @@
 -- Dates in order by one number: 32 for each month before, and the day. A date with a month from 1 to 12 and a day to 31 has its own, and a later one a higher. Assumes nothing.
 use mathlib.Core.Path.{_≡_, refl, sym, ap, _∙_}
-use mathlib.Core.Logic.{⊎-elim}
-use mathlib.Core.Bool.{Bool, true, false, cond, _&&_, _||_}
-use Prim.Native.Nat.{ℕ, suc, _+_, _-_, _*_, _/_, _%_, _≤_, _<_, min}
+use mathlib.Core.Bool.{Bool, true, false, _&&_, _||_}
+use Prim.Native.Nat.{ℕ, _+_, _-_, _*_, _≤_, _<_}
 use native.Mathlib.Omega.{arith}
 use lib.Dec.{eqb, ltb}
 use borrow.Author.Tests.{ltb-true, ltb-false, eqb-true, eqb-false, lt-ltb, le-ltb}
 use Rattle.dates.specs.declared.Date.{Date}
-use Rattle.dates.specs.Calendar.{daysIn, isDate, isAfter}
-use Rattle.dates.specs.Months.{monthIndex, dayInMonth, monthsLater}
-use Rattle.dates.proofs.Parts.{Parts, parts, days-in-bounds}
-use Rattle.dates.proofs.Tests.{decided}
+use Rattle.dates.specs.Calendar.{isDate, isAfter}
+use Rattle.dates.specs.Months.{monthIndex}
+use Rattle.dates.proofs.Parts.{parts, days-in-bounds}
 
 pub record Shaped (d : Date) : Type 0 where
   pub month-low : 1 ≤ d .month

@@ -3,21 +3,21 @@
 use mathlib.Core.Path.{_≡_, refl, sym, ap, subst, _∙_}
 use mathlib.Core.Logic.{_⊎_, inl, inr, ⊎-elim}
 use mathlib.Core.Bool.{Bool, true, false, cond, _&&_}
-use Prim.Native.Nat.{ℕ, zero, suc, _+_, _-_, _*_, _/_, _≤_, _<_, min}
-use native.Mathlib.Nat.{div-mul-le-self, lt-div-mul-add, mul-div-cancel, mul-lt-mul-of-pos-right, mul-le-mul-right}
+use Prim.Native.Nat.{ℕ, suc, _+_, _-_, _*_, _/_, _≤_, _<_, min}
+use native.Mathlib.Nat.{div-mul-le-self, lt-div-mul-add, mul-div-cancel, mul-lt-mul-of-pos-right}
 use native.Mathlib.Omega.{arith}
-use lib.Dec.{leb, eqb, ltb}
-use borrow.Author.Tests.{leb-true, ltb-true, ltb-false, eqb-true, eqb-false}
+use lib.Dec.{leb, ltb}
+use borrow.Author.Tests.{leb-true, ltb-true, ltb-false}
 use Rattle.dates.specs.declared.Date.{Date}
 use Rattle.dates.specs.declared.periods.Span.{Span}
 use Rattle.dates.specs.Calendar.{isDate, isAfter}
 use Rattle.dates.specs.DayNumbers.{dayNumber}
 use Rattle.dates.specs.Counts.{actualDays}
-use Rattle.dates.specs.Months.{monthIndex, dayInMonth, monthsLater}
+use Rattle.dates.specs.Months.{monthIndex, monthsLater}
 use Rattle.dates.specs.Periods.{isSpan, uncut, bound, wholePeriods, periodCount}
 use Rattle.dates.proofs.Tests.{both, decided, clash}
 use Rattle.dates.proofs.Parts.{parts}
-use Rattle.dates.proofs.Ranks.{Shaped, shaped, rank, rank-by-index, after-rank, rank-after, not-after-rank, rank-not-after}
+use Rattle.dates.proofs.Ranks.{Shaped, shaped, rank, rank-by-index, after-rank, rank-after, rank-not-after}
 use Rattle.dates.proofs.LaterMonths.{lastDay, last-day-bounds, in-month-index, in-month-rank, in-month-shaped, in-month-date, index-bounds, no-months-later}
 use Rattle.dates.proofs.InOrder.{later-number, no-later-number}
 

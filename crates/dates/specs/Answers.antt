@@ -1,6 +1,6 @@
 -- What the functions over dates answer, and what they refuse: 15, "no such date or the second not after the first". Definitions only. Assumes nothing.
 use Prim.Native.Nat.{ℕ, _-_}
-use mathlib.Core.Bool.{Bool, not, _&&_, _||_}
+use mathlib.Core.Bool.{Bool, _&&_}
 use mathlib.Core.List.{List, [], _∷_}
 use lib.Dec.{leb}
 use Rattle.refusals.specs.Outcome.{Outcome, refused, accepted, Line, line, judged}

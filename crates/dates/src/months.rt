@@ -1,6 +1,6 @@
 // A date so many months later, its day cut to the month's end.
 ghost use mathlib.Core.Path.{_≡_};
-ghost use Prim.Native.Nat.{_<_, _≤_};
+ghost use Prim.Native.Nat.{_<_};
 ghost use Rattle.dates.specs.Months.{monthIndex, dayInMonth};
 ghost use Rattle.dates.specs.Answers.{monthsLaterOf, dateOutcome};
 use crate::Date;
@@ -25,13 +25,19 @@ pub(crate) fn day_in_month(index: u32, day: u8) -> Date
     requires { ⌜ index < 786432 ⌝ }
     ensures { λ r. ⌜ r ≡ dayInMonth index day ⌝ }
 {
-    let year = index / 12;
-    let month = index % 12 + 1;
-    let last = days_in(year, month);
+    let in_year = index / 12;
+    let in_month = index % 12 + 1;
+    let last = days_in(in_year, in_month);
+    let year = in_year as u16;
+    let month = in_month as u8;
+    if (day as u32) < last {
+        return Date { year, month, day };
+    }
+    let cut = last as u8;
     Date {
-        year: year as u16,
-        month: month as u8,
-        day: if (day as u32) < last { day } else { last as u8 },
+        year,
+        month,
+        day: cut,
     }
 }
 

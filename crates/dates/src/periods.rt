@@ -73,7 +73,8 @@ pub fn period_count(span: Span) -> u32
     if index > LAST_MONTH {
         return whole;
     }
-    if is_after(day_in_month(index as u32, span.first.day), span.second) {
+    let reached = day_in_month(index as u32, span.first.day);
+    if is_after(reached, span.second) {
         whole + 1
     } else {
         whole

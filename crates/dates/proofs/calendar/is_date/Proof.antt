@@ -1,7 +1,5 @@
 -- `dates::calendar::is_date` meets its contract: each test asks for one of a date's bounds. Assumes nothing.
-use mathlib.Core.Path.{ap, _∙_}
 use native.Mathlib.Omega.{arith}
-use lib.Dec.{leb}
 use Rattle.dates.proofs.Following.{no-date, by-day}
 use borrow.Author.Needs.{needs}
 use Rattle.dates.proofs.calendar.is_date.Statement.{statement}

@@ -1,5 +1,4 @@
 -- `dates::day_numbers::month_at` meets its contract. The loop's invariant: the month is one of the year's and no more days lie before it. The measure is the months left to the thirteenth. Assumes nothing.
-use mathlib.Core.Path.{sym, ap, _∙_}
 use Prim.Native.Nat.{_+_, _-_, _/_, _≤_}
 use native.Mathlib.Omega.{arith}
 use borrow.Author.Needs.{needs}

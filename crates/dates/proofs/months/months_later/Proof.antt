@@ -3,7 +3,6 @@ use mathlib.Core.Path.{sym, _∙_}
 use native.Mathlib.Omega.{arith}
 use borrow.Author.Tests.{not-true, not-false}
 use Rattle.refusals.proofs.Verdicts.{refused-as}
-use Rattle.dates.specs.Months.{monthIndex}
 use Rattle.dates.proofs.LaterMonths.{index-bounds}
 use Rattle.dates.proofs.Asked.{bad-start, too-late, bad-end, good-end}
 use borrow.Author.Needs.{needs}
