@@ -17,7 +17,7 @@ use Rattle.dates.specs.Months.{monthIndex, monthsLater}
 use Rattle.dates.specs.Periods.{isSpan, uncut, bound, wholePeriods, periodCount}
 use Rattle.dates.proofs.Tests.{both, decided, clash}
 use Rattle.dates.proofs.Parts.{parts}
-use Rattle.dates.proofs.Ranks.{Shaped, shaped, rank, rank-by-index, after-rank, rank-after, rank-not-after}
+use Rattle.dates.proofs.Ranks.{Shaped, shaped, rank, rank-by-index, after-rank, not-after-rank, rank-after, rank-not-after}
 use Rattle.dates.proofs.LaterMonths.{lastDay, last-day-bounds, in-month-index, in-month-rank, in-month-shaped, in-month-date, index-bounds, no-months-later}
 use Rattle.dates.proofs.InOrder.{later-number, no-later-number}
 
