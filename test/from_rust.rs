@@ -4,6 +4,7 @@
 #[allow(dead_code)]
 mod library;
 
+use library::dates::*;
 use library::records::{senyolanda_read_dated_swap, senyolanda_write_dated_swap, senyolanda_write_loan};
 use library::*;
 

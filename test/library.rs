@@ -53,13 +53,6 @@ exported! {
     senyolanda_ln(x: f64, answer: Number);
     senyolanda_power(x: f64, y: f64, answer: Number);
 
-    senyolanda_day_number(year: u32, month: u32, day: u32, number: Count);
-    senyolanda_date_of_number(number: u32, date: Date);
-    senyolanda_months_later(year: u32, month: u32, day: u32, months: u32, date: Date);
-    senyolanda_actual_days(first_year: u32, first_month: u32, first_day: u32, second_year: u32, second_month: u32, second_day: u32, days: Count);
-    senyolanda_days_30_360(first_year: u32, first_month: u32, first_day: u32, second_year: u32, second_month: u32, second_day: u32, days: Count);
-    senyolanda_dated_fraction(day_count: u32, first_year: u32, first_month: u32, first_day: u32, second_year: u32, second_month: u32, second_day: u32, fraction: Number);
-
     senyolanda_monthly_payment([record: u8], payment: Number);
     senyolanda_open([record: u8], counts: Counts, amounts: Amounts);
     senyolanda_open_with_payment([record: u8], given: f64, counts: Counts, amounts: Amounts);
@@ -123,14 +116,6 @@ exported! {
     senyolanda_swap_duration([record: u8], [tenors: f64], [zeros: f64], duration: Number);
     senyolanda_value_swap([record: u8], [tenors: f64], [zeros: f64], receive_fixed: u32, valuation: &mut [f64; 6]);
 
-    senyolanda_dated_fixed_leg_pv([record: u8], [tenors: f64], [zeros: f64], pv: Number);
-    senyolanda_dated_floating_leg_pv([record: u8], [tenors: f64], [zeros: f64], pv: Number);
-    senyolanda_dated_swap_npv([record: u8], [tenors: f64], [zeros: f64], receive_fixed: u32, npv: Number);
-    senyolanda_dated_par_swap_rate([record: u8], [tenors: f64], [zeros: f64], rate: Number);
-    senyolanda_dated_swap_dv01([record: u8], [tenors: f64], [zeros: f64], receive_fixed: u32, dv01: Number);
-    senyolanda_dated_swap_duration([record: u8], [tenors: f64], [zeros: f64], duration: Number);
-    senyolanda_value_dated_swap([record: u8], [tenors: f64], [zeros: f64], receive_fixed: u32, valuation: &mut [f64; 6]);
-
     senyolanda_zero_curve_rate([tenors: f64], [rates: f64], t: f64, rate: Number);
     senyolanda_zero_curve_rate_each([tenors: f64], [rates: f64], [mut asked: f64]);
     senyolanda_swap_curve_rate([tenors: f64], [rates: f64], tenor: f64, rate: Number);
@@ -146,6 +131,29 @@ exported! {
     senyolanda_dated_z_spread([flows: f64], [tenors: f64], [rates: f64], market: f64, points: Number, found: Count);
     senyolanda_dated_duration_convexity([flows: f64], [tenors: f64], [rates: f64], points: f64, sensitivity: &mut [f64; 2]);
     senyolanda_points_to_decimal(points: f64, rate: Number);
+}
+
+/// Dates and dated swaps.
+#[allow(dead_code)]
+pub mod dates {
+    use super::*;
+
+    exported! {
+        senyolanda_day_number(year: u32, month: u32, day: u32, number: Count);
+        senyolanda_date_of_number(number: u32, date: Date);
+        senyolanda_months_later(year: u32, month: u32, day: u32, months: u32, date: Date);
+        senyolanda_actual_days(first_year: u32, first_month: u32, first_day: u32, second_year: u32, second_month: u32, second_day: u32, days: Count);
+        senyolanda_days_30_360(first_year: u32, first_month: u32, first_day: u32, second_year: u32, second_month: u32, second_day: u32, days: Count);
+        senyolanda_dated_fraction(day_count: u32, first_year: u32, first_month: u32, first_day: u32, second_year: u32, second_month: u32, second_day: u32, fraction: Number);
+
+        senyolanda_dated_fixed_leg_pv([record: u8], [tenors: f64], [zeros: f64], pv: Number);
+        senyolanda_dated_floating_leg_pv([record: u8], [tenors: f64], [zeros: f64], pv: Number);
+        senyolanda_dated_swap_npv([record: u8], [tenors: f64], [zeros: f64], receive_fixed: u32, npv: Number);
+        senyolanda_dated_par_swap_rate([record: u8], [tenors: f64], [zeros: f64], rate: Number);
+        senyolanda_dated_swap_dv01([record: u8], [tenors: f64], [zeros: f64], receive_fixed: u32, dv01: Number);
+        senyolanda_dated_swap_duration([record: u8], [tenors: f64], [zeros: f64], duration: Number);
+        senyolanda_value_dated_swap([record: u8], [tenors: f64], [zeros: f64], receive_fixed: u32, valuation: &mut [f64; 6]);
+    }
 }
 
 /// The readers and writers of records.
