@@ -87,7 +87,8 @@ static struct date any_date(uint32_t year) {
 static struct record random_dated(void) {
     static const uint32_t frequencies[] = { 1, 2, 3, 4, 6, 12 };
     uint32_t frequency = random_below(8) == 0 ? count_to(12) : frequencies[random_below(6)], year = 1895 + random_below(308);
-    struct date first = any_date(year), second = any_date(random_below(8) == 0 ? 1895 + random_below(310) : year + random_below(30));
+    struct date first = any_date(year);
+    struct date second = any_date(random_below(8) == 0 ? 1895 + random_below(310) : year + random_below(30));
     struct dated_parts dated = { 5, amount(), rate(), random_number(), frequency, first, second, (uint8_t)random_below(3),
         SENYOLANDA_DATED_SWAP_BYTES };
     return record_of_dated(&dated);

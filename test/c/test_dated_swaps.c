@@ -303,7 +303,7 @@ static void undiscounted_swap(void) {
     IS(NUMBER_OF(call_dated_fixed_leg_pv), 720);
 }
 
-/* What each period of a month-end swap counts, of a notional of 360 at a rate of 1: the worth, undiscounted, is 360 and the days. */
+/* What the periods of a swap count, of a notional of 360 at a rate of 1: the worth, undiscounted, is 360 and the days. */
 static void is_days(double days, uint32_t frequency, uint8_t day_count) {
     set_swap(360, 1, frequency, day_count);
     IS_NEAR(NUMBER_OF(call_dated_fixed_leg_pv), 360 + days, 1e-9);

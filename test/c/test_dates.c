@@ -128,11 +128,6 @@ static void set_first(uint32_t year, uint32_t month, uint32_t day) {
     desk.first = date;
 }
 
-static void set_second(uint32_t year, uint32_t month, uint32_t day) {
-    struct date date = { year, month, day };
-    desk.second = date;
-}
-
 static void is_answered_date(struct date date) {
     const uint32_t *answer = answered_counts(0);
     CHECK(answer[0] == date.year && answer[1] == date.month && answer[2] == date.day);
@@ -193,8 +188,8 @@ static void try_triple(uint32_t year, uint32_t month, uint32_t day) {
 #define LENGTH(list) (sizeof list / sizeof *list)
 
 static void every_triple(void) {
-    static const uint32_t years[] = { 0, 1, 1899, 1900, 1901, 1904, 2000, 2023, 2024, 2100, 2198, 2199, 2200, 2300, 65535, 65536 + 2024,
-        UINT32_MAX - 1, UINT32_MAX };
+    static const uint32_t years[] = { 0, 1, 1899, 1900, 1901, 1904, 2000, 2023, 2024, 2100, 2198, 2199, 2200, 2300, 65535,
+        65536 + 2024, UINT32_MAX - 1, UINT32_MAX };
     static const uint32_t months[] = { 0, 1, 2, 3, 4, 5, 6, 7, 8, 9, 10, 11, 12, 13, 14, 255, 256 + 2, 65536 + 1, UINT32_MAX };
     static const uint32_t days[] = { 0, 1, 2, 27, 28, 29, 30, 31, 32, 33, 255, 256 + 1, 65536 + 1, UINT32_MAX };
     for (size_t y = 0; y < LENGTH(years); y++)
@@ -265,41 +260,54 @@ static void counts(uint32_t actual, uint32_t bond_basis) {
     IS(NUMBER_OF(call_dated_fraction), bond_basis / 360.0);
 }
 
-static void around_month_ends(void) {
-    set_first(2023, 1, 31), set_second(2023, 2, 28), counts(28, 28);
-    set_first(2023, 1, 30), set_second(2023, 3, 31), counts(60, 60);
-    set_first(2023, 1, 31), set_second(2023, 3, 31), counts(59, 60);
-    set_first(2023, 1, 29), set_second(2023, 3, 31), counts(61, 62);
-    set_first(2023, 2, 28), set_second(2023, 3, 31), counts(31, 33);
-    set_first(2023, 8, 31), set_second(2023, 9, 30), counts(30, 30);
-    set_first(2023, 9, 30), set_second(2023, 10, 31), counts(31, 30);
-    set_first(2023, 9, 29), set_second(2023, 10, 31), counts(32, 32);
-    set_first(2023, 1, 30), set_second(2023, 1, 31), counts(1, 0);
-    set_first(2023, 12, 30), set_second(2023, 12, 31), counts(1, 0);
-    set_first(2023, 12, 31), set_second(2024, 1, 1), counts(1, 1);
-    set_first(2023, 1, 1), set_second(2023, 1, 31), counts(30, 30);
-}
+struct counted {
+    struct span span;
+    uint32_t actual, bond_basis;
+};
+
+static const struct counted around_month_ends[] = {
+    { { { 2023, 1, 31 }, { 2023, 2, 28 } }, 28, 28 },
+    { { { 2023, 1, 30 }, { 2023, 3, 31 } }, 60, 60 },
+    { { { 2023, 1, 31 }, { 2023, 3, 31 } }, 59, 60 },
+    { { { 2023, 1, 29 }, { 2023, 3, 31 } }, 61, 62 },
+    { { { 2023, 2, 28 }, { 2023, 3, 31 } }, 31, 33 },
+    { { { 2023, 8, 31 }, { 2023, 9, 30 } }, 30, 30 },
+    { { { 2023, 9, 30 }, { 2023, 10, 31 } }, 31, 30 },
+    { { { 2023, 9, 29 }, { 2023, 10, 31 } }, 32, 32 },
+    { { { 2023, 1, 30 }, { 2023, 1, 31 } }, 1, 0 },
+    { { { 2023, 12, 30 }, { 2023, 12, 31 } }, 1, 0 },
+    { { { 2023, 12, 31 }, { 2024, 1, 1 } }, 1, 1 },
+    { { { 2023, 1, 1 }, { 2023, 1, 31 } }, 30, 30 },
+};
 
 /* To a leap February and from it; the last of February is a day like another. */
-static void around_february(void) {
-    set_first(2024, 1, 31), set_second(2024, 2, 29), counts(29, 29);
-    set_first(2024, 2, 29), set_second(2024, 3, 31), counts(31, 32);
-    set_first(2024, 2, 28), set_second(2024, 2, 29), counts(1, 1);
-    set_first(2024, 2, 29), set_second(2024, 3, 1), counts(1, 2);
-    set_first(2023, 2, 28), set_second(2023, 3, 1), counts(1, 3);
-    set_first(2024, 2, 29), set_second(2025, 2, 28), counts(365, 359);
-    set_first(2023, 2, 28), set_second(2024, 2, 29), counts(366, 361);
-    set_first(1900, 2, 28), set_second(1900, 3, 1), counts(1, 3);
-    set_first(2100, 2, 28), set_second(2100, 3, 1), counts(1, 3);
-    set_first(2000, 2, 28), set_second(2000, 3, 1), counts(2, 3);
-}
+static const struct counted around_february[] = {
+    { { { 2024, 1, 31 }, { 2024, 2, 29 } }, 29, 29 },
+    { { { 2024, 2, 29 }, { 2024, 3, 31 } }, 31, 32 },
+    { { { 2024, 2, 28 }, { 2024, 2, 29 } }, 1, 1 },
+    { { { 2024, 2, 29 }, { 2024, 3, 1 } }, 1, 2 },
+    { { { 2023, 2, 28 }, { 2023, 3, 1 } }, 1, 3 },
+    { { { 2024, 2, 29 }, { 2025, 2, 28 } }, 365, 359 },
+    { { { 2023, 2, 28 }, { 2024, 2, 29 } }, 366, 361 },
+    { { { 1900, 2, 28 }, { 1900, 3, 1 } }, 1, 3 },
+    { { { 2100, 2, 28 }, { 2100, 3, 1 } }, 1, 3 },
+    { { { 2000, 2, 28 }, { 2000, 3, 1 } }, 2, 3 },
+};
 
-static void whole_span(void) {
-    set_first(1900, 1, 1), set_second(2199, 12, 31), counts(109572, 108000);
-    set_first(2199, 12, 30), set_second(2199, 12, 31), counts(1, 0);
-    set_first(1900, 1, 1), set_second(1900, 1, 2), counts(1, 1);
-    set_first(1900, 1, 1), set_second(1901, 1, 1), counts(365, 360);
-    set_first(2000, 1, 1), set_second(2001, 1, 1), counts(366, 360);
+static const struct counted to_the_ends[] = {
+    { { { 1900, 1, 1 }, { 2199, 12, 31 } }, 109572, 108000 },
+    { { { 2199, 12, 30 }, { 2199, 12, 31 } }, 1, 0 },
+    { { { 1900, 1, 1 }, { 1900, 1, 2 } }, 1, 1 },
+    { { { 1900, 1, 1 }, { 1901, 1, 1 } }, 365, 360 },
+    { { { 2000, 1, 1 }, { 2001, 1, 1 } }, 366, 360 },
+};
+
+static void are_counted(const struct counted *list, size_t length) {
+    for (size_t i = 0; i < length; i++) {
+        desk.first = list[i].span.first;
+        desk.second = list[i].span.second;
+        counts(list[i].actual, list[i].bond_basis);
+    }
 }
 
 /* Any two dates, by this test's own calendar; and from the second to the first, which is 15. */
@@ -325,9 +333,9 @@ int main(int arguments, char **words) {
     every_triple();
     months_later();
     every_months();
-    around_month_ends();
-    around_february();
-    whole_span();
+    are_counted(around_month_ends, LENGTH(around_month_ends));
+    are_counted(around_february, LENGTH(around_february));
+    are_counted(to_the_ends, LENGTH(to_the_ends));
     random_spans();
     return close_checks();
 }

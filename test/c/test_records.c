@@ -265,7 +265,7 @@ static struct record desk_dated(void) {
     return record_of_dated(&desk.dated);
 }
 
-/* A kind of record: its numbers, counts and dates on the desk, in the order of its reader's answers, and how many codes it knows. */
+/* A kind of record: its numbers, counts and dates on the desk, in the order of its reader's answers; how many codes it knows. */
 struct kind {
     call *reader, *writer;
     struct record (*record)(void);
@@ -365,8 +365,8 @@ static void one_record(void) {
 
 /* A dated swap, byte for byte: 64 at 0.5, a tenor that nobody filled in, twice a year from 31 January 2023 to 29 February 2024. */
 static void one_dated_record(void) {
-    static const uint8_t bytes[] = { 5, 0, 0, 0, 0, 0, 0, 0x50, 0x40, 0, 0, 0, 0, 0, 0, 0xe0, 0x3f, 0, 0, 0, 0, 0, 0, 0xf8, 0x7f, 2, 0, 0, 0,
-        0xe7, 0x07, 1, 31, 0xe8, 0x07, 2, 29, 2 };
+    static const uint8_t bytes[] = { 5, 0, 0, 0, 0, 0, 0, 0x50, 0x40, 0, 0, 0, 0, 0, 0, 0xe0, 0x3f, 0, 0, 0, 0, 0, 0, 0xf8, 0x7f,
+        2, 0, 0, 0, 0xe7, 0x07, 1, 31, 0xe8, 0x07, 2, 29, 2 };
     struct dated_parts dated = { 5, 64, 0.5, number_of_bits(0xfff0000000000001), 2, { 2023, 1, 31 }, { 2024, 2, 29 }, 2,
         SENYOLANDA_DATED_SWAP_BYTES };
     desk.dated = dated;
