@@ -89,8 +89,8 @@ static struct record random_dated(void) {
     uint32_t frequency = random_below(8) == 0 ? count_to(12) : frequencies[random_below(6)], year = 1895 + random_below(308);
     struct date first = any_date(year);
     struct date second = any_date(random_below(8) == 0 ? 1895 + random_below(310) : year + random_below(30));
-    struct dated_parts dated = { 5, amount(), rate(), random_number(), frequency, first, second, (uint8_t)random_below(3),
-        SENYOLANDA_DATED_SWAP_BYTES };
+    struct dated_parts dated = { 5, amount(), rate(), random_number(), frequency, first, second,
+        (uint8_t)random_below(random_below(8) == 0 ? 5 : 3), SENYOLANDA_DATED_SWAP_BYTES };
     return record_of_dated(&dated);
 }
 

@@ -417,6 +417,35 @@ static void most_periods(void) {
     for (desk.dated.frequency = 1; desk.dated.frequency <= 4; desk.dated.frequency++) is_worked_out();
 }
 
+/* Too many periods, were the dates dates or the frequency one: what is given is the lowest of the other causes. */
+static void several_causes(void) {
+    tidy_desk();
+    set_swap(100, 0.05, 12, 3);
+    set_span(1950, 1, 31, 2150, 1, 31);
+    REFUSED(call_value_dated_swap, 7, 0);
+    desk.dated.first.day = 32;
+    REFUSED(call_value_dated_swap, 11, 0);
+    desk.dated.rate = NAN;
+    REFUSED(call_value_dated_swap, 9, 0);
+    desk.dated.frequency = 24;
+    REFUSED(call_value_dated_swap, 8, 0);
+    desk.dated.first.day = 31;
+    REFUSED(call_value_dated_swap, 8, 0);
+    desk.rates[3] = NAN;
+    REFUSED(call_value_dated_swap, 6, 3);
+    desk.dated.notional = -1;
+    REFUSED(call_value_dated_swap, 1, 0);
+    desk.dated.kind = 4;
+    REFUSED(call_value_dated_swap, 11, 0);
+    tidy_desk();
+    set_swap(100, 0.05, 12, 2);
+    set_span(2150, 1, 31, 1950, 1, 31);
+    REFUSED(call_value_dated_swap, 15, 0);
+    desk.dated.day_count = 3;
+    REFUSED(call_value_dated_swap, 11, 0);
+    tidy_desk();
+}
+
 /* A period that would end after 2199 ends at the second date. */
 static void last_years(void) {
     tidy_desk();
@@ -518,6 +547,7 @@ int main(int arguments, char **words) {
     empty_period();
     empty_last_periods();
     most_periods();
+    several_causes();
     last_years();
     random_swaps();
     unread_tenors();
