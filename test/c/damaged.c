@@ -91,7 +91,7 @@ static struct record random_dated(void) {
     struct date second = any_date(random_below(8) == 0 ? 1895 + random_below(310) : year + random_below(30));
     struct dated_parts dated = { 5, amount(), rate(), random_number(), frequency, first, second,
         (uint8_t)random_below(random_below(8) == 0 ? 5 : 3), SENYOLANDA_DATED_SWAP_BYTES };
-    return record_of_dated(&dated);
+    return record_of_dated_swap(&dated);
 }
 
 struct record random_record(uint8_t kind) {

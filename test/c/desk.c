@@ -147,7 +147,7 @@ static void put_date(struct record *record, struct date date) {
     put_whole(record, date.day, 1);
 }
 
-struct record record_of_dated(const struct dated_parts *dated) {
+struct record record_of_dated_swap(const struct dated_parts *dated) {
     struct record record = record_of_kind(dated->kind);
     put_number(&record, dated->notional);
     put_number(&record, dated->rate);
@@ -206,8 +206,8 @@ struct lent_bytes lend_swap(void) {
     return lend_record(record_of_swap(&desk.swap));
 }
 
-struct lent_bytes lend_dated(void) {
-    return lend_record(record_of_dated(&desk.dated));
+struct lent_bytes lend_dated_swap(void) {
+    return lend_record(record_of_dated_swap(&desk.dated));
 }
 
 struct lent_bytes lend_pool(void) {

@@ -109,7 +109,7 @@ struct record record_of_loan(const struct loan_parts *loan);
 struct record record_of_bond(const struct bond_parts *bond);
 struct record record_of_row(const struct row_parts *row);
 struct record record_of_swap(const struct swap_parts *swap);
-struct record record_of_dated(const struct dated_parts *dated);
+struct record record_of_dated_swap(const struct dated_parts *dated);
 double number_in(const uint8_t *bytes);
 uint32_t count_in(const uint8_t *bytes);
 struct date date_in(const uint8_t *bytes);
@@ -119,7 +119,7 @@ struct lent_bytes lend_loan(void);
 struct lent_bytes lend_bond(void);
 struct lent_bytes lend_row(void);
 struct lent_bytes lend_swap(void);
-struct lent_bytes lend_dated(void);
+struct lent_bytes lend_dated_swap(void);
 struct lent_bytes lend_pool(void);
 void set_found_record(const struct record *found);
 

@@ -25,7 +25,7 @@ static const struct claim matrix[] = {
 typedef senyolanda_result swap_number(const uint8_t *, size_t, const double *, size_t, const double *, size_t, double *);
 
 static senyolanda_result number_of_swap(swap_number *function) {
-    struct lent_bytes swap = lend_dated();
+    struct lent_bytes swap = lend_dated_swap();
     struct lent_curve curve = lend_curve();
     double *answer = lend_number();
     return CALL(function(
@@ -41,7 +41,7 @@ typedef senyolanda_result side_number(
     const uint8_t *, size_t, const double *, size_t, const double *, size_t, uint32_t, double *);
 
 static senyolanda_result numbers_of_side(side_number *function, size_t count) {
-    struct lent_bytes swap = lend_dated();
+    struct lent_bytes swap = lend_dated_swap();
     struct lent_curve curve = lend_curve();
     double *answer = lend_places(count);
     return CALL(function(swap.bytes, swap.length, curve.times, curve.times_count, curve.rates, curve.rates_count,

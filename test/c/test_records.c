@@ -77,7 +77,7 @@ static uint32_t *lend_date(void) {
 }
 
 static senyolanda_result call_read_dated_swap(void) {
-    struct lent_bytes record = lend_dated();
+    struct lent_bytes record = lend_dated_swap();
     double *notional = lend_number(), *rate = lend_number(), *tenor = lend_number();
     uint32_t *frequency = lend_count(), *first = lend_date(), *second = lend_date(), *day_count = lend_count();
     return CALL(senyolanda_read_dated_swap(
@@ -262,7 +262,7 @@ static struct record desk_swap(void) {
 }
 
 static struct record desk_dated(void) {
-    return record_of_dated(&desk.dated);
+    return record_of_dated_swap(&desk.dated);
 }
 
 /* A kind of record: its numbers, counts and dates on the desk, in the order of its reader's answers; how many codes it knows. */
