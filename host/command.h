@@ -26,7 +26,7 @@ struct command {
     enum status (*run)(char **words);   /* the words that are no options, up to a null */
 };
 
-extern const struct command schedule_command, statement_command;
+extern const struct command days_command, schedule_command, statement_command;
 
 /* Takes the options out of the words, and runs the command on the others; with -h or --help it writes the help. */
 enum status run_command(const struct command *command, char **words);

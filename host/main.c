@@ -4,7 +4,7 @@
 
 #include <string.h>
 
-static const struct command *const commands[] = {&statement_command, &schedule_command};
+static const struct command *const commands[] = {&statement_command, &schedule_command, &days_command};
 enum { COMMANDS = sizeof commands / sizeof *commands };
 
 static const struct command *named_command(const char *name) {

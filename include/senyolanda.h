@@ -322,7 +322,7 @@ senyolanda_result senyolanda_date_of_number(
     uint32_t number, uint32_t date[SENYOLANDA_FILLED SENYOLANDA_DATE_NUMBERS]) SENYOLANDA_CHECKED;
 
 /* The date so many months later; where its month has no such day, the month's last day. Count periods from the first date and not
-   from one that was cut: 31 January is followed by 28 February and then by 31 March. Refuses 15, for a date after 2199 too. */
+   from one that was cut: 31 January is followed by 28 February and then by 31 March. A date after 2199 is 15 too. Refuses 15. */
 senyolanda_result senyolanda_months_later(
     uint32_t year, uint32_t month, uint32_t day, uint32_t months,
     uint32_t date[SENYOLANDA_FILLED SENYOLANDA_DATE_NUMBERS]) SENYOLANDA_CHECKED;

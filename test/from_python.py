@@ -1,8 +1,12 @@
 #!/usr/bin/env python3
 """from_python.py LIBRARY: the shared library as a Python program calls it, by ctypes. Loans are opened, drawn in portions, with year-end
 totals too, listed and held to document 01's figures; curves are looked up one time by one and as a list, and held to a walk from knot to
-knot; refusals give number and place and leave lent memory alone."""
+knot; dates are held to Python's own calendar, and dated swaps to sums over their periods; refusals give number and place and leave lent
+memory alone."""
+import calendar
 import ctypes
+import datetime
+import random
 import struct
 import sys
 from ctypes import POINTER, byref, c_double, c_size_t, c_uint8, c_uint32, c_uint64
@@ -52,6 +56,18 @@ spread_rate_at = function("senyolanda_zero_curve_rate", *CURVE, c_double, NUMBER
 spread_rate_at_each = function("senyolanda_zero_curve_rate_each", *CURVE, *NUMBERS)
 pool_totals = function("senyolanda_pool_totals", *BYTES, NUMBER)
 listing = function("senyolanda_listing", *BYTES, POINTER(c_uint8), COUNT)
+DATE = [c_uint32] * 3
+day_number = function("senyolanda_day_number", *DATE, COUNT)
+date_of_number = function("senyolanda_date_of_number", c_uint32, COUNT)
+months_later = function("senyolanda_months_later", *DATE, c_uint32, COUNT)
+actual_days = function("senyolanda_actual_days", *DATE, *DATE, COUNT)
+days_30_360 = function("senyolanda_days_30_360", *DATE, *DATE, COUNT)
+dated_fraction = function("senyolanda_dated_fraction", c_uint32, *DATE, *DATE, NUMBER)
+write_dated_swap = function(
+    "senyolanda_write_dated_swap", c_double, c_double, c_double, c_uint32, *DATE, *DATE, c_uint32, POINTER(c_uint8))
+read_dated_swap = function("senyolanda_read_dated_swap", *BYTES, NUMBER, NUMBER, NUMBER, COUNT, COUNT, COUNT, COUNT)
+value_dated_swap = function("senyolanda_value_dated_swap", *BYTES, *CURVE, c_uint32, NUMBER)
+factor_at = function("senyolanda_discount_curve_factor", *CURVE, c_double, NUMBER)
 
 
 class Loan:
@@ -223,4 +239,152 @@ for knots in (1, 2, 3, 7, 8, 9, 10, 16, 17, 30, 64, 120):
         same(got, want)
         same(room[:], want)
 
-print("from Python: loans drawn in portions, with their years' lines, and listed, curves looked up as a walk would, and refusals that touch nothing")
+# Every day from 1900 to 2199: the number of 1 January 1900 is 2, and each gives its date back.
+number, date, one_day = c_uint32(), (c_uint32 * 3)(), datetime.timedelta(days=1)
+first_day, last_day = datetime.date(1900, 1, 1), datetime.date(2199, 12, 31)
+
+
+def parts(day):
+    return day.year, day.month, day.day
+
+
+day, expected, ordinal = first_day, 2, first_day.toordinal()
+while day <= last_day:
+    day_number(*parts(day), number)
+    date_of_number(expected, date)
+    if number.value != expected or tuple(date) != parts(day) or day.toordinal() - ordinal != expected - 2:
+        sys.exit(f"from Python: {day} has number {number.value} and not {expected}, or {expected} is {date[:]}")
+    day, expected = day + one_day, expected + 1
+same(expected, 109575)
+for bad in ((1899, 12, 31), (2200, 1, 1), (1900, 2, 29), (2100, 2, 29), (2023, 2, 29), (2023, 4, 31), (2023, 0, 1), (2023, 13, 1), (2023, 1, 0),
+            (2023, 1, 32), (2023, 257, 1), (2023, 1, 257), (65536 + 2023, 1, 1)):
+    same(refusal(day_number, *bad, number), (15, 0))
+same([refusal(date_of_number, bad, date) for bad in (0, 1, 109575, 2**32 - 1)], [(15, 0)] * 4)
+same((number.value, tuple(date)), (109574, (2199, 12, 31)))
+
+
+def cut(year, month, day):
+    return year, month, min(day, calendar.monthrange(year, month)[1])
+
+
+def months_on(first, months):
+    """The same day so many months on, cut to the month's end."""
+    at = first[0] * 12 + first[1] - 1 + months
+    return cut(at // 12, at % 12 + 1, first[2])
+
+
+def thirty_between(first, second):
+    """30/360 as ISDA 2006 has it, 4.16 (f): D1 is 30 where it is 31; D2 is 30 where it is 31 and D1 is greater than 29."""
+    (y1, m1, d1), (y2, m2, d2) = first, second
+    d1 = 30 if d1 == 31 else d1
+    d2 = 30 if d2 == 31 and d1 > 29 else d2
+    return 360 * (y2 - y1) + 30 * (m2 - m1) + (d2 - d1)
+
+
+def actual_between(first, second):
+    return (datetime.date(*second) - datetime.date(*first)).days
+
+
+def fraction_between(code, first, second):
+    return thirty_between(first, second) / 360 if code == 2 else actual_between(first, second) / (360, 365)[code]
+
+
+draw_number = random.Random(5)
+
+
+def any_day():
+    day = first_day + datetime.timedelta(days=draw_number.randrange(109573))
+    return parts(day) if draw_number.random() < 0.5 else cut(day.year, day.month, draw_number.choice((28, 29, 30, 31)))
+
+
+fraction = c_double()
+for _ in range(20000):
+    first, second = sorted((any_day(), any_day()))
+    if first == second:
+        same(refusal(actual_days, *first, *second, number), (15, 0))
+        continue
+    same(refusal(days_30_360, *second, *first, number), (15, 0))
+    actual_days(*first, *second, number)
+    same(number.value, actual_between(first, second))
+    days_30_360(*first, *second, number)
+    same(number.value, thirty_between(first, second))
+    for code in range(3):
+        dated_fraction(code, *first, *second, fraction)
+        same(fraction.value, fraction_between(code, first, second))
+    same(refusal(dated_fraction, 3, *second, *first, fraction), (11, 0))
+    months = draw_number.randrange(400)
+    if months_on(first, months)[0] <= 2199:
+        months_later(*first, months, date)
+        same(tuple(date), months_on(first, months))
+    else:
+        same(refusal(months_later, *first, months, date), (15, 0))
+
+
+# Dated swaps over a curve of two knots: payments of each period's own days, the last one ending at the second date.
+def periods(first, second, frequency):
+    """Where each period begins and ends."""
+    begin, count = first, 0
+    while begin < second:
+        count += 1
+        at = first[0] * 12 + first[1] - 1 + count * 12 // frequency
+        end = second if at // 12 > 2199 else min(cut(at // 12, at % 12 + 1, first[2]), second)
+        yield begin, end
+        begin = end
+
+
+knots, zeros = (c_double * 2)(1.0, 30.0), (c_double * 2)(0.02, 0.04)
+curve = knots, 2, zeros, 2
+
+
+def factor(first, second):
+    number = c_double()
+    factor_at(*curve, actual_between(first, second) / 365, byref(number))
+    return number.value
+
+
+def dated_swap(notional, rate, tenor, frequency, first, second, code):
+    record = (c_uint8 * 38)()
+    write_dated_swap(notional, rate, tenor, frequency, *first, *second, code, record)
+    return record
+
+
+def worked_out(notional, rate, frequency, first, second, code):
+    """The legs and the par rate."""
+    fixed, floating, annuity, earlier = 0.0, 0.0, 0.0, 1.0
+    for begin, end in periods(first, second, frequency):
+        discount, part = factor(first, end), fraction_between(code, begin, end)
+        if part != 0:
+            fixed += notional * rate * part * discount
+            floating += notional * ((earlier / discount - 1) / part) * part * discount
+            annuity += discount * part
+        earlier = discount
+    last = factor(first, second)
+    return fixed + notional * last, floating + notional * last, (1 - last) / annuity if annuity else float("inf")
+
+
+valuation, swaps = (c_double * 6)(), 0
+while swaps < 300:
+    first, frequency, code = any_day(), draw_number.choice((1, 2, 3, 4, 6, 12)), draw_number.randrange(3)
+    second = draw_number.choice((any_day(), months_on(first, draw_number.randrange(600)), (first[0], 12, 31), (2199, 12, 31)))
+    if not first < second or second[0] > 2199 or (second[0] - first[0] + 1) * frequency > 1200:
+        continue
+    swaps += 1
+    record = dated_swap(1e6, 0.03, draw_number.choice((float("nan"), 0.0, 5.0)), frequency, first, second, code)
+    value_dated_swap(record, 38, *curve, 1, valuation)
+    same(valuation[1:4], [*worked_out(1e6, 0.03, frequency, first, second, code)])
+    same(valuation[0], valuation[1] - valuation[2])
+    numbers, counts, dates = [c_double() for _ in range(3)], [c_uint32(), c_uint32()], [(c_uint32 * 3)(), (c_uint32 * 3)()]
+    read_dated_swap(record, 38, *numbers, counts[0], *dates, counts[1])
+    same((numbers[0].value, counts[0].value, tuple(dates[0]), tuple(dates[1]), counts[1].value), (1e6, frequency, first, second, code))
+
+# 7 for 1,201 periods, but not where the frequency or a date is bad; a swap that is no record of its kind.
+before = valuation[:]
+for frequency, first, second, code, want in (
+        (12, (1950, 1, 31), (2050, 2, 1), 2, 7), (5, (1950, 1, 31), (2050, 2, 1), 2, 8), (12, (1950, 2, 29), (2050, 3, 1), 2, 15),
+        (2, (2023, 1, 31), (2023, 1, 31), 0, 15), (2, (2023, 1, 31), (2023, 1, 30), 0, 15), (0, (2023, 1, 31), (2023, 1, 30), 0, 8)):
+    same(refusal(value_dated_swap, dated_swap(1e6, 0.03, 1.0, frequency, first, second, code), 38, *curve, 1, valuation), (want, 0))
+same(refusal(value_dated_swap, dated_swap(1e6, 0.03, 1.0, 2, (2023, 1, 31), (2024, 1, 31), 0), 37, *curve, 1, valuation), (11, 0))
+same(valuation[:], before)
+
+print("from Python: loans drawn in portions, with their years' lines, and listed, curves looked up as a walk would, dates as "
+      "Python's calendar has them, dated swaps, and refusals that touch nothing")

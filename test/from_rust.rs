@@ -1,9 +1,11 @@
 // The library as a Rust program calls it: a loan opened, drawn in portions, with year-end totals too, and held to document 01's
-// figures, and refusals that give number and place and leave lent memory alone.
+// figures; dates counted by a calendar of this program's own, and dated swaps; and refusals that give number and place and leave lent
+// memory alone.
 #[allow(dead_code)]
 mod library;
 
-use library::records::senyolanda_write_loan;
+use library::dates::*;
+use library::records::{senyolanda_read_dated_swap, senyolanda_write_dated_swap, senyolanda_write_loan};
 use library::*;
 
 /// A loan in hand: term and months done; rate, payment and balance.
@@ -75,6 +77,91 @@ fn drawn_whole(mut loan: Loan, places: usize) -> Vec<[u64; ROW_PLACES]> {
     }
 }
 
+// The days from one date to another, by actual days and by 30/360.
+fn days(first: [u32; DATE_NUMBERS], second: [u32; DATE_NUMBERS]) -> Result<(u32, u32), Refusal> {
+    let ([y1, m1, d1], [y2, m2, d2]) = (first, second);
+    let (mut actual, mut thirty) = (7, 7);
+    let answers = (
+        read(called!(senyolanda_actual_days, y1, m1, d1, y2, m2, d2, &mut actual)),
+        read(called!(senyolanda_days_30_360, y1, m1, d1, y2, m2, d2, &mut thirty)),
+    );
+    assert_eq!(answers.0, answers.1, "the two count the same dates");
+    assert!(answers.0.is_ok() || (actual, thirty) == (7, 7), "a refusal counts nothing");
+    answers.0.map(|()| (actual, thirty))
+}
+
+fn number(date: [u32; DATE_NUMBERS]) -> Result<u32, Refusal> {
+    let mut number = 7;
+    read(called!(senyolanda_day_number, date[0], date[1], date[2], &mut number))?;
+    Ok(number)
+}
+
+fn dates() {
+    // day after day from 1900 to 2199, each with its number, and back
+    let (mut next, mut date) = (2, [7; DATE_NUMBERS]);
+    for year in 1900..2200 {
+        let leap = year % 4 == 0 && (year % 100 != 0 || year % 400 == 0);
+        for month in 1..=12 {
+            let length = match month {
+                2 => 28 + leap as u32,
+                4 | 6 | 9 | 11 => 30,
+                _ => 31,
+            };
+            for day in 1..=length {
+                assert_eq!(number([year, month, day]), Ok(next));
+                read(called!(senyolanda_date_of_number, next, &mut date)).unwrap();
+                assert_eq!(date, [year, month, day]);
+                next += 1;
+            }
+            assert_eq!(number([year, month, length + 1]), Err(Refusal { number: 15, place: 0 }));
+        }
+    }
+    assert_eq!(next, 109575);
+    assert_eq!(read(called!(senyolanda_date_of_number, next, &mut date)), Err(Refusal { number: 15, place: 0 }));
+    assert_eq!(date, [2199, 12, 31], "a refusal leaves the date");
+
+    for (first, second, counts) in [
+        ([2023, 1, 31], [2023, 2, 28], (28, 28)),
+        ([2023, 1, 30], [2023, 3, 31], (60, 60)),
+        ([2023, 2, 28], [2023, 3, 31], (31, 33)),
+        ([2023, 8, 31], [2023, 9, 30], (30, 30)),
+        ([2023, 1, 30], [2023, 1, 31], (1, 0)),
+    ] {
+        assert_eq!(days(first, second), Ok(counts), "from {first:?} to {second:?}");
+        assert_eq!(days(second, first), Err(Refusal { number: 15, place: 0 }));
+        assert_eq!(days(first, first), Err(Refusal { number: 15, place: 0 }));
+    }
+    for (months, later) in [[2023, 1, 31], [2023, 2, 28], [2023, 3, 31], [2023, 4, 30]].into_iter().enumerate() {
+        read(called!(senyolanda_months_later, 2023, 1, 31, months as u32, &mut date)).unwrap();
+        assert_eq!(date, later);
+    }
+}
+
+// A dated swap of 360 at a rate of 1: on a curve of 0 its fixed leg is 360 and the days that it counts.
+fn dated_swaps() {
+    let (mut bytes, tenors, zeros) = ([0; DATED_SWAP_BYTES], [1.0], [0.0]);
+    let (mut valuation, mut pv) = ([7.0; 6], 7.0);
+    read(called!(senyolanda_write_dated_swap, 360.0, 1.0, f64::NAN, 2, 2023, 8, 31, 2024, 2, 29, 2, &mut bytes)).unwrap();
+    read(called!(senyolanda_value_dated_swap, [bytes], [tenors], [zeros], 1, &mut valuation)).unwrap();
+    assert!((valuation[1] - 539.0).abs() < 1e-9 && valuation[2] == 360.0 && valuation[3] == 0.0, "{valuation:?}");
+
+    let (mut notional, mut rate, mut tenor, mut frequency, mut day_count) = (7.0, 7.0, 7.0, 7, 7);
+    let (mut first, mut second) = ([7; DATE_NUMBERS], [7; DATE_NUMBERS]);
+    let result = called!(
+        senyolanda_read_dated_swap, [bytes], &mut notional, &mut rate, &mut tenor, &mut frequency, &mut first, &mut second, &mut day_count
+    );
+    assert_eq!((read(result), notional, rate, frequency, first, second, day_count), (Ok(()), 360.0, 1.0, 2, [2023, 8, 31], [2024, 2, 29], 2));
+    assert!(tenor.is_nan());
+
+    // 29 February 2023 stands in a record, and nobody values it
+    read(called!(senyolanda_write_dated_swap, 360.0, 1.0, 0.5, 2, 2023, 2, 29, 2024, 2, 29, 2, &mut bytes)).unwrap();
+    let refused = read(called!(senyolanda_dated_fixed_leg_pv, [bytes], [tenors], [zeros], &mut pv));
+    assert_eq!((refused, pv), (Err(Refusal { number: 15, place: 0 }), 7.0));
+    let before = bytes;
+    let refused = read(called!(senyolanda_write_dated_swap, 360.0, 1.0, 0.5, 2, 65536, 2, 28, 2024, 2, 29, 2, &mut bytes));
+    assert_eq!((refused, bytes), (Err(Refusal { number: 15, place: 0 }), before));
+}
+
 fn main() {
     let mut loan = Loan::default();
     open(&record(1200.0, 0.0, 3), &mut loan).unwrap();
@@ -122,5 +209,8 @@ fn main() {
     assert_eq!(read(called!(senyolanda_pool_totals, [pool], &mut totals)), Err(Refusal { number: 1, place: 2 }));
     assert_eq!(totals, [1.5; 3]);
 
-    println!("from Rust: a loan drawn in portions, another with its years' lines, and refusals that touch nothing");
+    dates();
+    dated_swaps();
+
+    println!("from Rust: a loan drawn in portions, another with its years' lines, dates and dated swaps, and refusals that touch nothing");
 }

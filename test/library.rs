@@ -7,6 +7,8 @@ pub const LOAN_BYTES: usize = 21;
 pub const BOND_BYTES: usize = 26;
 pub const ROW_BYTES: usize = 37;
 pub const SWAP_BYTES: usize = 30;
+pub const DATED_SWAP_BYTES: usize = 38;
+pub const DATE_NUMBERS: usize = 3;
 pub const LISTING_BYTES: usize = 96000;
 pub const ROW_PLACES: usize = 5;
 pub const YEAR_PLACES: usize = 4;
@@ -20,6 +22,7 @@ type Number<'a> = &'a mut f64;
 type Count<'a> = &'a mut u32;
 type Counts<'a> = &'a mut [u32; LOAN_COUNTS];
 type Amounts<'a> = &'a mut [f64; LOAN_AMOUNTS];
+type Date<'a> = &'a mut [u32; DATE_NUMBERS];
 type CountsToRead<'a> = &'a [u32; LOAN_COUNTS];
 type AmountsToRead<'a> = &'a [f64; LOAN_AMOUNTS];
 
@@ -130,6 +133,29 @@ exported! {
     senyolanda_points_to_decimal(points: f64, rate: Number);
 }
 
+/// Dates and dated swaps.
+#[allow(dead_code)]
+pub mod dates {
+    use super::*;
+
+    exported! {
+        senyolanda_day_number(year: u32, month: u32, day: u32, number: Count);
+        senyolanda_date_of_number(number: u32, date: Date);
+        senyolanda_months_later(year: u32, month: u32, day: u32, months: u32, date: Date);
+        senyolanda_actual_days(first_year: u32, first_month: u32, first_day: u32, second_year: u32, second_month: u32, second_day: u32, days: Count);
+        senyolanda_days_30_360(first_year: u32, first_month: u32, first_day: u32, second_year: u32, second_month: u32, second_day: u32, days: Count);
+        senyolanda_dated_fraction(day_count: u32, first_year: u32, first_month: u32, first_day: u32, second_year: u32, second_month: u32, second_day: u32, fraction: Number);
+
+        senyolanda_dated_fixed_leg_pv([record: u8], [tenors: f64], [zeros: f64], pv: Number);
+        senyolanda_dated_floating_leg_pv([record: u8], [tenors: f64], [zeros: f64], pv: Number);
+        senyolanda_dated_swap_npv([record: u8], [tenors: f64], [zeros: f64], receive_fixed: u32, npv: Number);
+        senyolanda_dated_par_swap_rate([record: u8], [tenors: f64], [zeros: f64], rate: Number);
+        senyolanda_dated_swap_dv01([record: u8], [tenors: f64], [zeros: f64], receive_fixed: u32, dv01: Number);
+        senyolanda_dated_swap_duration([record: u8], [tenors: f64], [zeros: f64], duration: Number);
+        senyolanda_value_dated_swap([record: u8], [tenors: f64], [zeros: f64], receive_fixed: u32, valuation: &mut [f64; 6]);
+    }
+}
+
 /// The readers and writers of records.
 #[allow(dead_code)]
 pub mod records {
@@ -144,6 +170,8 @@ pub mod records {
         senyolanda_write_row(month: u32, payment: f64, principal: f64, interest: f64, balance: f64, record: &mut [u8; ROW_BYTES]);
         senyolanda_read_swap([record: u8], notional: Number, rate: Number, tenor: Number, frequency: Count, day_count: Count);
         senyolanda_write_swap(notional: f64, rate: f64, tenor: f64, frequency: u32, day_count: u32, record: &mut [u8; SWAP_BYTES]);
+        senyolanda_read_dated_swap([record: u8], notional: Number, rate: Number, tenor: Number, frequency: Count, first: Date, second: Date, day_count: Count);
+        senyolanda_write_dated_swap(notional: f64, rate: f64, tenor: f64, frequency: u32, first_year: u32, first_month: u32, first_day: u32, second_year: u32, second_month: u32, second_day: u32, day_count: u32, record: &mut [u8; DATED_SWAP_BYTES]);
     }
 }
 

@@ -38,7 +38,8 @@ cmp -s "$room/said" "$room/help" || fails "no usage on standard error"
 # every command is listed, and has its help
 commands=$(sed -n '/^Commands:$/,/^$/s/^  \([a-z]*\) .*/\1/p' "$room/help")
 [ "$commands" = "statement
-schedule" ] || fails "the commands listed are $commands"
+schedule
+days" ] || fails "the commands listed are $commands"
 for command in $commands; do
     gives 0 "$command" --help
     cp "$room/wrote" "$room/of-command"
@@ -68,8 +69,9 @@ wrong "senyolanda: there is no command 'night'; senyolanda --help says which the
 # a message names its command
 wrong "senyolanda statement: there is no option --night; --help says which there are" statement --night
 wrong "senyolanda schedule: there is no option --night; --help says which there are" schedule --night
+wrong "senyolanda days: there is no option --night; --help says which there are" days --night
 
-for words in --help --version "statement --help" "schedule --help"; do
+for words in --help --version "statement --help" "schedule --help" "days --help" "days 2023-01-31 2023-02-28"; do
     for output in full closed; do
         last="$words, output $output"
         status=0

@@ -33,16 +33,35 @@ def count():
     return pick([0, 1, 2, 3, 12, 360]) if chance() < 0.8 else pick(HOSTILE_COUNTS)
 
 
+DATE_RANGES = {"year": range(1900, 2200), "month": range(1, 13), "day": range(1, 31)}
+HOSTILE_DATES = {"year": [0, 1899, 2200, 65535], "month": [0, 13, 255], "day": [0, 31, 32, 255]}
+
+
+def date_part(name):
+    """A year, a month or a day, most of them of the calendar."""
+    part = name.split("_")[-1]
+    return pick(DATE_RANGES[part]) if chance() < 0.97 else pick(HOSTILE_DATES[part])
+
+
+def dates_of(parameters):
+    """The parameters that are the three numbers of a date."""
+    names = {name for name, _, way, _ in parameters if way == "by value"}
+    triples = [{f"{which}{part}" for part in DATE_RANGES} for which in ("", "first_", "second_")]
+    return set().union(*(triple for triple in triples if triple <= names))
+
+
 def record():
     """A record of some kind, now and then cut short or of no kind at all."""
     code = pick([0, 1, 2, 3]) if chance() < 0.9 else 7
+    dates = [date_part(part) for part in (*DATE_RANGES, *DATE_RANGES)]
     one = pick([
         struct.pack("<BddI", 1, number(), number(), count()),
         struct.pack("<BdddB", 2, number(), number(), number(), code),
         struct.pack("<BIdddd", 3, count(), number(), number(), number(), number()),
         struct.pack("<BdddIB", 4, number(), number(), number(), count(), code),
+        struct.pack("<BdddIHBBHBBB", 5, number(), number(), number(), count(), *dates, code),
     ])
-    return one if chance() < 0.95 else pick([one[:-1], b"\5" + one[1:], b""])
+    return one if chance() < 0.95 else pick([one[:-1], b"\6" + one[1:], b""])
 
 
 def pool():
@@ -75,6 +94,11 @@ def argument(name, item, way, extent, usual):
     return (C_TYPES[item] * len(values))(*values)
 
 
+def date_argument(name):
+    """As an argument a date's number can be wider than a record has bytes for."""
+    return date_part(name) if chance() < 0.98 else pick([256, 65536, 2 ** 32 - 1])
+
+
 def flat(arguments, parameters):
     """The arguments as C takes them: after a list, its count."""
     for given, (_, _, _, extent) in zip(arguments, parameters):
@@ -85,10 +109,10 @@ def flat(arguments, parameters):
 
 def faults(function, parameters, declared):
     """What a function does that the header does not say."""
-    seen = set()
+    seen, dates = set(), dates_of(parameters)
     for _ in range(CALLS):
         usual = pick([1, 2, 5, 15]) if chance() < 0.9 else pick([0, 121])
-        arguments = [argument(*parameter, usual) for parameter in parameters]
+        arguments = [date_argument(parameter[0]) if parameter[0] in dates else argument(*parameter, usual) for parameter in parameters]
         lent = [one for one, (_, _, way, _) in zip(arguments, parameters) if way == "to write"]
         before = [bytes(one) for one in lent]
         result = function(*flat(arguments, parameters))

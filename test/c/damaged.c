@@ -78,25 +78,42 @@ static struct record random_swap(void) {
     return record_of_swap(&swap);
 }
 
+/* Dates from 1895 to 2204, most of them of the calendar; the second is mostly some years after the first. */
+static struct date any_date(uint32_t year) {
+    struct date date = { year, random_below(32) == 0 ? random_below(256) : random_below(13), random_below(32) };
+    return date;
+}
+
+static struct record random_dated(void) {
+    static const uint32_t frequencies[] = { 1, 2, 3, 4, 6, 12 };
+    uint32_t frequency = random_below(8) == 0 ? count_to(12) : frequencies[random_below(6)], year = 1895 + random_below(308);
+    struct date first = any_date(year);
+    struct date second = any_date(random_below(8) == 0 ? 1895 + random_below(310) : year + random_below(30));
+    struct dated_parts dated = { 5, amount(), rate(), random_number(), frequency, first, second,
+        (uint8_t)random_below(random_below(8) == 0 ? 5 : 3), SENYOLANDA_DATED_SWAP_BYTES };
+    return record_of_dated_swap(&dated);
+}
+
 struct record random_record(uint8_t kind) {
     switch (kind) {
     case 1: return random_loan();
     case 2: return random_bond();
     case 3: return random_row();
-    default: return random_swap();
+    case 4: return random_swap();
+    default: return random_dated();
     }
 }
 
 static struct record random_bytes(void) {
     struct record record = { { 0 }, random_below(41) };
     for (size_t i = 0; i < record.length; i++) record.bytes[i] = (uint8_t)random_bits();
-    if (random_below(2) == 0 && record.length != 0) record.bytes[0] = (uint8_t)random_below(6);
+    if (random_below(2) == 0 && record.length != 0) record.bytes[0] = (uint8_t)random_below(7);
     return record;
 }
 
 struct record damaged_record(void) {
     if (random_below(4) == 0) return random_bytes();
-    struct record record = random_record((uint8_t)(1 + random_below(4)));
+    struct record record = random_record((uint8_t)(1 + random_below(5)));
     switch (random_below(4)) {
     case 0: record.bytes[random_below((uint32_t)record.length)] = (uint8_t)random_bits(); break;
     case 1: record.bytes[random_below((uint32_t)record.length)] ^= (uint8_t)(1u << random_below(8)); break;
@@ -119,7 +136,8 @@ static void describe_record(void) {
 /* 12 and 13 are not for the record alone to say. */
 static int is_due(senyolanda_result result, senyolanda_result deserved) {
     uint32_t number = senyolanda_number(result);
-    return result == deserved || (deserved == 0 && number >= 12 && can_give(tried, number) && senyolanda_place(result) == 0);
+    int is_beyond = (number == 12 || number == 13) && can_give(tried, number) && senyolanda_place(result) == 0;
+    return result == deserved || (deserved == 0 && is_beyond);
 }
 
 static void try_record(enum placement placement) {

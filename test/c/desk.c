@@ -11,6 +11,7 @@ static const struct desk at_rest = {
     .bond = { 2, 100, 0.5, 2, 0, SENYOLANDA_BOND_BYTES },
     .row = { 3, 7, 100, 90, 10, 800, SENYOLANDA_ROW_BYTES },
     .swap = { 4, 100, 0.05, 2, 2, 0, SENYOLANDA_SWAP_BYTES },
+    .dated = { 5, 100, 0.05, 2, 2, { 2023, 1, 31 }, { 2025, 1, 15 }, 2, SENYOLANDA_DATED_SWAP_BYTES },
     .frequency = 2,
     .payment = 100,
     .balance = 1200,
@@ -39,6 +40,9 @@ static const struct desk at_rest = {
     .asked_count = 3,
     .receive_fixed = 1,
     .days = 90,
+    .first = { 2023, 1, 31 },
+    .second = { 2025, 1, 15 },
+    .day_number = 44957,
     .points = 100,
     .flow_times_count = 4,
     .flow_amounts_count = 4,
@@ -137,6 +141,24 @@ struct record record_of_swap(const struct swap_parts *swap) {
     return of_length(record, swap->length);
 }
 
+static void put_date(struct record *record, struct date date) {
+    put_whole(record, date.year, 2);
+    put_whole(record, date.month, 1);
+    put_whole(record, date.day, 1);
+}
+
+struct record record_of_dated_swap(const struct dated_parts *dated) {
+    struct record record = record_of_kind(dated->kind);
+    put_number(&record, dated->notional);
+    put_number(&record, dated->rate);
+    put_number(&record, dated->tenor);
+    put_count(&record, dated->frequency);
+    put_date(&record, dated->first);
+    put_date(&record, dated->second);
+    put_byte(&record, dated->day_count);
+    return of_length(record, dated->length);
+}
+
 static uint64_t whole_in(const uint8_t *bytes, unsigned count) {
     uint64_t whole = 0;
     for (unsigned i = 0; i < count; i++) whole |= (uint64_t)bytes[i] << 8 * i;
@@ -149,6 +171,11 @@ double number_in(const uint8_t *bytes) {
 
 uint32_t count_in(const uint8_t *bytes) {
     return (uint32_t)whole_in(bytes, 4);
+}
+
+struct date date_in(const uint8_t *bytes) {
+    struct date date = { (uint32_t)whole_in(bytes, 2), bytes[2], bytes[3] };
+    return date;
 }
 
 void set_found_record(const struct record *found) {
@@ -177,6 +204,10 @@ struct lent_bytes lend_row(void) {
 
 struct lent_bytes lend_swap(void) {
     return lend_record(record_of_swap(&desk.swap));
+}
+
+struct lent_bytes lend_dated_swap(void) {
+    return lend_record(record_of_dated_swap(&desk.dated));
 }
 
 struct lent_bytes lend_pool(void) {

@@ -13,6 +13,11 @@ enum { WIDTH = SENYOLANDA_ROW_PLACES, YEAR_WIDTH = SENYOLANDA_YEAR_PLACES };
 /* One more than the most that is taken, and one more again. */
 enum { LOANS = 258, LINES = 102, KNOTS = 122, FLOWS = 1202, MONTHS = 4, ASKED = 20 };
 
+/* A date, of the calendar or not. */
+struct date {
+    uint32_t year, month, day;
+};
+
 /* Records in their parts. The length is that of the bytes lent, whatever the kind; the bytes past the parts are 0. */
 struct loan_parts {
     uint8_t kind;
@@ -39,12 +44,21 @@ struct swap_parts {
     uint8_t day_count;
     size_t length;
 };
+struct dated_parts {
+    uint8_t kind;
+    double notional, rate, tenor;
+    uint32_t frequency;
+    struct date first, second;
+    uint8_t day_count;
+    size_t length;
+};
 
 struct desk {
     struct loan_parts loan, new_loan;
     struct bond_parts bond;
     struct row_parts row;
     struct swap_parts swap;
+    struct dated_parts dated;
     /* a code as a plain number */
     uint32_t frequency, day_count, speed;
     /* a loan in hand, its term and rate the loan's */
@@ -70,6 +84,9 @@ struct desk {
     size_t times_count, rates_count, asked_count;
     /* what goes with a swap */
     uint32_t receive_fixed, days;
+    /* two dates, and the number of one */
+    struct date first, second;
+    uint32_t day_number;
     /* cash flows: as two lists, and as one list of twice as many numbers */
     double flow_times[FLOWS], flow_amounts[FLOWS], points;
     size_t flow_times_count, flow_amounts_count, dated_count;
@@ -92,14 +109,17 @@ struct record record_of_loan(const struct loan_parts *loan);
 struct record record_of_bond(const struct bond_parts *bond);
 struct record record_of_row(const struct row_parts *row);
 struct record record_of_swap(const struct swap_parts *swap);
+struct record record_of_dated_swap(const struct dated_parts *dated);
 double number_in(const uint8_t *bytes);
 uint32_t count_in(const uint8_t *bytes);
+struct date date_in(const uint8_t *bytes);
 
 /* Lends the desk's record, or its pool's records end to end; where a found record is set, that one instead. */
 struct lent_bytes lend_loan(void);
 struct lent_bytes lend_bond(void);
 struct lent_bytes lend_row(void);
 struct lent_bytes lend_swap(void);
+struct lent_bytes lend_dated_swap(void);
 struct lent_bytes lend_pool(void);
 void set_found_record(const struct record *found);
 

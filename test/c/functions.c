@@ -44,6 +44,10 @@ static int can_meet(const struct cause *one, const struct cause *other) {
 
 /* ---- which of two causes is given ---- */
 
+static uint32_t bit(uint32_t number) {
+    return (uint32_t)1 << number % 32;
+}
+
 /* Lower wins: the number, then a single argument before an item, then the place. */
 static uint64_t rank(const struct cause *cause) {
     return (uint64_t)cause->number << 40 | (uint64_t)(cause->kind == ITEM) << 36 | cause->place;
@@ -51,8 +55,8 @@ static uint64_t rank(const struct cause *cause) {
 
 /* A record that is none takes every other number away; beside its own, 11, it is a cause like another. */
 static const struct cause *winner(const struct cause *one, const struct cause *other) {
-    if (one->unless == other->number && one->unless != 0) return other;
-    if (other->unless == one->number && other->unless != 0) return one;
+    if (one->unless & bit(other->number)) return other;
+    if (other->unless & bit(one->number)) return one;
     if (one->before_all != other->before_all && one->number != other->number) return one->before_all ? one : other;
     return rank(one) <= rank(other) ? one : other;
 }
@@ -75,10 +79,6 @@ static void describe_tried(void) {
 /* ---- the matrix ---- */
 
 static const struct claim *matrix;
-
-static uint32_t bit(uint32_t number) {
-    return (uint32_t)1 << number % 32;
-}
 
 static uint32_t numbers_in(const char *refusals) {
     uint32_t numbers = 0;

@@ -8,7 +8,7 @@
 
 #include "desk.h"
 
-/* A row of the matrix: CLAIM(draw, ". 2 3 . . . . . . 10 .. .. .. .."). */
+/* A row of the matrix: CLAIM(draw, ". 2 3 . . . . . . 10 .. .. .. .. .."). */
 struct claim {
     const char *function, *refusals;
 };
@@ -32,13 +32,14 @@ struct cause {
     uint32_t number, place;
     enum { SINGLE, ITEM } kind;
     int before_all;              /* a record that is none: 11, and no other number */
-    uint32_t unless;             /* a cause of that number takes this one away */
+    uint32_t unless;             /* causes of these numbers, a bit each, take this one away */
     struct setting settings[3];
 };
 #define TAKEN(...) { 0, 0, SINGLE, 0, 0, { __VA_ARGS__ } }
 #define CAUSE(number, ...) { number, 0, SINGLE, 0, 0, { __VA_ARGS__ } }
 #define CAUSE_AT(place, number, ...) { number, place, ITEM, 0, 0, { __VA_ARGS__ } }
-#define CAUSE_UNLESS(other, number, ...) { number, 0, SINGLE, 0, other, { __VA_ARGS__ } }
+#define CAUSE_UNLESS(other, number, ...) { number, 0, SINGLE, 0, 1u << (other), { __VA_ARGS__ } }
+#define CAUSE_UNLESS_EITHER(one, other, number, ...) { number, 0, SINGLE, 0, 1u << (one) | 1u << (other), { __VA_ARGS__ } }
 #define NO_RECORD(...) { 11, 0, SINGLE, 1, 0, { __VA_ARGS__ } }
 #define NO_RECORD_AT(place, ...) { 11, place, ITEM, 1, 0, { __VA_ARGS__ } }
 #define END_OF_CAUSES { 0, 0, SINGLE, 0, 0, { { NULL, 0, 0, 0, 0, 0 } } }
@@ -75,7 +76,7 @@ struct cause {
     TAKEN(WHOLE(argument, 0)),                                \
     TAKEN(WHOLE(argument, last))
 
-/* The refusal that a record deserves by 1 to 11, with all else at rest; 0 where there is none. */
+/* The refusal that a record deserves by 1 to 11, or by 15, with all else at rest; 0 where there is none. */
 typedef senyolanda_result verdict(const struct record *record);
 
 enum { FAMILIES = 4 };

@@ -6,11 +6,11 @@
 #include <string.h>
 
 static const struct claim matrix[] = {
-    /*                          1 2 3 4 5 6 7 8 9 10 11 12 13 14 */
-    CLAIM(open,                "1 2 . . . . . . . .. 11 .. .. .."),
-    CLAIM(open_with_payment,   "1 2 . . . . . . . .. 11 .. .. .."),
-    CLAIM(draw,                ". 2 3 . . . . . . 10 .. .. .. .."),
-    CLAIM(next_row,            ". 2 . . . . . . . 10 .. .. .. .."),
+    /*                          1 2 3 4 5 6 7 8 9 10 11 12 13 14 15 */
+    CLAIM(open,                "1 2 . . . . . . . .. 11 .. .. .. .."),
+    CLAIM(open_with_payment,   "1 2 . . . . . . . .. 11 .. .. .. .."),
+    CLAIM(draw,                ". 2 3 . . . . . . 10 .. .. .. .. .."),
+    CLAIM(next_row,            ". 2 . . . . . . . 10 .. .. .. .. .."),
     END_OF_MATRIX,
 };
 

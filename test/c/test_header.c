@@ -34,13 +34,13 @@ static void refusals(void) {
     static const enum senyolanda_refusal numbers[] = { SENYOLANDA_ACCEPTED, SENYOLANDA_BAD_AMOUNT, SENYOLANDA_BAD_TERM,
         SENYOLANDA_NO_ROOM, SENYOLANDA_UNEQUAL_LISTS, SENYOLANDA_BAD_KNOT_COUNT, SENYOLANDA_BAD_KNOT, SENYOLANDA_BAD_TIME,
         SENYOLANDA_BAD_FREQUENCY, SENYOLANDA_BAD_NUMBER, SENYOLANDA_PAST_THE_TERM, SENYOLANDA_BAD_RECORD, SENYOLANDA_NO_YIELD,
-        SENYOLANDA_NO_BREAK_EVEN, SENYOLANDA_NO_ROW_DRAWN };
-    for (uint32_t i = 0; i < 15; i++) {
+        SENYOLANDA_NO_BREAK_EVEN, SENYOLANDA_NO_ROW_DRAWN, SENYOLANDA_BAD_DATE };
+    for (uint32_t i = 0; i < 16; i++) {
         CHECK((uint32_t)numbers[i] == i);
-        for (uint32_t j = 0; j <= 15; j++)
+        for (uint32_t j = 0; j <= 16; j++)
             CHECK((strcmp(senyolanda_refusal_text(i), senyolanda_refusal_text(j)) == 0) == (i == j));
     }
-    CHECK(strcmp(senyolanda_refusal_text(15), senyolanda_refusal_text(UINT32_MAX)) == 0);
+    CHECK(strcmp(senyolanda_refusal_text(16), senyolanda_refusal_text(UINT32_MAX)) == 0);
 }
 
 static void numbers(void) {
@@ -318,6 +318,52 @@ static void swap_signs(void) {
     }
 }
 
+/* 31 January is followed by 28 February and then by 31 March: periods are counted from the first date. */
+static void periods_of_months(void) {
+    static const uint32_t wanted[3][SENYOLANDA_DATE_NUMBERS] = { { 2023, 1, 31 }, { 2023, 2, 28 }, { 2023, 3, 31 } };
+    uint32_t date[SENYOLANDA_DATE_NUMBERS];
+    for (uint32_t i = 0; i < 3; i++) {
+        CHECK(senyolanda_months_later(2023, 1, 31, i, date) == 0);
+        CHECK(memcmp(date, wanted[i], sizeof date) == 0);
+    }
+    CHECK(senyolanda_months_later(2199, 12, 31, 1, date) == refusal(SENYOLANDA_BAD_DATE, 0));
+    CHECK(memcmp(date, wanted[2], sizeof date) == 0);
+}
+
+/* From March 1900 on a day's number is the spreadsheets', in which 29 February 1900 has one too. */
+static void spreadsheet_numbers(void) {
+    uint32_t number = 0;
+    CHECK(senyolanda_day_number(1900, 1, 1, &number) == 0 && number == 2);
+    CHECK(senyolanda_day_number(1900, 3, 1, &number) == 0 && number == 61);
+    CHECK(senyolanda_day_number(2023, 1, 31, &number) == 0 && number == 44957);
+    CHECK(senyolanda_day_number(2199, 12, 31, &number) == 0 && number == 109574);
+}
+
+/* The two rules for 30/360: half a year from 31 August is 183 days over 360 without dates, and 179 days over 360 with them. */
+static void two_rules(void) {
+    static const double tenors[] = { 1 }, zeros[] = { 0 };
+    uint8_t undated[SENYOLANDA_SWAP_BYTES], dated[SENYOLANDA_DATED_SWAP_BYTES];
+    double pv = 0;
+    CHECK(senyolanda_write_swap(360, 1, 0.5, 2, SENYOLANDA_THIRTY_360, undated) == 0);
+    CHECK(senyolanda_fixed_leg_pv(undated, sizeof undated, tenors, 1, zeros, 1, &pv) == 0);
+    IS_NEAR(pv, 360 + 183, 1e-9);
+    CHECK(senyolanda_write_dated_swap(360, 1, NAN, 2, 2023, 8, 31, 2024, 2, 29, SENYOLANDA_THIRTY_360, dated) == 0);
+    CHECK(senyolanda_dated_fixed_leg_pv(dated, sizeof dated, tenors, 1, zeros, 1, &pv) == 0);
+    IS_NEAR(pv, 360 + 179, 1e-9);
+}
+
+/* From a 30th to the 31st no day is counted by 30/360: there is nothing to divide by. */
+static void no_counted_day(void) {
+    static const double tenors[] = { 1 }, zeros[] = { 0.03, 0 };
+    uint8_t swap[SENYOLANDA_DATED_SWAP_BYTES];
+    double rate = 0;
+    CHECK(senyolanda_write_dated_swap(360, 1, 0, 2, 2023, 1, 30, 2023, 1, 31, SENYOLANDA_THIRTY_360, swap) == 0);
+    CHECK(senyolanda_dated_par_swap_rate(swap, sizeof swap, tenors, 1, zeros, 1, &rate) == 0);
+    IS(rate, INFINITY);
+    CHECK(senyolanda_dated_par_swap_rate(swap, sizeof swap, tenors, 1, zeros + 1, 1, &rate) == 0);
+    IS(rate, NAN);
+}
+
 int main(int arguments, char **words) {
     open_tests("test_header", matrix, arguments, words);
     version();
@@ -338,5 +384,9 @@ int main(int arguments, char **words) {
     pool_months();
     curve_edges();
     swap_signs();
+    periods_of_months();
+    spreadsheet_numbers();
+    two_rules();
+    no_counted_day();
     return close_checks();
 }

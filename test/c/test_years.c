@@ -11,9 +11,9 @@
 #include <string.h>
 
 static const struct claim matrix[] = {
-    /*                      1 2 3 4 5 6 7 8 9 10 11 12 13 14 */
-    CLAIM(draw_with_years, ". 2 3 . . . . . . 10 .. .. .. .."),
-    CLAIM(look_up_year,    ". 2 3 . . . . . . 10 .. .. .. 14"),
+    /*                      1 2 3 4 5 6 7 8 9 10 11 12 13 14 15 */
+    CLAIM(draw_with_years, ". 2 3 . . . . . . 10 .. .. .. .. .."),
+    CLAIM(look_up_year,    ". 2 3 . . . . . . 10 .. .. .. 14 .."),
     END_OF_MATRIX,
 };
 
