@@ -7,22 +7,35 @@ use Prim.Native.Nat.{ℕ, _≤_, min}
 use lib.ListN.{length}
 use lib.Ieee.{Float}
 use Rattle.numbers.specs.Whole.{largest}
-use Rattle.refusals.specs.Outcome.{refused, line, Lowest, ExactlyWhen, above}
+use lib.Dec.{T}
+use Rattle.refusals.specs.Outcome.{refused, line, Lowest, ExactlyWhen, above, rising}
 use Rattle.refusals.specs.Table.{badCode}
 use Rattle.refusals.proofs.Judging.{exactly}
+use Rattle.refusals.proofs.Verdicts.{verdict}
 use Rattle.curves.specs.Curve.{askedLines}
 use Rattle.curves.specs.Lists.{eachLines, eachOutcome}
 use Rattle.curves.proofs.Exactly as of-a-curve
-use Rattle.swaps.specs.declared.Swap.{Swap}
+use Rattle.dates.specs.declared.Date.{Date}
+use Rattle.dates.specs.Answers.{datesLine}
+use Rattle.swaps.specs.declared.DatedSwap.{DatedSwap}
+use Rattle.swaps.specs.declared.AnySwap.{AnySwap}
+use Rattle.swaps.specs.declared.AnySwap.the-variants.{Undated, Dated}
+use Rattle.swaps.specs.declared.day_counts.DayCount.{DayCount}
+use Rattle.swaps.specs.DayCounts.{datedFractionOf}
 use Rattle.swaps.specs.Codes.{lastCode, dayCountOf}
 use Rattle.swaps.specs.Discount.{rateAt, discountFactor}
 use Rattle.swaps.specs.Bootstrap.{parLines, fromParRates}
-use Rattle.swaps.specs.Swap.{swapLines}
+use Rattle.swaps.specs.DatedSwap.{uncodedDatedLines}
+use Rattle.swaps.specs.Periods.{linesOf}
 use Rattle.swaps.specs.Valuation.{fixedLegPv, floatingLegPv, swapNpv, parSwapRate, swapDv01, swapDuration, valueSwap}
 
 pub code-refused-exactly : (code : ℕ) → ExactlyWhen (line 11 (badCode lastCode code) ∷ []) (dayCountOf code)
 unfolding dayCountOf above
 code-refused-exactly code = exactly _ (line 11 (badCode lastCode code) ∷ []) tt
+
+pub fraction-refused-exactly : (d : DayCount) (first second : Date) → ExactlyWhen (datesLine first second ∷ []) (datedFractionOf d first second)
+unfolding datedFractionOf above
+fraction-refused-exactly d first second = exactly _ (datesLine first second ∷ []) tt
 
 module _ (tenors zeros : List Float) where
   pub rate-refused-exactly : (t : Float) → ExactlyWhen (askedLines tenors zeros t) (rateAt tenors zeros t)
@@ -46,32 +59,46 @@ pub bootstrap-refused-exactly : (tenors pars : List Float) → ExactlyWhen (parL
 unfolding fromParRates above
 bootstrap-refused-exactly tenors pars = exactly _ (parLines tenors pars) tt
 
-module _ (s : Swap) (tenors zeros : List Float) where
-  pub fixed-leg-refused-exactly : ExactlyWhen (swapLines s tenors zeros) (fixedLegPv s tenors zeros)
-  unfolding fixedLegPv above
-  fixed-leg-refused-exactly = exactly _ (swapLines s tenors zeros) tt
+-- ---- the lines of a swap of either kind
+in-order : (s : AnySwap) (tenors zeros : List Float) → T (rising (linesOf s tenors zeros))
+unfolding above
+in-order (Undated s) tenors zeros = tt
+in-order (Dated s) tenors zeros = tt
 
-  pub floating-leg-refused-exactly : ExactlyWhen (swapLines s tenors zeros) (floatingLegPv s tenors zeros)
-  unfolding floatingLegPv above
-  floating-leg-refused-exactly = exactly _ (swapLines s tenors zeros) tt
+-- the verdict on one, and on a dated one before its dates are asked about
+pub swap-judged-exactly : (s : AnySwap) (tenors zeros : List Float) → ExactlyWhen (linesOf s tenors zeros) (verdict (linesOf s tenors zeros))
+swap-judged-exactly s tenors zeros = exactly tt (linesOf s tenors zeros) (in-order s tenors zeros)
 
-  pub par-rate-refused-exactly : ExactlyWhen (swapLines s tenors zeros) (parSwapRate s tenors zeros)
-  unfolding parSwapRate above
-  par-rate-refused-exactly = exactly _ (swapLines s tenors zeros) tt
+pub but-dates-judged-exactly : (s : DatedSwap) (tenors zeros : List Float) → ExactlyWhen (uncodedDatedLines s tenors zeros) (verdict (uncodedDatedLines s tenors zeros))
+unfolding above
+but-dates-judged-exactly s tenors zeros = exactly tt (uncodedDatedLines s tenors zeros) tt
 
-  pub duration-refused-exactly : ExactlyWhen (swapLines s tenors zeros) (swapDuration s tenors zeros)
-  unfolding swapDuration above
-  duration-refused-exactly = exactly _ (swapLines s tenors zeros) tt
+module _ (s : AnySwap) (tenors zeros : List Float) where
+  pub fixed-leg-refused-exactly : ExactlyWhen (linesOf s tenors zeros) (fixedLegPv s tenors zeros)
+  unfolding fixedLegPv
+  fixed-leg-refused-exactly = exactly _ (linesOf s tenors zeros) (in-order s tenors zeros)
+
+  pub floating-leg-refused-exactly : ExactlyWhen (linesOf s tenors zeros) (floatingLegPv s tenors zeros)
+  unfolding floatingLegPv
+  floating-leg-refused-exactly = exactly _ (linesOf s tenors zeros) (in-order s tenors zeros)
+
+  pub par-rate-refused-exactly : ExactlyWhen (linesOf s tenors zeros) (parSwapRate s tenors zeros)
+  unfolding parSwapRate
+  par-rate-refused-exactly = exactly _ (linesOf s tenors zeros) (in-order s tenors zeros)
+
+  pub duration-refused-exactly : ExactlyWhen (linesOf s tenors zeros) (swapDuration s tenors zeros)
+  unfolding swapDuration
+  duration-refused-exactly = exactly _ (linesOf s tenors zeros) (in-order s tenors zeros)
 
   module _ (receivesFixed : Bool) where
-    pub npv-refused-exactly : ExactlyWhen (swapLines s tenors zeros) (swapNpv s tenors zeros receivesFixed)
-    unfolding swapNpv above
-    npv-refused-exactly = exactly _ (swapLines s tenors zeros) tt
+    pub npv-refused-exactly : ExactlyWhen (linesOf s tenors zeros) (swapNpv s tenors zeros receivesFixed)
+    unfolding swapNpv
+    npv-refused-exactly = exactly _ (linesOf s tenors zeros) (in-order s tenors zeros)
 
-    pub dv01-refused-exactly : ExactlyWhen (swapLines s tenors zeros) (swapDv01 s tenors zeros receivesFixed)
-    unfolding swapDv01 above
-    dv01-refused-exactly = exactly _ (swapLines s tenors zeros) tt
+    pub dv01-refused-exactly : ExactlyWhen (linesOf s tenors zeros) (swapDv01 s tenors zeros receivesFixed)
+    unfolding swapDv01
+    dv01-refused-exactly = exactly _ (linesOf s tenors zeros) (in-order s tenors zeros)
 
-    pub value-refused-exactly : ExactlyWhen (swapLines s tenors zeros) (valueSwap s tenors zeros receivesFixed)
-    unfolding valueSwap above
-    value-refused-exactly = exactly _ (swapLines s tenors zeros) tt
+    pub value-refused-exactly : ExactlyWhen (linesOf s tenors zeros) (valueSwap s tenors zeros receivesFixed)
+    unfolding valueSwap
+    value-refused-exactly = exactly _ (linesOf s tenors zeros) (in-order s tenors zeros)

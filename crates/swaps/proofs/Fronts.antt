@@ -21,6 +21,9 @@ module _ {A : Type 0} (room : List A) (n : ℕ) (within : n ≤ length room) whe
     pub still-within : n ≤ length (part ++ drop n room)
     still-within = rw (length-front room part n same) within
 
+    pub still-long : (m : ℕ) → length room ≡ m → m ≡ length (part ++ drop n room)
+    still-long m e = sym (length-front room part n same ∙ e)
+
     pub is-part : take n (part ++ drop n room) ≡ part
     is-part = take-at part (drop n room) n (same ∙ sym counted)
 

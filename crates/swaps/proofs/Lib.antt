@@ -2,6 +2,10 @@ pub mod DiscountKind
 pub mod Eights
 pub mod Thirds
 pub mod TriedCoupons
+pub mod DatedSpans
+pub mod DaysBy
+pub mod PeriodLists
+pub mod PeriodsWritten
 pub mod PaymentSums
 pub mod Writing
 pub mod Values
@@ -14,5 +18,7 @@ pub mod SolvedKnots
 pub mod CodeTrips
 pub mod Exactly
 pub mod Tight
+pub mod Undated
+pub mod NoDays
 pub mod Outside
 pub mod AtKnots

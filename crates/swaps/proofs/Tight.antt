@@ -15,8 +15,14 @@ use Rattle.swaps.specs.Codes.{dayCountOutcome}
 use Rattle.swaps.specs.Valuation.{valuationOutcome}
 use Rattle.swaps.proofs.judging.judge_swap.Kinds as judge-swap-kinds
 use Rattle.swaps.proofs.judging.judge_swap.Reads as judge-swap
+use Rattle.swaps.proofs.judging.judge_but_dates.Kinds as judge-but-dates-kinds
+use Rattle.swaps.proofs.judging.judge_but_dates.Reads as judge-but-dates
+use Rattle.swaps.proofs.judging.judge_any.Kinds as judge-any-kinds
+use Rattle.swaps.proofs.judging.judge_any.Reads as judge-any
 use Rattle.swaps.proofs.day_counts.day_count_fraction.Kinds as day-count-fraction-kinds
 use Rattle.swaps.proofs.day_counts.day_count_fraction.Reads as day-count-fraction
+use Rattle.swaps.proofs.day_counts.dated_fraction.Kinds as dated-fraction-kinds
+use Rattle.swaps.proofs.day_counts.dated_fraction.Reads as dated-fraction
 use Rattle.swaps.proofs.day_counts.day_count_of.Kinds as day-count-of-kinds
 use Rattle.swaps.proofs.day_counts.day_count_of.Reads as day-count-of
 use Rattle.swaps.proofs.day_counts.code_of.Kinds as code-of-kinds
@@ -66,6 +72,9 @@ bootstrap-told x y v c =
 pub day-count-fraction-determined : Determined 0 day-count-fraction-kinds.ps day-count-fraction-kinds.r day-count-fraction.Post
 day-count-fraction-determined κs a x y e e′ p q = p ∙ sym q
 
+pub dated-fraction-determined : Determined 0 dated-fraction-kinds.ps dated-fraction-kinds.r dated-fraction.Post
+dated-fraction-determined κs a x y e e′ p q = number-one-to-one x y (p ∙ sym q)
+
 pub day-count-of-determined : Determined 0 day-count-of-kinds.ps day-count-of-kinds.r day-count-of.Post
 day-count-of-determined κs a x y e e′ p q = day-count-told x y (p ∙ sym q)
 
@@ -104,6 +113,12 @@ value-swap-determined κs a x y e e′ p q = valuation-told x y (p ∙ sym q)
 
 pub judge-swap-determined : Determined 2 judge-swap-kinds.ps judge-swap-kinds.r judge-swap.Post
 judge-swap-determined κs a x y e e′ p q = verdict-one-to-one x y (p ∙ sym q)
+
+pub judge-but-dates-determined : Determined 2 judge-but-dates-kinds.ps judge-but-dates-kinds.r judge-but-dates.Post
+judge-but-dates-determined κs a x y e e′ p q = verdict-one-to-one x y (p ∙ sym q)
+
+pub judge-any-determined : Determined 2 judge-any-kinds.ps judge-any-kinds.r judge-any.Post
+judge-any-determined κs a x y e e′ p q = verdict-one-to-one x y (p ∙ sym q)
 
 -- ---- lists of lookups: one verdict, and one list after the call
 pub rate-at-each-determined : Determined 3 rate-at-each-kinds.ps rate-at-each-kinds.r rate-at-each.Post

@@ -15,6 +15,7 @@ ghost use Rattle.swaps.specs.inner.Runs.{HasPeriods, Listed, FactorsOf, 
 use crate::AnySwap;
 use crate::discount::discount_of;
 use crate::judging::judge_any;
+use crate::rooms::empty_run;
 use crate::runs::put_periods;
 use crate::terms::end;
 use crate::terms::fixed_rate;
@@ -121,8 +122,8 @@ fn add_run(
     requires { ⌜ (count ≤ 64) × Rising (now tenors) × HasPeriods swap × (first + count ≤ termsOf swap .periods .count) × (termsOf swap .periods .count < 4294967296) × SummedOnBoth (termsOf swap) (now tenors) (now zeros) (now higher) both first sums ⌝ }
     ensures { λ r. ⌜ SummedOnBoth (termsOf swap) (now (tenors .entry)) (now (zeros .entry)) (now (higher .entry)) both (first + count) r ⌝ }
 {
-    let mut times = [0.0; 64];
-    let mut fractions = [0.0; 64];
+    let mut times = empty_run();
+    let mut fractions = empty_run();
     put_periods(swap, first, &mut times[..count], &mut fractions[..count]);
     let before = sums.base;
     let base = add_on(swap, tenors, zeros, times, &fractions, before, count);

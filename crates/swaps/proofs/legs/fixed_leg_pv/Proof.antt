@@ -3,13 +3,13 @@ use mathlib.Core.Path.{ap, _∙_}
 use Rattle.refusals.specs.Outcome.{accepted}
 use Rattle.refusals.proofs.Verdicts.{refused-by, accepted-by}
 use Rattle.swaps.specs.Valuation.{fixedLegPv}
-use Rattle.swaps.proofs.Values.{swap-rises}
+use Rattle.swaps.proofs.Values.{swap-rises, has-periods}
 use borrow.Author.Needs.{needs}
 use Rattle.swaps.proofs.legs.fixed_leg_pv.Statement.{statement}
 use Rattle.swaps.proofs.legs.fixed_leg_pv.Tie as tie
 
-judge-swap-requires : tie.Need-judge-swap-requires
-judge-swap-requires c κs = search needs
+judge-any-requires : tie.Need-judge-any-requires
+judge-any-requires c κs = search needs
 
 enum-known-refusal : tie.Need-enum-known-refusal
 enum-known-refusal c = search needs
@@ -21,20 +21,23 @@ legs-of-requires : tie.Need-legs-of-requires
 legs-of-requires c κs =
     let judge = c .before .before in
     let a = judge .before .before .before .args in
-    swap-rises (a .swap) (a .tenors .now) (a .zeros .now) _ (judge .judge-swap .ensures) (c .enum-told .given .1)
+    let tenors = a .tenors .now in
+    let zeros = a .zeros .now in
+    let is = c .enum-told .given .1 in
+    (swap-rises tenors zeros (a .swap) _ (judge .judge-any .ensures) is, has-periods tenors zeros (a .swap) _ (judge .judge-any .ensures) is)
 
 returns : tie.Need-returns
 unfolding fixedLegPv
-returns c = refused-by _ _ _ _ (c .before .refusal .given .1) (c .before .before .before .judge-swap .ensures)
+returns c = refused-by _ _ _ _ (c .before .refusal .given .1) (c .before .before .before .judge-any .ensures)
 
 returns-2 : tie.Need-returns-2
 unfolding fixedLegPv
 returns-2 c =
     let told = c .before in
-    ap accepted (c .legs-of .ensures .0)
-    ∙ accepted-by _ _ _ (told .enum-told .given .1) (told .before .before .judge-swap .ensures)
+    ap accepted (c .legs-of .ensures .fixed-is)
+    ∙ accepted-by _ _ _ (told .enum-told .given .1) (told .before .before .judge-any .ensures)
 
 pub fixed-leg-pv-spec : {M : Type 1} → statement M
 fixed-leg-pv-spec =
     tie.close
-    (tie.spec judge-swap-requires enum-known-refusal enum-told legs-of-requires returns returns-2)
+    (tie.spec judge-any-requires enum-known-refusal enum-told legs-of-requires returns returns-2)

@@ -6,6 +6,9 @@ use Rattle.swaps.proofs.valuation.duration_of.Tie as tie
 returns : tie.Need-returns
 returns c = rw (c .if1 .taken)
 
+end-requires : tie.Need-end-requires
+end-requires c κs = search needs
+
 zero-rate-of-requires : tie.Need-zero-rate-of-requires
 zero-rate-of-requires c κs = search needs
 
@@ -13,7 +16,7 @@ per-year-requires : tie.Need-per-year-requires
 per-year-requires c κs = search needs
 
 returns-2 : tie.Need-returns-2
-returns-2 c = rw (c .per-year .ensures, c .before .zero-rate-of .ensures, c .before .before .before .if1 .left)
+returns-2 c = rw (c .per-year .ensures, c .before .zero-rate-of .ensures, c .before .before .end .ensures, c .before .before .before .before .if1 .left)
 
 pub duration-of-spec : {M : Type 1} → statement M
-duration-of-spec = tie.close (tie.spec returns zero-rate-of-requires per-year-requires returns-2)
+duration-of-spec = tie.close (tie.spec returns end-requires zero-rate-of-requires per-year-requires returns-2)

@@ -1,13 +1,13 @@
 -- `swaps::valuation::valuation_of` meets its contract. Assumes nothing.
 use mathlib.Core.Path.{_∙_}
-use Rattle.swaps.specs.Valuation.{valuation}
-use Rattle.swaps.proofs.Values.{net-is, par-is, duration-is, point-is}
+use Rattle.swaps.proofs.Values.{net-is, par-is, duration-is, valuation-is}
+use Rattle.swaps.specs.Periods.{termsOf}
 use borrow.Author.Needs.{needs}
 use Rattle.swaps.proofs.valuation.valuation_of.Statement.{statement}
 use Rattle.swaps.proofs.valuation.valuation_of.Tie as tie
 
-legs-of-requires : tie.Need-legs-of-requires
-legs-of-requires c κs = search needs
+legs-with-bump-requires : tie.Need-legs-with-bump-requires
+legs-with-bump-requires c κs = search needs
 
 net-requires : tie.Need-net-requires
 net-requires c κs = search needs
@@ -15,37 +15,26 @@ net-requires c κs = search needs
 par-of-requires : tie.Need-par-of-requires
 par-of-requires c κs = search needs
 
-bumped-net-requires : tie.Need-bumped-net-requires
-bumped-net-requires c κs = search needs
+net-requires-2 : tie.Need-net-requires-2
+net-requires-2 c κs = search needs
 
 duration-of-requires : tie.Need-duration-of-requires
 duration-of-requires c κs = search needs
 
 returns : tie.Need-returns
-unfolding valuation
 returns c =
-    let bumped = c .before in
-    let worth = bumped .before .before in
-    let legs = worth .before .legs-of .ensures in
-    let a = worth .before .before .before .before .args in
-    let s = a .swap in
-    let npv = worth .net .ensures ∙ net-is s (a .tenors .now) (a .zeros .now) (a .receives-fixed) (legs .0) (legs .1) in
-    rw (
-      c .duration-of .ensures ∙ duration-is s (a .tenors .now) (a .zeros .now) (legs .0) (legs .3),
-      point-is s (a .tenors .now) (a .zeros .now) (a .receives-fixed) (bumped .bumped-net .ensures) npv,
-      bumped .before .par-of .ensures ∙ par-is s (a .tenors .now) (a .zeros .now) (legs .4) (legs .2),
-      npv,
-      legs .0,
-      legs .1,
-    )
+    let higher = c .before in
+    let par = higher .before in
+    let worth = par .before in
+    let both = worth .before .before .before in
+    let a = both .before .before .before .args in
+    let t = termsOf (a .swap) in
+    let tenors = a .tenors .now in
+    let zeros = a .zeros .now in
+    let base = both .legs-with-bump .ensures .0 in
+    valuation-is t tenors zeros (a .receives-fixed) (worth .net .ensures ∙ net-is t tenors zeros _ base (a .receives-fixed))
+    (higher .net2 .ensures ∙ net-is t tenors _ _ (both .legs-with-bump .ensures .1) (a .receives-fixed)) (base .fixed-is) (base .floating-is) (par .par-of .ensures ∙ par-is t tenors zeros _ base)
+    (c .duration-of .ensures ∙ duration-is t tenors zeros _ base)
 
 pub valuation-of-spec : {M : Type 1} → statement M
-valuation-of-spec =
-    tie.close
-    (tie.spec
-    legs-of-requires
-    net-requires
-    par-of-requires
-    bumped-net-requires
-    duration-of-requires
-    returns)
+valuation-of-spec = tie.close (tie.spec legs-with-bump-requires net-requires par-of-requires net-requires-2 duration-of-requires returns)

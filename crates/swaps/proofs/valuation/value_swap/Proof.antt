@@ -3,13 +3,13 @@ use mathlib.Core.Path.{ap, _∙_}
 use Rattle.refusals.specs.Outcome.{accepted}
 use Rattle.refusals.proofs.Verdicts.{refused-by, accepted-by}
 use Rattle.swaps.specs.Valuation.{valueSwap}
-use Rattle.swaps.proofs.Values.{few-knots, swap-rises}
+use Rattle.swaps.proofs.Values.{swap-rises, few-knots, has-periods}
 use borrow.Author.Needs.{needs}
 use Rattle.swaps.proofs.valuation.value_swap.Statement.{statement}
 use Rattle.swaps.proofs.valuation.value_swap.Tie as tie
 
-judge-swap-requires : tie.Need-judge-swap-requires
-judge-swap-requires c κs = search needs
+judge-any-requires : tie.Need-judge-any-requires
+judge-any-requires c κs = search needs
 
 enum-known-refusal : tie.Need-enum-known-refusal
 enum-known-refusal c = search needs
@@ -21,27 +21,27 @@ valuation-of-requires : tie.Need-valuation-of-requires
 valuation-of-requires c κs =
     let judge = c .before .before in
     let a = judge .before .before .before .args in
-    let is = c .enum-told .given .1 in (
-      few-knots (a .swap) (a .tenors .now) (a .zeros .now) _ (judge .judge-swap .ensures) is,
-      swap-rises (a .swap) (a .tenors .now) (a .zeros .now) _ (judge .judge-swap .ensures) is,
-    )
+    let tenors = a .tenors .now in
+    let zeros = a .zeros .now in
+    let is = c .enum-told .given .1 in
+    (few-knots tenors zeros (a .swap) _ (judge .judge-any .ensures) is, swap-rises tenors zeros (a .swap) _ (judge .judge-any .ensures) is, has-periods tenors zeros (a .swap) _ (judge .judge-any .ensures) is)
 
 returns : tie.Need-returns
 unfolding valueSwap
-returns c = refused-by _ _ _ _ (c .before .refusal .given .1) (c .before .before .before .judge-swap .ensures)
+returns c = refused-by _ _ _ _ (c .before .refusal .given .1) (c .before .before .before .judge-any .ensures)
 
 returns-2 : tie.Need-returns-2
 unfolding valueSwap
 returns-2 c =
     let told = c .before in
     ap accepted (c .valuation-of .ensures)
-    ∙ accepted-by _ _ _ (told .enum-told .given .1) (told .before .before .judge-swap .ensures)
+    ∙ accepted-by _ _ _ (told .enum-told .given .1) (told .before .before .judge-any .ensures)
 
 pub value-swap-spec : {M : Type 1} → statement M
 value-swap-spec =
     tie.close
     (tie.spec
-    judge-swap-requires
+    judge-any-requires
     enum-known-refusal
     enum-told
     valuation-of-requires
