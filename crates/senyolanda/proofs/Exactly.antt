@@ -16,7 +16,8 @@ use Rattle.refusals.proofs.Verdicts.{accepted-value}
 use Rattle.records.specs.declared.Terms.{Terms}
 use Rattle.records.specs.declared.BondRecord.{BondRecord}
 use Rattle.records.specs.declared.SwapRecord.{SwapRecord}
-use Rattle.records.specs.Kinds.{termsKind, termsSize, termsIn, readTerms, bondKind, bondSize, bondIn, readBondUncoded, swapKind, swapSize, swapIn, readSwapUncoded}
+use Rattle.records.specs.declared.DatedSwapRecord.{DatedSwapRecord}
+use Rattle.records.specs.Kinds.{termsKind, termsSize, termsIn, readTerms, bondKind, bondSize, bondIn, readBondUncoded, swapKind, swapSize, swapIn, readSwapUncoded, datedSwapKind, datedSwapSize, datedSwapIn, readDatedSwapUncoded}
 use Rattle.mortgage.specs.declared.Loan.{Loan}
 use Rattle.mortgage.specs.Terms.{termsLines}
 use Rattle.mortgage.specs.Payment.{monthlyPayment, opened, openedWith}
@@ -33,16 +34,23 @@ use Rattle.bond.specs.Yield.{yieldToMaturity}
 use Rattle.bond.specs.Durations.{macaulayDuration, modifiedDuration, convexity, priceChange, macaulayAtPrice, modifiedAtPrice, convexityAtPrice}
 use Rattle.bond.proofs.Exactly as bonds
 use Rattle.bond.proofs.Exactly.{yieldLines, at-price-exactly}
-use Rattle.swaps.specs.declared.Swap.{Swap}
-use Rattle.swaps.specs.Codes.{lastCode as lastDayCount}
+use Rattle.dates.specs.declared.Date.{Date}
+use Rattle.dates.specs.Answers.{datesLine}
+use Rattle.swaps.specs.declared.AnySwap.{AnySwap}
+use Rattle.swaps.specs.declared.AnySwap.the-variants.{Undated, Dated}
+use Rattle.swaps.specs.Codes.{lastCode as lastDayCount, dayCountAt, dayCountOf}
+use Rattle.swaps.specs.DayCounts.{datedFraction, datedFractionOf}
 use Rattle.swaps.specs.Swap.{swapLines}
+use Rattle.swaps.specs.DatedSwap.{uncodedDatedLines}
+use Rattle.swaps.specs.Periods.{linesOf}
 use Rattle.swaps.specs.Valuation.{fixedLegPv, floatingLegPv, swapNpv, parSwapRate, swapDv01, swapDuration, valueSwap}
 use Rattle.swaps.proofs.Exactly as swaps
 use Rattle.senyolanda.specs.Told.{coded}
 use Rattle.senyolanda.specs.Loans.{at, breakevenOf}
 use Rattle.senyolanda.specs.Bonds.{bondOf, uncodedLines, bondRead, ofBond}
-use Rattle.senyolanda.specs.Swaps.{swapOf, swapRead, ofSwap}
-use Rattle.senyolanda.specs.RecordLines.{afterRecord, afterCode, loanRecordLines, breakEvenRecordLines, bondRecordLines, swapRecordLines}
+use Rattle.senyolanda.specs.Dates.{datedFractionBy, writtenLines}
+use Rattle.senyolanda.specs.Swaps.{swapOf, swapRead, ofSwap, datedSwapOf, datedSwapRead, ofDatedSwap}
+use Rattle.senyolanda.specs.RecordLines.{afterRecord, afterCode, loanRecordLines, breakEvenRecordLines, bondRecordLines, swapRecordLines, datedSwapRecordLines}
 use Rattle.senyolanda.proofs.CodeWaits.{waits}
 
 -- ---- what is refused before it is asked, is refused alike
@@ -83,6 +91,16 @@ code-next false others v asked lines up ex = ex
 in-two : {A B C : Type 0} (x : Outcome A) (f : A → Outcome B) (g : B → Outcome C) → andThen (andThen x f) g ≡ andThen x (λ (v : A). andThen (f v) g)
 in-two (refused k p) f g = refl
 in-two (accepted v) f g = refl
+
+-- ---- a record that is read first, with a code in it
+module _ {R A B : Type 0} (bad : Bool) (held : R) (badCoded : R → Bool) (others : R → List Line) (made : R → A) (asked : A → Outcome B) (lines : List Line) where
+  record-and-code : T (rising (others held ++ line 11 true ∷ [])) → ExactlyWhen lines (asked (made held))
+      → ExactlyWhen (afterRecord bad (afterCode (badCoded held) (others held) lines))
+      (andThen (andThen (judged (line 11 bad ∷ []) held) (λ (r : R). coded (badCoded r) (judged (others r) tt) (made r))) asked)
+  record-and-code up ex =
+      rw (in-two (judged (line 11 bad ∷ []) held) (λ (r : R). coded (badCoded r) (judged (others r) tt) (made r)) asked)
+      (record-first bad held (λ (r : R). andThen (coded (badCoded r) (judged (others r) tt) (made r)) asked) (afterCode (badCoded held) (others held) lines)
+      (code-next (badCoded held) (others held) (made held) asked lines up ex))
 
 -- ---- loans
 module _ {B : Type 0} (bytes : List ℕ) (asked : Terms → Outcome B) (ex : (t : Terms) → ExactlyWhen (termsLines t) (asked t)) where
@@ -143,11 +161,7 @@ module _ (bytes : List ℕ) (beside : Float) where
   of-bond : (asked : Bond → Outcome Float) (lines : List Line) → ExactlyWhen lines (asked held) → ExactlyWhen (bondRecordLines bytes beside lines) (ofBond bytes beside asked)
   unfolding bondRead readBondUncoded above
   of-bond asked lines ex =
-      rw (in-two (readBondUncoded bytes) (λ (b : BondRecord). coded (badCode lastFrequency (b .frequency)) (judged (uncodedLines b beside) tt) (bondOf b)) asked)
-      (record-first (badRecord bondKind bondSize bytes) (bondIn bytes)
-      (λ (b : BondRecord). andThen (coded (badCode lastFrequency (b .frequency)) (judged (uncodedLines b beside) tt) (bondOf b)) asked)
-      (afterCode (badCode lastFrequency (bondIn bytes .frequency)) (uncodedLines (bondIn bytes) beside) lines)
-      (code-next (badCode lastFrequency (bondIn bytes .frequency)) (uncodedLines (bondIn bytes) beside) held asked lines tt ex))
+      record-and-code (badRecord bondKind bondSize bytes) (bondIn bytes) (λ (b : BondRecord). badCode lastFrequency (b .frequency)) (λ (b : BondRecord). uncodedLines b beside) bondOf asked lines tt ex
 
   -- with a yield beside it
   pub price-refused-exactly : ExactlyWhen (bondRecordLines bytes beside (bondLines held beside)) (ofBond bytes beside (price beside))
@@ -223,38 +237,82 @@ module _ (bytes : List ℕ) (beside : Float) where
   unfolding convexityAtPrice
   convexity-at-price-refused-exactly = at-its-yield convexity (λ ytm. bonds.convexity-refused-exactly ytm held)
 
--- ---- swaps
+-- ---- swaps, undated and dated
 module _ (bytes : List ℕ) (tenors zeros : List Float) where
-  abbrev swapHeld : Swap
-  swapHeld = swapOf (swapIn bytes)
+  abbrev swapHeld : AnySwap
+  swapHeld = Undated (swapOf (swapIn bytes))
 
-  of-swap : {B : Type 0} (asked : Swap → Outcome B) → ExactlyWhen (swapLines swapHeld tenors zeros) (asked swapHeld) → ExactlyWhen (swapRecordLines bytes tenors zeros) (ofSwap bytes tenors zeros asked)
+  of-swap : {B : Type 0} (asked : AnySwap → Outcome B) → ExactlyWhen (linesOf swapHeld tenors zeros) (asked swapHeld) → ExactlyWhen (swapRecordLines bytes tenors zeros) (ofSwap bytes tenors zeros asked)
   unfolding swapRead readSwapUncoded above
   of-swap asked ex =
-      rw (in-two (readSwapUncoded bytes) (λ (s : SwapRecord). coded (badCode lastDayCount (s .count)) (judged (swapLines (swapOf s) tenors zeros) tt) (swapOf s)) asked)
-      (record-first (badRecord swapKind swapSize bytes) (swapIn bytes)
-      (λ (s : SwapRecord). andThen (coded (badCode lastDayCount (s .count)) (judged (swapLines (swapOf s) tenors zeros) tt) (swapOf s)) asked)
-      (afterCode (badCode lastDayCount (swapIn bytes .count)) (swapLines swapHeld tenors zeros) (swapLines swapHeld tenors zeros))
-      (code-next (badCode lastDayCount (swapIn bytes .count)) (swapLines swapHeld tenors zeros) swapHeld asked (swapLines swapHeld tenors zeros) tt ex))
+      record-and-code (badRecord swapKind swapSize bytes) (swapIn bytes) (λ (s : SwapRecord). badCode lastDayCount (s .count)) (λ (s : SwapRecord). swapLines (swapOf s) tenors zeros)
+      (λ (s : SwapRecord). Undated (swapOf s)) asked (linesOf swapHeld tenors zeros) tt ex
 
-  pub fixed-leg-refused-exactly : ExactlyWhen (swapRecordLines bytes tenors zeros) (ofSwap bytes tenors zeros (λ (s : Swap). fixedLegPv s tenors zeros))
+  abbrev datedHeld : AnySwap
+  datedHeld = Dated (datedSwapOf (datedSwapIn bytes))
+
+  of-dated-swap : {B : Type 0} (asked : AnySwap → Outcome B) → ExactlyWhen (linesOf datedHeld tenors zeros) (asked datedHeld)
+      → ExactlyWhen (datedSwapRecordLines bytes tenors zeros) (ofDatedSwap bytes tenors zeros asked)
+  unfolding datedSwapRead readDatedSwapUncoded above
+  of-dated-swap asked ex =
+      record-and-code (badRecord datedSwapKind datedSwapSize bytes) (datedSwapIn bytes) (λ (s : DatedSwapRecord). badCode lastDayCount (s .count))
+      (λ (s : DatedSwapRecord). uncodedDatedLines (datedSwapOf s) tenors zeros) (λ (s : DatedSwapRecord). Dated (datedSwapOf s)) asked (linesOf datedHeld tenors zeros) tt ex
+
+  pub fixed-leg-refused-exactly : ExactlyWhen (swapRecordLines bytes tenors zeros) (ofSwap bytes tenors zeros (λ (s : AnySwap). fixedLegPv s tenors zeros))
   fixed-leg-refused-exactly = of-swap _ (swaps.fixed-leg-refused-exactly swapHeld tenors zeros)
 
-  pub floating-leg-refused-exactly : ExactlyWhen (swapRecordLines bytes tenors zeros) (ofSwap bytes tenors zeros (λ (s : Swap). floatingLegPv s tenors zeros))
+  pub dated-fixed-leg-refused-exactly : ExactlyWhen (datedSwapRecordLines bytes tenors zeros) (ofDatedSwap bytes tenors zeros (λ (s : AnySwap). fixedLegPv s tenors zeros))
+  dated-fixed-leg-refused-exactly = of-dated-swap _ (swaps.fixed-leg-refused-exactly datedHeld tenors zeros)
+
+  pub floating-leg-refused-exactly : ExactlyWhen (swapRecordLines bytes tenors zeros) (ofSwap bytes tenors zeros (λ (s : AnySwap). floatingLegPv s tenors zeros))
   floating-leg-refused-exactly = of-swap _ (swaps.floating-leg-refused-exactly swapHeld tenors zeros)
 
-  pub par-rate-refused-exactly : ExactlyWhen (swapRecordLines bytes tenors zeros) (ofSwap bytes tenors zeros (λ (s : Swap). parSwapRate s tenors zeros))
+  pub dated-floating-leg-refused-exactly : ExactlyWhen (datedSwapRecordLines bytes tenors zeros) (ofDatedSwap bytes tenors zeros (λ (s : AnySwap). floatingLegPv s tenors zeros))
+  dated-floating-leg-refused-exactly = of-dated-swap _ (swaps.floating-leg-refused-exactly datedHeld tenors zeros)
+
+  pub par-rate-refused-exactly : ExactlyWhen (swapRecordLines bytes tenors zeros) (ofSwap bytes tenors zeros (λ (s : AnySwap). parSwapRate s tenors zeros))
   par-rate-refused-exactly = of-swap _ (swaps.par-rate-refused-exactly swapHeld tenors zeros)
 
-  pub duration-refused-exactly : ExactlyWhen (swapRecordLines bytes tenors zeros) (ofSwap bytes tenors zeros (λ (s : Swap). swapDuration s tenors zeros))
+  pub dated-par-rate-refused-exactly : ExactlyWhen (datedSwapRecordLines bytes tenors zeros) (ofDatedSwap bytes tenors zeros (λ (s : AnySwap). parSwapRate s tenors zeros))
+  dated-par-rate-refused-exactly = of-dated-swap _ (swaps.par-rate-refused-exactly datedHeld tenors zeros)
+
+  pub duration-refused-exactly : ExactlyWhen (swapRecordLines bytes tenors zeros) (ofSwap bytes tenors zeros (λ (s : AnySwap). swapDuration s tenors zeros))
   duration-refused-exactly = of-swap _ (swaps.duration-refused-exactly swapHeld tenors zeros)
 
+  pub dated-duration-refused-exactly : ExactlyWhen (datedSwapRecordLines bytes tenors zeros) (ofDatedSwap bytes tenors zeros (λ (s : AnySwap). swapDuration s tenors zeros))
+  dated-duration-refused-exactly = of-dated-swap _ (swaps.duration-refused-exactly datedHeld tenors zeros)
+
   module _ (receivesFixed : Bool) where
-    pub npv-refused-exactly : ExactlyWhen (swapRecordLines bytes tenors zeros) (ofSwap bytes tenors zeros (λ (s : Swap). swapNpv s tenors zeros receivesFixed))
+    pub npv-refused-exactly : ExactlyWhen (swapRecordLines bytes tenors zeros) (ofSwap bytes tenors zeros (λ (s : AnySwap). swapNpv s tenors zeros receivesFixed))
     npv-refused-exactly = of-swap _ (swaps.npv-refused-exactly swapHeld tenors zeros receivesFixed)
 
-    pub swap-dv01-refused-exactly : ExactlyWhen (swapRecordLines bytes tenors zeros) (ofSwap bytes tenors zeros (λ (s : Swap). swapDv01 s tenors zeros receivesFixed))
+    pub dated-npv-refused-exactly : ExactlyWhen (datedSwapRecordLines bytes tenors zeros) (ofDatedSwap bytes tenors zeros (λ (s : AnySwap). swapNpv s tenors zeros receivesFixed))
+    dated-npv-refused-exactly = of-dated-swap _ (swaps.npv-refused-exactly datedHeld tenors zeros receivesFixed)
+
+    pub swap-dv01-refused-exactly : ExactlyWhen (swapRecordLines bytes tenors zeros) (ofSwap bytes tenors zeros (λ (s : AnySwap). swapDv01 s tenors zeros receivesFixed))
     swap-dv01-refused-exactly = of-swap _ (swaps.dv01-refused-exactly swapHeld tenors zeros receivesFixed)
 
-    pub value-refused-exactly : ExactlyWhen (swapRecordLines bytes tenors zeros) (ofSwap bytes tenors zeros (λ (s : Swap). valueSwap s tenors zeros receivesFixed))
+    pub dated-swap-dv01-refused-exactly : ExactlyWhen (datedSwapRecordLines bytes tenors zeros) (ofDatedSwap bytes tenors zeros (λ (s : AnySwap). swapDv01 s tenors zeros receivesFixed))
+    dated-swap-dv01-refused-exactly = of-dated-swap _ (swaps.dv01-refused-exactly datedHeld tenors zeros receivesFixed)
+
+    pub value-refused-exactly : ExactlyWhen (swapRecordLines bytes tenors zeros) (ofSwap bytes tenors zeros (λ (s : AnySwap). valueSwap s tenors zeros receivesFixed))
     value-refused-exactly = of-swap _ (swaps.value-refused-exactly swapHeld tenors zeros receivesFixed)
+
+    pub dated-value-refused-exactly : ExactlyWhen (datedSwapRecordLines bytes tenors zeros) (ofDatedSwap bytes tenors zeros (λ (s : AnySwap). valueSwap s tenors zeros receivesFixed))
+    dated-value-refused-exactly = of-dated-swap _ (swaps.value-refused-exactly datedHeld tenors zeros receivesFixed)
+
+-- ---- the fraction of a year between two dates, and a dated swap that is written: 11 before 15
+module _ (code : ℕ) (first second : Date) where
+  fraction-lines : (bad : Bool) → badCode lastDayCount code ≡ bad
+      → judged (line 11 (badCode lastDayCount code) ∷ datesLine first second ∷ []) (datedFraction (dayCountAt code) first second) ≡ datedFractionBy code first second
+  unfolding datedFractionBy dayCountOf datedFractionOf judged firstOr
+  fraction-lines true e = rw e
+  fraction-lines false e = rw e
+
+  pub dated-fraction-refused-exactly : ExactlyWhen (line 11 (badCode lastDayCount code) ∷ datesLine first second ∷ []) (datedFractionBy code first second)
+  unfolding above
+  dated-fraction-refused-exactly = rw (← fraction-lines (badCode lastDayCount code) refl) (exactly (datedFraction (dayCountAt code) first second) (line 11 (badCode lastDayCount code) ∷ datesLine first second ∷ []) tt)
+
+  pub writing-refused-exactly : {Value : Type 0} (v : Value) → ExactlyWhen (writtenLines code first second) (judged (writtenLines code first second) v)
+  unfolding above
+  writing-refused-exactly v = exactly v (writtenLines code first second) tt

@@ -29,3 +29,7 @@ module _ {B C : Type 0} (laid : B → C) (before : C) where
 
     pub asked-of : (v : A) (y : ℕ × C) (answer : Outcome B) → accepted v ≡ o → y ≡ told laid answer before → answer ≡ asked v → y ≡ told laid (andThen o asked) before
     asked-of v y answer e h g = h ∙ ap (λ (q : Outcome B). told laid q before) (g ∙ ap (λ (q : Outcome A). andThen q asked) e)
+
+    -- the same of what a function that was called has read
+    pub of-what-was-read : (q : Outcome A) (y : ℕ × C) → y ≡ told laid (andThen o asked) before → o ≡ q → y ≡ told laid (andThen q asked) before
+    of-what-was-read q y h e = h ∙ ap (λ (x : Outcome A). told laid (andThen x asked) before) e

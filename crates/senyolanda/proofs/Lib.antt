@@ -10,6 +10,7 @@ pub mod Handed
 pub mod PoolFigures
 pub mod ResultSays
 pub mod SpeedCodes
+pub mod ThreeNumbers
 pub mod Worked
 pub mod YearsAtTheDoor
 pub mod YearsWorked

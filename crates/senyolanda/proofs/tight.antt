@@ -1,7 +1,9 @@
 pub mod Bonds
 pub mod Books
 pub mod Curves
+pub mod DateCounts
 pub mod Dated
+pub mod DatedSwaps
 pub mod Lists
 pub mod Loans
 pub mod Models

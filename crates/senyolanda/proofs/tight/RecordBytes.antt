@@ -20,6 +20,10 @@ use Rattle.senyolanda.proofs.record_bytes.senyolanda_read_swap.Kinds as
 use Rattle.senyolanda.proofs.record_bytes.senyolanda_read_swap.Reads as read-swap-reads
 use Rattle.senyolanda.proofs.record_bytes.senyolanda_write_swap.Kinds as write-swap-kinds
 use Rattle.senyolanda.proofs.record_bytes.senyolanda_write_swap.Reads as write-swap-reads
+use Rattle.senyolanda.proofs.record_bytes.senyolanda_read_dated_swap.Kinds as read-dated-swap-kinds
+use Rattle.senyolanda.proofs.record_bytes.senyolanda_read_dated_swap.Reads as read-dated-swap-reads
+use Rattle.senyolanda.proofs.record_bytes.senyolanda_write_dated_swap.Kinds as write-dated-swap-kinds
+use Rattle.senyolanda.proofs.record_bytes.senyolanda_write_dated_swap.Reads as write-dated-swap-reads
 
 pub read-loan-determined : Determined _ read-loan-kinds.ps read-loan-kinds.r read-loan-reads.Post
 read-loan-determined κs a x y e e′ p q = one-result p q
@@ -68,3 +72,16 @@ write-swap-determined κs a x y e e′ p q = one-result p q
 
 pub write-swap-settled : Settled _ write-swap-kinds.ps write-swap-kinds.r write-swap-reads.Post
 write-swap-settled κs a x y w w′ p q = one-last (λ (u : List ℕ). (tt, (tt, (tt, (tt, (tt, (u, tt))))))) p q
+
+pub read-dated-swap-determined : Determined _ read-dated-swap-kinds.ps read-dated-swap-kinds.r read-dated-swap-reads.Post
+read-dated-swap-determined κs a x y e e′ p q = one-result p q
+
+pub read-dated-swap-settled : Settled _ read-dated-swap-kinds.ps read-dated-swap-kinds.r read-dated-swap-reads.Post
+read-dated-swap-settled κs a x y w w′ p q =
+    one-last (λ (u : Float × Float × Float × ℕ × List ℕ × List ℕ × ℕ). (tt, (u .0, (u .1, (u .2, (u .3, (u .4, (u .5, (u .6, tt))))))))) p q
+
+pub write-dated-swap-determined : Determined _ write-dated-swap-kinds.ps write-dated-swap-kinds.r write-dated-swap-reads.Post
+write-dated-swap-determined κs a x y e e′ p q = one-result p q
+
+pub write-dated-swap-settled : Settled _ write-dated-swap-kinds.ps write-dated-swap-kinds.r write-dated-swap-reads.Post
+write-dated-swap-settled κs a x y w w′ p q = one-last (λ (u : List ℕ). (tt, (tt, (tt, (tt, (tt, (tt, (tt, (tt, (tt, (tt, (tt, (u, tt))))))))))))) p q

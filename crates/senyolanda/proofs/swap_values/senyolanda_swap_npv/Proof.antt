@@ -1,46 +1,17 @@
 -- `senyolanda::swap_values::senyolanda_swap_npv` meets its contract. Assumes nothing.
-use mathlib.Core.Path.{sym, ap, _∙_}
+use Rattle.senyolanda.proofs.Handed.{of-what-was-read}
 use borrow.Author.Needs.{needs}
-use Rattle.senyolanda.specs.Swaps.{swapInOutcome}
-use Rattle.senyolanda.proofs.Handed.{not-read, asked-of}
 use Rattle.senyolanda.proofs.swap_values.senyolanda_swap_npv.Statement.{statement}
 use Rattle.senyolanda.proofs.swap_values.senyolanda_swap_npv.Tie as tie
 
 swap-in-requires : tie.Need-swap-in-requires
 swap-in-requires c κs = search needs
 
-enum-known-refusal : tie.Need-enum-known-refusal
-enum-known-refusal c = search needs
-
-refusal-result-requires : tie.Need-refusal-result-requires
-refusal-result-requires c κs = search needs
-
-enum-known-swap : tie.Need-enum-known-swap
-enum-known-swap c = search needs
-
-swap-npv-requires : tie.Need-swap-npv-requires
-swap-npv-requires c κs = search needs
-
-put-number-requires : tie.Need-put-number-requires
-put-number-requires c κs = search needs
+put-npv-requires : tie.Need-put-npv-requires
+put-npv-requires c κs = search needs
 
 returns : tie.Need-returns
-returns c = not-read _ _ _ _ _ _ _ (sym (ap swapInOutcome (c .before .before .refusal .given .1)) ∙ c .before .before .before .before .swap-in .ensures) (c .refusal-result .ensures)
-
-returns-2 : tie.Need-returns-2
-returns-2 c =
-    asked-of _ _ _ _ _ _ _ (sym (ap swapInOutcome (c .before .before .before .before .swap .given .1)) ∙ c .before .before .before .before .before .before .swap-in .ensures)
-    (c .put-number .ensures) (c .before .before .swap-npv .ensures)
+returns c = of-what-was-read _ _ _ _ _ _ (c .put-npv .ensures) (c .before .before .swap-in .ensures)
 
 pub senyolanda-swap-npv-spec : {M : Type 1} → statement M
-senyolanda-swap-npv-spec =
-    tie.close
-    (tie.spec
-    swap-in-requires
-    enum-known-refusal
-    refusal-result-requires
-    enum-known-swap
-    swap-npv-requires
-    put-number-requires
-    returns
-    returns-2)
+senyolanda-swap-npv-spec = tie.close (tie.spec swap-in-requires put-npv-requires returns)

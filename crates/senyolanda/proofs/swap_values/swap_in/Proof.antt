@@ -7,6 +7,7 @@ use Rattle.refusals.specs.Answers.{verdictOutcome}
 use Rattle.records.specs.declared.SwapRecord.{SwapRecord}
 use Rattle.records.specs.Kinds.{swapOutcome}
 use Rattle.swaps.specs.declared.Swap.{Swap}
+use Rattle.swaps.specs.declared.AnySwap.the-variants.{Undated}
 use Rattle.swaps.specs.declared.day_counts.DayCount.{DayCount}
 use Rattle.swaps.specs.Codes.{dayCountAt, dayCountOf, dayCountOutcome}
 use Rattle.swaps.specs.Swap.{payments, swapLines}
@@ -68,7 +69,7 @@ returns-2 c =
     let a = r .before .before .before .before .before .before .args in
     let set = in-set _ _ _ (sym (ap dayCountOutcome (c .before .before .day-count .given .1)) ∙ f .day-count-of .ensures) in
     read-so _ _ _ _ (sym (ap swapOutcome (r .fields .given .1)) ∙ r .before .before .read-swap-uncoded .ensures)
-    (known _ (judged (swapLines (swapOf b) (a .tenors .now) (a .zeros .now)) tt) _ _ (set .0) (c .counted-by .ensures ∙ ap (λ (d : DayCount). countedBy d b) (set .1)))
+    (known _ (judged (swapLines (swapOf b) (a .tenors .now) (a .zeros .now)) tt) _ _ (set .0) (ap Undated (c .counted-by .ensures ∙ ap (λ (d : DayCount). countedBy d b) (set .1))))
 
 returns-3 : tie.Need-returns-3
 unfolding swapRead dayCountOf payments
