@@ -15,22 +15,9 @@ use Rattle.refusals.specs.declared.Verdict.{Verdict}
 use Rattle.refusals.specs.declared.Verdict.the-variants as verdict-is
 use Rattle.refusals.specs.Answers.{verdictOutcome}
 use Rattle.refusals.proofs.Verdicts.{verdict, refused-by, accepted-by}
+use Rattle.refusals.proofs.OneCause.{caused, clear}
 use Rattle.refusals.proofs.Judging.{none-is, passed, followed, judged-in-parts}
 use Rattle.curves.specs.Curve.{curveLines}
-
--- a line of one thing that has its cause, one that has not, and one that has not and is the last
-module _ {Value : Type 0} (v : Value) (k : ℕ) (b : Bool) where
-  pub caused : (ls : List Line) → b ≡ true → refused k 0 ≡ judged (line k b ∷ ls) v
-  unfolding judged firstOr
-  caused ls e = rw e
-
-  pub clear : (ls : List Line) → b ≡ false → judged ls v ≡ judged (line k b ∷ ls) v
-  unfolding judged firstOr
-  clear ls e = rw e
-
-  pub all-clear : b ≡ false → accepted v ≡ judged (line k b ∷ []) v
-  unfolding judged firstOr
-  all-clear e = rw e
 
 different : (m n : ℕ) → (m ≡ n → ⊥) → unequal m n ≡ true
 unfolding unequal

@@ -2,6 +2,7 @@
 use mathlib.Core.Path.{_≡_, sym, ap, _∙_}
 use mathlib.Core.Logic.{⊎-elim}
 use mathlib.Core.Bool.{Bool, true, false, not, _&&_}
+use mathlib.Core.List.{[]}
 use Prim.Native.Nat.{ℕ, suc, _+_, _-_, _≤_, _<_}
 use native.Mathlib.Omega.{arith}
 use Rattle.refusals.specs.Outcome.{refused, accepted}
@@ -15,7 +16,7 @@ use Rattle.dates.specs.Answers.{dayNumberOf, hasDate, dateNumbered, actu
 use Rattle.dates.proofs.Tests.{joined, decided}
 use Rattle.dates.proofs.Parts.{parts, of-parts}
 use Rattle.dates.proofs.Following.{three-good}
-use Rattle.dates.proofs.OneLine.{caused, clear}
+use Rattle.refusals.proofs.OneCause.{caused, all-clear}
 use Rattle.dates.proofs.YearDays.{year-more}
 use Rattle.dates.proofs.MonthDays.{next-month, before-thirteenth}
 use Rattle.dates.proofs.LaterMonths.{in-month-index, index-bounds}
@@ -24,7 +25,7 @@ use Rattle.dates.proofs.InOrder.{known, has-bounds, none-numbered, read
 -- ---- day numbers
 pub no-number : (d : Date) → isDate d ≡ false → refused 15 0 ≡ dayNumberOf d
 unfolding dayNumberOf noSuchDate
-no-number d e = caused _ 15 (not (isDate d)) (ap not e)
+no-number d e = caused _ 15 (not (isDate d)) [] (ap not e)
 
 pub its-number : (d : Date) (n : ℕ) → isDate d ≡ true → ((1900 ≤ d .year) → (1 ≤ d .month) → (d .month ≤ 12) → n ≡ dayNumber d) → accepted n ≡ dayNumberOf d
 its-number d n e f = let p = parts d e in ap accepted (f (p .not-early) (p .month-low) (p .month-high)) ∙ sym (known d e)
@@ -73,7 +74,7 @@ rest-of-year days year h k l =
 module _ (d : Date) (n : ℕ) where
   both-bad : (isDate d && isDate (monthsLater n d)) ≡ false → refused 15 0 ≡ monthsLaterOf d n
   unfolding monthsLaterOf noSuchDate
-  both-bad e = caused _ 15 (not (isDate d && isDate (monthsLater n d))) (ap not e)
+  both-bad e = caused _ 15 (not (isDate d && isDate (monthsLater n d))) [] (ap not e)
 
   pub bad-start : isDate d ≡ false → refused 15 0 ≡ monthsLaterOf d n
   bad-start e = both-bad (rw e)
@@ -101,7 +102,7 @@ module _ (d : Date) (n : ℕ) where
     unfolding monthsLaterOf noSuchDate
     good-end f =
         ap accepted is-later
-        ∙ clear (monthsLater n d) 15 (not (isDate d && isDate (monthsLater n d))) (ap not (joined (isDate d) (isDate (monthsLater n d)) e (ap isDate (sym is-later) ∙ f)))
+        ∙ all-clear (monthsLater n d) 15 (not (isDate d && isDate (monthsLater n d))) (ap not (joined (isDate d) (isDate (monthsLater n d)) e (ap isDate (sym is-later) ∙ f)))
 
 -- ---- days between two dates
 module _ (a b : Date) where
@@ -110,15 +111,15 @@ module _ (a b : Date) where
 
   pub no-actual : bad ≡ true → refused 15 0 ≡ actualDaysOf a b
   unfolding actualDaysOf
-  no-actual e = caused _ 15 bad e
+  no-actual e = caused _ 15 bad [] e
 
   pub no-thirty : bad ≡ true → refused 15 0 ≡ thirtyDaysOf a b
   unfolding thirtyDaysOf
-  no-thirty e = caused _ 15 bad e
+  no-thirty e = caused _ 15 bad [] e
 
   pub all-thirty : bad ≡ false → (n : ℕ) → n ≡ thirtyDays a b → accepted n ≡ thirtyDaysOf a b
   unfolding thirtyDaysOf
-  all-thirty e n h = ap accepted h ∙ clear _ 15 bad e
+  all-thirty e n h = ap accepted h ∙ all-clear _ 15 bad e
 
   abbrev Numbers : Date → ℕ → Type 0
   Numbers d n = (1900 ≤ d .year) → (1 ≤ d .month) → (d .month ≤ 12) → n ≡ dayNumber d
@@ -134,4 +135,4 @@ module _ (a b : Date) where
 
   pub all-actual : bad ≡ false → (n : ℕ) → (isDate a ≡ true → isDate b ≡ true → n ≡ actualDays a b) → accepted n ≡ actualDaysOf a b
   unfolding actualDaysOf
-  all-actual e n h = let t = three-good (isDate a) (isDate b) (isAfter a b) e in ap accepted (h (t .0) (t .1)) ∙ clear _ 15 bad e
+  all-actual e n h = let t = three-good (isDate a) (isDate b) (isAfter a b) e in ap accepted (h (t .0) (t .1)) ∙ all-clear _ 15 bad e

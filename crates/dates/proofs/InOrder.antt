@@ -3,6 +3,7 @@
 use mathlib.Core.Path.{_≡_, refl, sym, ap, _∙_}
 use mathlib.Core.Logic.{_⊎_, inl, inr, ⊎-elim, _↔_}
 use mathlib.Core.Bool.{true, false, not}
+use mathlib.Core.List.{[]}
 use Prim.Native.Nat.{ℕ, zero, suc, _+_, _-_, _≤_, _<_}
 use native.Mathlib.Omega.{arith}
 use lib.Dec.{ltb, leb}
@@ -15,7 +16,7 @@ use Rattle.dates.specs.DayNumbers.{total, daysBeforeYear, daysBeforeMont
 use Rattle.dates.specs.Answers.{firstOfAll, lastOfAll, dayNumberOf, hasDate, dateNumbered}
 use Rattle.dates.proofs.Tests.{both, joined, decided, clash}
 use Rattle.dates.proofs.Parts.{Parts, parts}
-use Rattle.dates.proofs.OneLine.{caused, clear}
+use Rattle.refusals.proofs.OneCause.{caused, all-clear}
 use Rattle.dates.proofs.YearDays.{year-more, years-no-less, in-2200}
 use Rattle.dates.proofs.MonthDays.{month-more, months-no-less, before-thirteenth}
 use Rattle.dates.proofs.Ranks.{Shaped, shaped, rank, after-rank, rank-after, same-rank}
@@ -155,16 +156,16 @@ has-bounds n e =
 
 pub numbered : (n : ℕ) → 2 ≤ n → n ≤ 109574 → dateNumbered n ≡ accepted (daysLater (n - 2) firstOfAll)
 unfolding dateNumbered noSuchDate
-numbered n low high = sym (clear _ 15 (not (hasDate n)) (ap not (has-date n low high))) ∙ ap (λ (k : ℕ). accepted (daysLater (n - k) firstOfAll)) first-number
+numbered n low high = sym (all-clear _ 15 (not (hasDate n)) (ap not (has-date n low high))) ∙ ap (λ (k : ℕ). accepted (daysLater (n - k) firstOfAll)) first-number
 
 pub none-numbered : (n : ℕ) → hasDate n ≡ false → dateNumbered n ≡ refused 15 0
 unfolding dateNumbered noSuchDate
-none-numbered n e = sym (caused _ 15 (not (hasDate n)) (ap not e))
+none-numbered n e = sym (caused _ 15 (not (hasDate n)) [] (ap not e))
 
 -- a date's number is given
 pub known : (d : Date) → isDate d ≡ true → dayNumberOf d ≡ accepted (dayNumber d)
 unfolding dayNumberOf noSuchDate
-known d e = sym (clear _ 15 (not (isDate d)) (ap not e))
+known d e = sym (all-clear _ 15 (not (isDate d)) (ap not e))
 
 -- every number from the first date's to the last's has a date
 pub has-a-date : (n : ℕ) → 2 ≤ n → n ≤ 109574 → (d : Date) × (isDate d ≡ true) × (dateNumbered n ≡ accepted d)

@@ -5,7 +5,6 @@ pub mod MonthDays
 pub mod Ranks
 pub mod LaterMonths
 pub mod NextDay
-pub mod OneLine
 pub mod InOrder
 pub mod BondBasis
 pub mod Tiling

@@ -3,6 +3,7 @@ pub mod NumbersWithin
 pub mod GivenPlaces
 pub mod Verdicts
 pub mod Placing
+pub mod OneCause
 pub mod LaterLines
 pub mod OneToOne
 pub mod Tight

@@ -4,6 +4,7 @@ use mathlib.Core.Bool.{Bool, true, false}
 use mathlib.Core.List.{[], _∷_}
 use Prim.Native.Nat.{ℕ}
 use Rattle.refusals.specs.Outcome.{Outcome, refused, accepted, line, firstOr, judged, andThen}
+use Rattle.refusals.proofs.OneCause.{caused, all-clear}
 use Rattle.senyolanda.specs.Told.{coded}
 
 -- ---- what line 11 says of a code
@@ -19,12 +20,10 @@ module _ {Value : Type 0} (v : Value) where
   in-set false w e = (refl, cc)
 
   pub refused-code : (bad : Bool) → bad ≡ true → refused 11 0 ≡ judged (line 11 bad ∷ []) v
-  unfolding judged firstOr
-  refused-code bad e = rw e
+  refused-code bad e = caused v 11 bad [] e
 
   pub accepted-code : (bad : Bool) → bad ≡ false → accepted v ≡ judged (line 11 bad ∷ []) v
-  unfolding judged firstOr
-  accepted-code bad e = rw e
+  accepted-code bad e = all-clear v 11 bad e
 
 -- ---- what then is read
 module _ {Value : Type 0} (bad : Bool) (others : Outcome Unit) (v : Value) where

@@ -16,7 +16,7 @@ use Rattle.dates.proofs.Tests.{both}
 use Rattle.dates.proofs.Parts.{Parts, days-in-bounds}
 use Rattle.dates.proofs.Following.{no-date}
 use Rattle.dates.proofs.Asked.{no-number, bad-start}
-use Rattle.curves.proofs.CurveLines.{caused}
+use Rattle.refusals.proofs.OneCause.{caused}
 use Rattle.senyolanda.specs.Dates.{heldByRecord}
 
 -- the same date, or two that are none

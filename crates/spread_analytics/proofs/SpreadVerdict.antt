@@ -16,7 +16,7 @@ use Rattle.refusals.proofs.Judging.{none-is, passed}
 use Rattle.refusals.proofs.Verdicts.{verdict}
 use Rattle.curves.specs.Segments.{Rising}
 use Rattle.curves.specs.Curve.{curveLines}
-use Rattle.curves.proofs.CurveLines.{caused}
+use Rattle.refusals.proofs.OneCause.{caused}
 use Rattle.curves.proofs.Listing.{accepted-rises}
 use Rattle.spread_analytics.specs.Spread.{spreadLines}
 use Rattle.spread_analytics.proofs.ItemLine.{itemLine}

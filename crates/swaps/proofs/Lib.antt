@@ -22,3 +22,4 @@ pub mod Undated
 pub mod NoDays
 pub mod Outside
 pub mod AtKnots
+pub mod Worked

@@ -14,7 +14,8 @@ use Rattle.refusals.specs.Table.{unequal, badKnotCount, badKnot, badKnotsAfter,
 use Rattle.refusals.proofs.Judging.{none-is, passed}
 use Rattle.refusals.proofs.Verdicts.{verdict}
 use Rattle.curves.specs.Segments.{Rising}
-use Rattle.curves.proofs.CurveLines.{caused, clear, at-most-120}
+use Rattle.refusals.proofs.OneCause.{caused, clear}
+use Rattle.curves.proofs.CurveLines.{at-most-120}
 use Rattle.curves.proofs.KnotLine.{after-all}
 use Rattle.curves.proofs.Listing.{rising}
 use Rattle.swaps.specs.Bootstrap.{eitherOf, parLines}

@@ -2,7 +2,8 @@
 use mathlib.Core.Path.{sym, ap, _∙_}
 use Rattle.refusals.specs.Answers.{verdictOutcome}
 use Rattle.refusals.proofs.Verdicts.{refused-as}
-use Rattle.curves.proofs.CurveLines.{caused, all-clear, refused-by-curve, by-last-line}
+use Rattle.refusals.proofs.OneCause.{caused, all-clear}
+use Rattle.curves.proofs.CurveLines.{refused-by-curve, by-last-line}
 use borrow.Author.Needs.{needs}
 use Rattle.curves.proofs.curve.judge_asked.Statement.{statement}
 use Rattle.curves.proofs.curve.judge_asked.Tie as tie

@@ -4,7 +4,7 @@ use native.Mathlib.Omega.{arith}
 use borrow.Author.Tests.{lt-ltb, le-ltb}
 use Rattle.refusals.specs.Table.{badCode}
 use Rattle.refusals.proofs.Verdicts.{refused-as}
-use Rattle.curves.proofs.CurveLines.{caused, clear, all-clear}
+use Rattle.refusals.proofs.OneCause.{caused, clear, all-clear}
 use Rattle.senyolanda.proofs.Handed.{refused-so, accepted-so}
 use Rattle.senyolanda.specs.Dates.{dateOf}
 use Rattle.senyolanda.proofs.ThreeNumbers.{held-so, first-not, second-not, both-held}

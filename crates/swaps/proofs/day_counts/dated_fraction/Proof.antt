@@ -3,7 +3,7 @@ use mathlib.Core.Path.{_≡_, sym, ap, _∙_}
 use mathlib.Core.Logic.{⊎-elim}
 use Rattle.refusals.specs.Outcome.{accepted}
 use Rattle.refusals.proofs.Verdicts.{refused-as}
-use Rattle.curves.proofs.CurveLines.{caused, all-clear}
+use Rattle.refusals.proofs.OneCause.{caused, all-clear}
 use Rattle.swaps.specs.DayCounts.{dayFraction, daysBy, datedFraction, datedFractionOf}
 use Rattle.swaps.proofs.DatedSpans.{both-are-dates}
 use Rattle.swaps.proofs.DaysBy.{over-360, over-365, by-thirties}

@@ -1,7 +1,7 @@
 -- `swaps::judging::judge_dates` meets its contract: the test is line 15. Assumes nothing.
 use mathlib.Core.Path.{sym, _∙_}
 use Rattle.refusals.proofs.Verdicts.{refused-as}
-use Rattle.curves.proofs.CurveLines.{caused, all-clear}
+use Rattle.refusals.proofs.OneCause.{caused, all-clear}
 use borrow.Author.Needs.{needs}
 use Rattle.swaps.proofs.judging.judge_dates.Statement.{statement}
 use Rattle.swaps.proofs.judging.judge_dates.Tie as tie

@@ -1,7 +1,7 @@
 -- `swaps::judging::judge_swap` meets its contract: the notional's line, then those of the curve, then those of the terms. Assumes nothing.
 use mathlib.Core.Path.{sym, _∙_}
 use Rattle.refusals.proofs.Verdicts.{refused-as}
-use Rattle.curves.proofs.CurveLines.{caused, clear}
+use Rattle.refusals.proofs.OneCause.{caused, clear}
 use Rattle.refusals.proofs.LaterLines.{refused-first, accepted-first}
 use borrow.Author.Needs.{needs}
 use Rattle.swaps.proofs.judging.judge_swap.Statement.{statement}

@@ -1,7 +1,7 @@
 -- `swaps::judging::judge_terms` meets its contract: the three tests are lines 7, 8 and 9, in that order. Assumes nothing.
 use mathlib.Core.Path.{sym, _∙_}
 use Rattle.refusals.proofs.Verdicts.{refused-as}
-use Rattle.curves.proofs.CurveLines.{caused, clear, all-clear}
+use Rattle.refusals.proofs.OneCause.{caused, clear, all-clear}
 use borrow.Author.Needs.{needs}
 use Rattle.swaps.proofs.judging.judge_terms.Statement.{statement}
 use Rattle.swaps.proofs.judging.judge_terms.Tie as tie

@@ -3,7 +3,7 @@ use mathlib.Core.Path.{sym, ap, _∙_}
 use Rattle.refusals.specs.Outcome.{accepted}
 use Rattle.refusals.proofs.Verdicts.{refused-as}
 use Rattle.yield_curve.specs.NelsonSiegel.{forwardRateAt}
-use Rattle.curves.proofs.CurveLines.{caused, all-clear}
+use Rattle.refusals.proofs.OneCause.{caused, all-clear}
 use borrow.Author.Needs.{needs}
 use Rattle.yield_curve.proofs.nelson_siegel.forward_rate.Statement.{statement}
 use Rattle.yield_curve.proofs.nelson_siegel.forward_rate.Tie as tie
