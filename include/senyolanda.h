@@ -200,7 +200,7 @@ static inline const char *senyolanda_refusal_text(uint32_t number) {
     case SENYOLANDA_BAD_KNOT_COUNT: return "the curve does not have from 1 to 120 knots";
     case SENYOLANDA_BAD_KNOT: return "a knot of the curve is not finite, out of order or out of range";
     case SENYOLANDA_BAD_TIME: return "a time is not finite or there are too many periods, flows or loans";
-    case SENYOLANDA_BAD_FREQUENCY: return "the swap does not pay from 1 to 365 times a year, or, dated, not each 1, 2, 3, 4, 6 or 12 months";
+    case SENYOLANDA_BAD_FREQUENCY: return "the swap does not pay from 1 to 365 times, or if dated not 1, 2, 3, 4, 6 or 12 times, a year";
     case SENYOLANDA_BAD_NUMBER: return "a price, yield, coupon, cost, flow or rate is not finite";
     case SENYOLANDA_PAST_THE_TERM: return "the loan has more months done than its term";
     case SENYOLANDA_BAD_RECORD: return "the record is of another kind or length, or has an unknown code";
@@ -327,22 +327,22 @@ senyolanda_result senyolanda_months_later(
     uint32_t year, uint32_t month, uint32_t day, uint32_t months,
     uint32_t date[SENYOLANDA_FILLED SENYOLANDA_DATE_NUMBERS]) SENYOLANDA_CHECKED;
 
-/* The actual days from the first date to the second. Refuses 15. */
+/* The actual days from the first date to the second, which comes after it. Refuses 15. */
 senyolanda_result senyolanda_actual_days(
     uint32_t first_year, uint32_t first_month, uint32_t first_day,
     uint32_t second_year, uint32_t second_month, uint32_t second_day,
     uint32_t *SENYOLANDA_RESTRICT days) SENYOLANDA_CHECKED;
 
-/* The days from the first date to the second by the bond basis of 30/360 (ISDA 2006): 360 for each year, 30 for each month, and
-   the days, a first day of 31 read as 30, and a second day of 31 read as 30 when the first is then 30. The end of February is no
-   special day, as it is in some spreadsheets. Refuses 15. */
+/* The days from the first date to the second, which comes after it, by the bond basis of 30/360 (ISDA 2006): 360 for each year, 30
+   for each month, and the days, a first day of 31 read as 30, and a second day of 31 read as 30 when the first is then 30. The end
+   of February is no special day, as it is in some spreadsheets. Refuses 15. */
 senyolanda_result senyolanda_days_30_360(
     uint32_t first_year, uint32_t first_month, uint32_t first_day,
     uint32_t second_year, uint32_t second_month, uint32_t second_day,
     uint32_t *SENYOLANDA_RESTRICT days) SENYOLANDA_CHECKED;
 
-/* The part of a year from the first date to the second, a decimal: actual days over 360 or 365, or 30/360 days over 360;
-   day_count is an enum senyolanda_day_count. Refuses 11, 15. */
+/* The part of a year from the first date to the second, which comes after it, a decimal: actual days over 360 or 365, or 30/360
+   days over 360; day_count is an enum senyolanda_day_count. Refuses 11, 15. */
 senyolanda_result senyolanda_dated_fraction(
     uint32_t day_count,
     uint32_t first_year, uint32_t first_month, uint32_t first_day,
@@ -841,7 +841,7 @@ senyolanda_result senyolanda_value_swap(
    months, counted from the first date, a day that a month lacks cut to the month's end; the last ends at the second date, whole or
    not. Each pays at its end for its own days by the day count; one that counts 0 days (30/360, from a 30th to the 31st) pays 0.
    Times are actual days from the first date over 365, and the notional is paid at the second date. The record's tenor is not
-   read. ---- */
+   read, so that none is refused. (senyolanda_dated_pv and its like, among the spreads, are over dated amounts and no swaps.) ---- */
 
 /* As senyolanda_fixed_leg_pv, of a dated swap. Refuses 1, 4, 5, 6, 7, 8, 9, 11, 15. */
 senyolanda_result senyolanda_dated_fixed_leg_pv(

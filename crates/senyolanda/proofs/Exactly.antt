@@ -18,7 +18,6 @@ use Rattle.records.specs.declared.BondRecord.{BondRecord}
 use Rattle.records.specs.declared.SwapRecord.{SwapRecord}
 use Rattle.records.specs.declared.DatedSwapRecord.{DatedSwapRecord}
 use Rattle.records.specs.Kinds.{termsKind, termsSize, termsIn, readTerms, bondKind, bondSize, bondIn, readBondUncoded, swapKind, swapSize, swapIn, readSwapUncoded, datedSwapKind, datedSwapSize, datedSwapIn, readDatedSwapUncoded}
-use Rattle.mortgage.specs.declared.Loan.{Loan}
 use Rattle.mortgage.specs.Terms.{termsLines}
 use Rattle.mortgage.specs.Payment.{monthlyPayment, opened, openedWith}
 use Rattle.mortgage.specs.Totals.{totalInterest, remainingBalance, loanToValue}

@@ -1,11 +1,10 @@
 -- Dated swaps worked out from the definitions, on a curve of 0, where nothing is discounted: two half years from the end of a month, and a single period that counts no day. And the fractions of
 -- a year around a month's end, by dates and by document 01's plain number of days. Assumes nothing.
 use mathlib.Core.Path.{_≡_, refl}
-use mathlib.Core.Bool.{true, false}
+use mathlib.Core.Bool.{true}
 use mathlib.Core.List.{List, [], _∷_, map}
 use Prim.Native.Nat.{ℕ}
 use lib.Ieee.{Float, nan, binary64, add, sub, mul, div, neg, lt, le, eq, ofInt, ofBits, toBits}
-use lib.Ieee.Scale.{finite}
 use Rattle.numbers.specs.Sizes.{absolute}
 use Rattle.numbers.specs.Whole.{nearestWhole}
 use Rattle.numbers.specs.Sums.{addedUp}
@@ -28,7 +27,7 @@ use Rattle.swaps.specs.DayCounts.{dayFraction, daysBy, datedFraction, ti
 use Rattle.swaps.specs.Discount.{zeroRateOf, discountOf}
 use Rattle.swaps.specs.DatedSwap.{spanOf, tooManyDated}
 use Rattle.swaps.specs.Periods.{ofDates, termsOf}
-use Rattle.swaps.specs.Legs.{factorAt, lastFactor, counted, fixedPayment, fixedTerm, fixedLeg, forward, floatingTerm, floatingLeg, netValue, annuityTerm, annuity, parRate, timedTerm, weightedSum}
+use Rattle.swaps.specs.Legs.{factorAt, lastFactor, counted, fixedPayment, fixedTerm, fixedLeg, forward, floatingTerm, floatingLeg, netValue, annuityTerm, annuity, parRate}
 use Rattle.swaps.specs.Valuation.{fixedLegPv, floatingLegPv, parSwapRate, swapNpv}
 
 abbrev on : ℕ → ℕ → ℕ → Date
