@@ -1,6 +1,8 @@
 //! Swaps: the bootstrap, a whole valuation, and one of a dated swap.
+use crate::called;
 use crate::curves::{curve, YEARS};
 use crate::job::{unless_refused, Job};
+use crate::library::dates::*;
 use crate::library::records::{senyolanda_write_dated_swap, senyolanda_write_swap};
 use crate::library::*;
 use crate::measure::{filling, giving, lent, unseen, Numbers};
