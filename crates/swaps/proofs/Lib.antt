@@ -23,3 +23,4 @@ pub mod NoDays
 pub mod Outside
 pub mod AtKnots
 pub mod Worked
+pub mod TermLines

@@ -1,10 +1,11 @@
 // What every function over a swap and a curve asks first, of undated swaps and of dated ones.
 ghost use mathlib.Core.Path.{_≡_};
 ghost use mathlib.Core.Bool.{_||_};
-ghost use mathlib.Core.List.{[], _∷_};
+ghost use mathlib.Core.List.{[], _∷_, _++_};
 ghost use Rattle.refusals.specs.Outcome.{line, judged};
 ghost use Rattle.refusals.specs.Answers.{verdictOutcome};
-ghost use Rattle.refusals.specs.Table.{badTime, tooManyPeriods, badFrequency, badDatedFrequency, badNumber};
+ghost use Rattle.refusals.specs.Table.{badAmount, badTime, tooManyPeriods, badFrequency, badDatedFrequency, badNumber};
+ghost use Rattle.curves.specs.Curve.{curveLines};
 ghost use Rattle.dates.specs.Answers.{datesLine};
 ghost use Rattle.swaps.specs.Swap.{payments, swapLines};
 ghost use Rattle.swaps.specs.DatedSwap.{tooManyDated, uncodedDatedLines, datedLines};
@@ -38,33 +39,48 @@ fn bad_frequency(frequency: u32) -> bool
     frequency > 365
 }
 
-// Lines 7, 8 and 9, of a swap alone.
-fn judge_terms(swap: Swap) -> Verdict
-    ensures { λ r. ⌜ verdictOutcome r ≡ judged (line 7 (badTime (swap .tenor) || tooManyPeriods (payments swap)) ∷ line 8 (badFrequency (swap .frequency)) ∷ line 9 (badNumber (swap .«fixed_rate»)) ∷ []) tt ⌝ }
+// Lines 7, 8 and 9, of whose causes the first two are known.
+fn judge_terms(line7: bool, line8: bool, rate: f64) -> Verdict
+    ensures { λ r. ⌜ verdictOutcome r ≡ judged (line 7 line7 ∷ line 8 line8 ∷ line 9 (badNumber rate) ∷ []) tt ⌝ }
 {
-    if bad_tenor(swap) {
+    if line7 {
         return Verdict::Refused(refuse(7));
     }
-    if bad_frequency(swap.frequency) {
+    if line8 {
         return Verdict::Refused(refuse(8));
     }
-    if refusals::bad_number(swap.fixed_rate) {
+    if refusals::bad_number(rate) {
         return Verdict::Refused(refuse(9));
     }
     Verdict::Accepted
 }
 
-// Line 1 of the notional, lines 4, 5 and 6 of the curve, and then those of the swap's terms.
-pub fn judge_swap(swap: Swap, tenors: &[f64], zeros: &[f64]) -> Verdict
-    ensures { λ r. ⌜ verdictOutcome r ≡ judged (swapLines swap (now (tenors .entry)) (now (zeros .entry))) tt ⌝ }
+// Line 1 of the notional, lines 4, 5 and 6 of the curve, and then those.
+fn judge_priced(
+    notional: f64,
+    tenors: &[f64],
+    zeros: &[f64],
+    line7: bool,
+    line8: bool,
+    rate: f64,
+) -> Verdict
+    ensures { λ r. ⌜ verdictOutcome r ≡ judged (line 1 (badAmount notional) ∷ curveLines (now (tenors .entry)) (now (zeros .entry)) ++ line 7 line7 ∷ line 8 line8 ∷ line 9 (badNumber rate) ∷ []) tt ⌝ }
 {
-    if refusals::bad_amount(swap.notional) {
+    if refusals::bad_amount(notional) {
         return Verdict::Refused(refuse(1));
     }
     match curves::curve::judge_curve(tenors, zeros) {
         Verdict::Refused(refusal) => Verdict::Refused(refusal),
-        Verdict::Accepted => judge_terms(swap),
+        Verdict::Accepted => judge_terms(line7, line8, rate),
     }
+}
+
+pub fn judge_swap(swap: Swap, tenors: &[f64], zeros: &[f64]) -> Verdict
+    ensures { λ r. ⌜ verdictOutcome r ≡ judged (swapLines swap (now (tenors .entry)) (now (zeros .entry))) tt ⌝ }
+{
+    let line7 = bad_tenor(swap);
+    let line8 = bad_frequency(swap.frequency);
+    judge_priced(swap.notional, tenors, zeros, line7, line8, swap.fixed_rate)
 }
 
 // Line 8, of a dated swap also: a frequency that does not divide 12.
@@ -92,33 +108,13 @@ fn too_many_dated(swap: DatedSwap) -> bool
     period_count(swap) > 1200
 }
 
-// Lines 7, 8 and 9, of a dated swap alone.
-fn judge_dated_terms(swap: DatedSwap) -> Verdict
-    ensures { λ r. ⌜ verdictOutcome r ≡ judged (line 7 (tooManyDated swap) ∷ line 8 (badDatedFrequency (swap .frequency)) ∷ line 9 (badNumber (swap .«fixed_rate»)) ∷ []) tt ⌝ }
-{
-    if too_many_dated(swap) {
-        return Verdict::Refused(refuse(7));
-    }
-    if bad_dated_frequency(swap.frequency) {
-        return Verdict::Refused(refuse(8));
-    }
-    if refusals::bad_number(swap.fixed_rate) {
-        return Verdict::Refused(refuse(9));
-    }
-    Verdict::Accepted
-}
-
 // Those of a dated swap and its curve, all but line 15.
 pub fn judge_but_dates(swap: DatedSwap, tenors: &[f64], zeros: &[f64]) -> Verdict
     ensures { λ r. ⌜ verdictOutcome r ≡ judged (uncodedDatedLines swap (now (tenors .entry)) (now (zeros .entry))) tt ⌝ }
 {
-    if refusals::bad_amount(swap.notional) {
-        return Verdict::Refused(refuse(1));
-    }
-    match curves::curve::judge_curve(tenors, zeros) {
-        Verdict::Refused(refusal) => Verdict::Refused(refusal),
-        Verdict::Accepted => judge_dated_terms(swap),
-    }
+    let line7 = too_many_dated(swap);
+    let line8 = bad_dated_frequency(swap.frequency);
+    judge_priced(swap.notional, tenors, zeros, line7, line8, swap.fixed_rate)
 }
 
 // Line 15.

@@ -6,27 +6,17 @@ use borrow.Author.Needs.{needs}
 use Rattle.swaps.proofs.judging.judge_terms.Statement.{statement}
 use Rattle.swaps.proofs.judging.judge_terms.Tie as tie
 
-bad-tenor-requires : tie.Need-bad-tenor-requires
-bad-tenor-requires c κs = search needs
-
 refuse-requires : tie.Need-refuse-requires
 refuse-requires c κs = search needs
 
 returns : tie.Need-returns
-returns c = refused-as 7 _ _ (c .refuse .ensures) (caused tt 7 _ _ (sym (c .before .before .bad-tenor .ensures) ∙ c .before .if1 .taken))
-
-bad-frequency-requires : tie.Need-bad-frequency-requires
-bad-frequency-requires c κs = search needs
+returns c = refused-as 7 _ _ (c .refuse .ensures) (caused tt 7 _ _ (c .before .if1 .taken))
 
 refuse-requires-2 : tie.Need-refuse-requires-2
 refuse-requires-2 c κs = search needs
 
 returns-2 : tie.Need-returns-2
-returns-2 c =
-    let e = c .before .before .before in
-    refused-as 8 _ _ (c .refuse2 .ensures)
-    (caused tt 8 _ _ (sym (c .before .before .bad-frequency .ensures) ∙ c .before .if2 .taken)
-    ∙ clear tt 7 _ _ (sym (e .before .bad-tenor .ensures) ∙ e .if1 .left))
+returns-2 c = refused-as 8 _ _ (c .refuse2 .ensures) (caused tt 8 _ _ (c .before .if2 .taken) ∙ clear tt 7 _ _ (c .before .before .if1 .left))
 
 bad-number-requires : tie.Need-bad-number-requires
 bad-number-requires c κs = search needs
@@ -37,28 +27,20 @@ refuse-requires-3 c κs = search needs
 returns-3 : tie.Need-returns-3
 returns-3 c =
     let g = c .before .before .before in
-    let e = g .before .before in
     refused-as 9 _ _ (c .refuse3 .ensures)
-    (caused tt 9 _ _ (sym (c .before .before .bad-number .ensures) ∙ c .before .if3 .taken)
-    ∙ clear tt 8 _ _ (sym (g .before .bad-frequency .ensures) ∙ g .if2 .left)
-    ∙ clear tt 7 _ _ (sym (e .before .bad-tenor .ensures) ∙ e .if1 .left))
+    (caused tt 9 _ _ (sym (c .before .before .bad-number .ensures) ∙ c .before .if3 .taken) ∙ clear tt 8 _ _ (g .if2 .left) ∙ clear tt 7 _ _ (g .before .if1 .left))
 
 returns-4 : tie.Need-returns-4
 returns-4 c =
     let g = c .before .before in
-    let e = g .before .before in
-    all-clear tt 9 _ (sym (c .before .bad-number .ensures) ∙ c .if3 .left)
-    ∙ clear tt 8 _ _ (sym (g .before .bad-frequency .ensures) ∙ g .if2 .left)
-    ∙ clear tt 7 _ _ (sym (e .before .bad-tenor .ensures) ∙ e .if1 .left)
+    all-clear tt 9 _ (sym (c .before .bad-number .ensures) ∙ c .if3 .left) ∙ clear tt 8 _ _ (g .if2 .left) ∙ clear tt 7 _ _ (g .before .if1 .left)
 
 pub judge-terms-spec : {M : Type 1} → statement M
 judge-terms-spec =
     tie.close
     (tie.spec
-    bad-tenor-requires
     refuse-requires
     returns
-    bad-frequency-requires
     refuse-requires-2
     returns-2
     bad-number-requires
