@@ -11,6 +11,9 @@ pub mod BondBasis
 pub mod Tiling
 pub mod Following
 pub mod Bounds
+pub mod RankDates
+pub mod DayLists
+pub mod HasRun
 pub mod Asked
 pub mod Worked
 pub mod Exactly

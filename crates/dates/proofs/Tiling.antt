@@ -15,9 +15,10 @@ use Rattle.dates.specs.DayNumbers.{dayNumber}
 use Rattle.dates.specs.Counts.{actualDays}
 use Rattle.dates.specs.Months.{monthIndex, monthsLater}
 use Rattle.dates.specs.Periods.{isSpan, uncut, bound, wholePeriods, periodCount}
+use Rattle.dates.specs.inner.Ranks.{rank}
 use Rattle.dates.proofs.Tests.{both, decided, clash}
 use Rattle.dates.proofs.Parts.{parts}
-use Rattle.dates.proofs.Ranks.{Shaped, shaped, rank, rank-by-index, after-rank, not-after-rank, rank-after, rank-not-after}
+use Rattle.dates.proofs.Ranks.{Shaped, shaped, rank-by-index, after-rank, not-after-rank, rank-after, rank-not-after}
 use Rattle.dates.proofs.LaterMonths.{lastDay, last-day-bounds, in-month-index, in-month-rank, in-month-shaped, in-month-date, index-bounds, no-months-later}
 use Rattle.dates.proofs.InOrder.{later-number, no-later-number}
 
@@ -54,13 +55,13 @@ module _ (s : Span) (e : isSpan s ≡ true) where
   abbrev pub indexAt : ℕ → ℕ
   indexAt i = monthIndex (s .first) + i * s .step
 
-  abbrev dayAt : ℕ → ℕ
+  abbrev pub dayAt : ℕ → ℕ
   dayAt i = min (s .first .day) (lastDay (indexAt i))
 
   day-low : 1 ≤ s .first .day
   day-low = parts (s .first) (span-parts s e .first-is-date) .day-low
 
-  uncut-rank : (i : ℕ) → rank (uncut s i) ≡ indexAt i * 32 + dayAt i
+  pub uncut-rank : (i : ℕ) → rank (uncut s i) ≡ indexAt i * 32 + dayAt i
   unfolding uncut monthsLater
   uncut-rank i = in-month-rank (indexAt i) (s .first .day)
 

@@ -1,0 +1,28 @@
+-- Lists that follow a rule, written place by place, and the days of a run of periods in two of them. Assumes nothing.
+use mathlib.Core.Path.{_≡_, sym, ap, _∙_}
+use mathlib.Core.Logic.{⊎-elim}
+use mathlib.Core.List.{List, _++_}
+use Prim.Native.Nat.{ℕ, _+_, _<_}
+use native.Mathlib.Omega.{arith}
+use lib.Dec.{eqb}
+use lib.ListN.{length, set, getD, List·getD-append}
+use lib.Seq.{getD-set-same, getD-set-other}
+use borrow.Author.Tests.{eqb-true, eqb-false}
+use Rattle.dates.specs.inner.DayLists.{Follows}
+use Rattle.dates.proofs.Tests.{decided}
+
+-- ---- one place more
+pub one-more-follows : {A : Type 0} (d : A) (rule : ℕ → A) (xs : List A) (j : ℕ) (x : A) → j < length xs → x ≡ rule j → ((i : ℕ) → i < j → getD xs i d ≡ rule i)
+    → (i : ℕ) → i < j + 1 → getD (set xs j x) i d ≡ rule i
+one-more-follows d rule xs j x h is before i l =
+    ⊎-elim
+    (λ e. let same = eqb-true i j e in ap (λ (n : ℕ). getD (set xs j x) n d) same ∙ getD-set-same xs j x d h ∙ is ∙ ap rule (sym same))
+    (λ e. let other = eqb-false i j e in getD-set-other xs j i x d other ∙ before i (earlier i j l other))
+    (decided (eqb i j))
+  where
+    earlier : (i j : ℕ) → i < j + 1 → (i ≡ j → ⊥) → i < j
+    earlier i j l n = omega arith
+
+-- fewer places
+pub fewer-follow : (rule : ℕ → ℕ) (xs : List ℕ) {n m : ℕ} → ((i : ℕ) → i < n → i < m) → Follows rule m xs → Follows rule n xs
+fewer-follow rule xs within f i h = f i (within i h)
