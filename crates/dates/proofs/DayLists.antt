@@ -1,12 +1,12 @@
--- Lists that follow a rule, written place by place, and the days of a run of periods in two of them. Assumes nothing.
+-- Lists that follow a rule, written place by place, and such a list in front of a room. Assumes nothing.
 use mathlib.Core.Path.{_≡_, sym, ap, _∙_}
 use mathlib.Core.Logic.{⊎-elim}
 use mathlib.Core.List.{List, _++_}
-use Prim.Native.Nat.{ℕ, _+_, _<_}
+use Prim.Native.Nat.{ℕ, _+_, _<_, _≤_}
 use native.Mathlib.Omega.{arith}
 use lib.Dec.{eqb}
-use lib.ListN.{length, set, getD, List·getD-append}
-use lib.Seq.{getD-set-same, getD-set-other}
+use lib.ListN.{length, take, drop, set, getD, List·getD-append}
+use lib.Seq.{getD-set-same, getD-set-other, length-take-le, length-front}
 use borrow.Author.Tests.{eqb-true, eqb-false}
 use Rattle.dates.specs.inner.DayLists.{Follows}
 use Rattle.dates.proofs.Tests.{decided}
@@ -26,3 +26,17 @@ one-more-follows d rule xs j x h is before i l =
 -- fewer places
 pub fewer-follow : (rule : ℕ → ℕ) (xs : List ℕ) {n m : ℕ} → ((i : ℕ) → i < n → i < m) → Follows rule m xs → Follows rule n xs
 fewer-follow rule xs within f i h = f i (within i h)
+
+-- ---- in front of a room
+module _ {A : Type 0} (room : List A) (n : ℕ) (within : n ≤ length room) where
+  pub front-count : n ≡ length (take n room)
+  front-count = sym (length-take-le n room within)
+
+  module _ (part : List A) (same : length part ≡ length (take n room)) where
+    pub front-long : (m : ℕ) → length room ≡ m → m ≡ length (part ++ drop n room)
+    front-long m e = sym (length-front room part n same ∙ e)
+
+    pub front-follows : (d : A) (rule : ℕ → A) → ((j : ℕ) → j < length part → getD part j d ≡ rule j) → (j : ℕ) → j < n → getD (part ++ drop n room) j d ≡ rule j
+    front-follows d rule f j h =
+        let l : j < length part = (let e = front-count in omega arith) in
+        List·getD-append part (drop n room) d j l ∙ f j l

@@ -14,6 +14,7 @@ pub mod Bounds
 pub mod RankDates
 pub mod DayLists
 pub mod HasRun
+pub mod RunDays
 pub mod Asked
 pub mod Worked
 pub mod Exactly
