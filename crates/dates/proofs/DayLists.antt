@@ -1,8 +1,8 @@
 -- Lists that follow a rule, written place by place, and such a list in front of a room. Assumes nothing.
-use mathlib.Core.Path.{_≡_, sym, ap, _∙_}
+use mathlib.Core.Path.{_≡_, refl, sym, ap, _∙_}
 use mathlib.Core.Logic.{⊎-elim}
-use mathlib.Core.List.{List, _++_}
-use Prim.Native.Nat.{ℕ, _+_, _<_, _≤_}
+use mathlib.Core.List.{List, [], _∷_, _++_}
+use Prim.Native.Nat.{ℕ, zero, suc, _+_, _<_, _≤_}
 use native.Mathlib.Omega.{arith}
 use lib.Dec.{eqb}
 use lib.ListN.{length, take, drop, set, getD, List·getD-append}
@@ -26,6 +26,16 @@ one-more-follows d rule xs j x h is before i l =
 -- fewer places
 pub fewer-follow : (rule : ℕ → ℕ) (xs : List ℕ) {n m : ℕ} → ((i : ℕ) → i < n → i < m) → Follows rule m xs → Follows rule n xs
 fewer-follow rule xs within f i h = f i (within i h)
+
+-- two lists that follow one rule to their end
+pub same-list : (rule : ℕ → ℕ) (xs ys : List ℕ) → length xs ≡ length ys → Follows rule (length xs) xs → Follows rule (length ys) ys → xs ≡ ys
+same-list rule [] [] e f g = refl
+same-list rule [] (y ∷ ys) e f g = absurd (omega arith)
+same-list rule (x ∷ xs) [] e f g = absurd (omega arith)
+same-list rule (x ∷ xs) (y ∷ ys) e f g =
+    let rest = same-list (λ (j : ℕ). rule (suc j)) xs ys (omega arith) (λ j h. f (suc j) (omega arith)) (λ j h. g (suc j) (omega arith)) in
+    let head : x ≡ y = f 0 (omega arith) ∙ sym (g 0 (omega arith)) in
+    ap (λ (u : ℕ). u ∷ xs) head ∙ ap (λ (us : List ℕ). y ∷ us) rest
 
 -- ---- in front of a room
 module _ {A : Type 0} (room : List A) (n : ℕ) (within : n ≤ length room) where

@@ -6,6 +6,7 @@ pub mod DatedSpans
 pub mod DaysBy
 pub mod PeriodLists
 pub mod PeriodsWritten
+pub mod DatedDays
 pub mod PaymentSums
 pub mod Writing
 pub mod Values
