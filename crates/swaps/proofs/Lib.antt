@@ -6,11 +6,11 @@ pub mod DatedSpans
 pub mod DaysBy
 pub mod PeriodLists
 pub mod PeriodsWritten
-pub mod DatedDays
 pub mod PaymentSums
 pub mod Writing
 pub mod Values
 pub mod Fronts
+pub mod DatedDays
 pub mod TriedRates
 pub mod Coupons
 pub mod ParLines

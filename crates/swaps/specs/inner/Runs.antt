@@ -39,7 +39,7 @@ HasPeriods (Undated s) = Unit
 HasPeriods (Dated s) = isSpan (spanOf s) ≡ true
 
 -- whether a day count's days are the 30/360 count's
-unfoldable pub byThirties : DayCount → Bool
+abbrev pub byThirties : DayCount → Bool
 byThirties Actual360 = false
 byThirties Actual365 = false
 byThirties Thirty360 = true
