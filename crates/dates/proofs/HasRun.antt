@@ -1,5 +1,5 @@
 -- Whether a span has a run of periods, asked test after test. Assumes nothing.
-use mathlib.Core.Path.{_≡_, refl, sym, ap, _∙_}
+use mathlib.Core.Path.{_≡_, sym, ap, _∙_}
 use mathlib.Core.Logic.{⊎-elim}
 use mathlib.Core.Bool.{Bool, true, false, _&&_}
 use Prim.Native.Nat.{ℕ, _+_, _≤_, _<_}
@@ -12,7 +12,7 @@ use Rattle.dates.specs.Calendar.{isDate, isAfter}
 use Rattle.dates.specs.Periods.{isSpan, periodCount}
 use Rattle.dates.proofs.Tests.{both, joined, decided, clash}
 use Rattle.dates.proofs.Following.{three-good}
-use Rattle.dates.proofs.Tiling.{SpanParts, span-parts}
+use Rattle.dates.proofs.Tiling.{span-parts}
 
 not-bad : (a b c : Bool) → a ≡ true → b ≡ true → c ≡ true → badDates a b c ≡ false
 unfolding badDates noSuchDate

@@ -9,7 +9,6 @@ use contract.Lifetimes.{Lfts}
 use denote.Triple.Clauses.{AtExit, Lasts, atExit}
 use Rattle.numbers.proofs.Determined.{Determined}
 use Rattle.refusals.proofs.OneToOne.{same-refusal, count-one-to-one}
-use Rattle.dates.specs.declared.Date.{Date}
 use Rattle.dates.specs.declared.DateAnswer.{DateAnswer}
 use Rattle.dates.specs.declared.DateAnswer.the-variants as date-is
 use Rattle.dates.specs.declared.periods.Span.{Span}
@@ -92,10 +91,10 @@ period-count-determined κs a span x y e e′ p q = p span ∙ sym (q span)
 same-days : (s : Span) (thirties : Bool) (first n : ℕ) (xs ys xs′ ys′ : List ℕ) → length xs ≡ n → length ys ≡ n → length xs′ ≡ n → length ys′ ≡ n
     → DaysListed s thirties first (length xs) xs ys → DaysListed s thirties first (length xs′) xs′ ys′ → (xs ≡ xs′) × (ys ≡ ys′)
 same-days s thirties first n xs ys xs′ ys′ a b c d l l′ = (
-      same-list (λ (j : ℕ). elapsedAt s (first + j)) xs xs′ (a ∙ sym c) (l .of-elapsed) (l′ .of-elapsed),
-      same-list (λ (j : ℕ). countedAt s thirties (first + j)) ys ys′ (b ∙ sym d) (subst (λ (m : ℕ). Follows (λ (j : ℕ). countedAt s thirties (first + j)) m ys) (a ∙ sym b) (l .of-counted))
-          (subst (λ (m : ℕ). Follows (λ (j : ℕ). countedAt s thirties (first + j)) m ys′) (c ∙ sym d) (l′ .of-counted)),
-    )
+  same-list (λ (j : ℕ). elapsedAt s (first + j)) xs xs′ (a ∙ sym c) (l .of-elapsed) (l′ .of-elapsed),
+  same-list (λ (j : ℕ). countedAt s thirties (first + j)) ys ys′ (b ∙ sym d) (subst (λ (m : ℕ). Follows (λ (j : ℕ). countedAt s thirties (first + j)) m ys) (a ∙ sym b) (l .of-counted))
+      (subst (λ (m : ℕ). Follows (λ (j : ℕ). countedAt s thirties (first + j)) m ys′) (c ∙ sym d) (l′ .of-counted)),
+)
 
 -- of a run that a span has, both lists are settled
 pub put-days-settled : (κs : Lfts 2) (a : Dens κs put-days-kinds.ps) (x y : resT put-days-kinds.r κs .Denot) (w w′ : Lasts (endedOf 2 put-days-kinds.ps put-days-kinds.r) κs a) (n : ℕ)

@@ -211,9 +211,6 @@ module _ (s : Span) (e : isSpan s ≡ true) where
   pub ends-at-second : bound s (periodCount s) ≡ s .second
   ends-at-second = bound-second (periodCount s) second-reached
 
-  pub month-past : (i : ℕ) → monthIndex (s .second) < monthIndex (s .first) + i * s .step → bound s i ≡ s .second
-  month-past i h = bound-second i (second-month-after i h)
-
   in-its-years : (i : ℕ) → 22800 ≤ indexAt i → indexAt i ≤ 26399 → isDate (uncut s i) ≡ true
   unfolding uncut monthsLater
   in-its-years i low high = in-month-date (indexAt i) (s .first .day) low high day-low
@@ -276,9 +273,6 @@ module _ (s : Span) (e : isSpan s ≡ true) where
 
     pub number-rises : dayNumber (bound s i) < dayNumber (bound s (suc i))
     number-rises = later-number (bound s i) (bound s (suc i)) (bound-is-date i) (bound-is-date (suc i)) rises
-
-    pub number-no-less : dayNumber (bound s i) ≤ dayNumber (bound s (suc i))
-    number-no-less = let n = number-rises in omega arith
 
     -- no period is empty
     pub not-empty : 0 < actualDays (bound s i) (bound s (suc i))

@@ -146,7 +146,14 @@ fn empty_bounds() -> [u32; 65]
 }
 
 // The days of at most 64 periods after the first ones, as many as the lists have places.
-fn fill_days(span: Span, count: u32, first: u32, thirties: bool, elapsed: &mut [u32], counted: &mut [u32])
+fn fill_days(
+    span: Span,
+    count: u32,
+    first: u32,
+    thirties: bool,
+    elapsed: &mut [u32],
+    counted: &mut [u32],
+)
     requires { ⌜ (isSpan span ≡ true) × (count ≡ periodCount span) × (first + length (now elapsed) ≤ count) × (length (now elapsed) ≤ 64) × (length (now elapsed) ≡ length (now counted)) ⌝ }
     ensures { λ _. ⌜ DaysListed span thirties first (length (now (elapsed .exit))) (now (elapsed .exit)) (now (counted .exit)) ⌝ }
 {

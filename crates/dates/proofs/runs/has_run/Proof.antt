@@ -1,5 +1,4 @@
 -- `dates::runs::has_run` meets its contract. Assumes nothing.
-use native.Mathlib.Omega.{arith}
 use Rattle.dates.proofs.HasRun.{by-dates, by-low-step, by-high-step, by-places, by-count}
 use borrow.Author.Needs.{needs}
 use Rattle.dates.proofs.runs.has_run.Statement.{statement}

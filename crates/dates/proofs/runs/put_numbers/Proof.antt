@@ -1,13 +1,12 @@
 -- `dates::runs::put_numbers` meets its contract: each turn writes the number of one rank more. Assumes nothing.
-use mathlib.Core.Path.{_≡_, refl, ap, _∙_}
-use Prim.Native.Nat.{ℕ, _+_, _-_, _≤_}
+use mathlib.Core.Path.{_≡_}
+use Prim.Native.Nat.{ℕ, _-_, _≤_}
 use native.Mathlib.Omega.{arith}
 use lib.ListN.{length, length-set}
 use Rattle.dates.specs.DayNumbers.{dayNumber}
 use Rattle.dates.specs.inner.Ranks.{dateOf}
 use Rattle.dates.specs.inner.DayLists.{entry, Follows}
 use Rattle.dates.proofs.DayLists.{one-more-follows, fewer-follow}
-use borrow.Author.Needs.{needs}
 use Rattle.dates.proofs.runs.put_numbers.Statement.{statement}
 use Rattle.dates.proofs.runs.put_numbers.Tie as tie
 

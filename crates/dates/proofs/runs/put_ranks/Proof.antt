@@ -1,5 +1,5 @@
 -- `dates::runs::put_ranks` meets its contract: each turn writes the rank of one bound more. Assumes nothing.
-use mathlib.Core.Path.{_≡_, refl, ap, _∙_}
+use mathlib.Core.Path.{_≡_}
 use Prim.Native.Nat.{ℕ, _+_, _-_, _≤_}
 use native.Mathlib.Omega.{arith}
 use lib.ListN.{length, length-set}
@@ -7,7 +7,6 @@ use Rattle.dates.specs.Periods.{bound}
 use Rattle.dates.specs.inner.Ranks.{rank}
 use Rattle.dates.specs.inner.DayLists.{Follows}
 use Rattle.dates.proofs.DayLists.{one-more-follows, fewer-follow}
-use borrow.Author.Needs.{needs}
 use Rattle.dates.proofs.runs.put_ranks.Statement.{statement}
 use Rattle.dates.proofs.runs.put_ranks.Tie as tie
 

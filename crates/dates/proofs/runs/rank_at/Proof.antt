@@ -1,5 +1,4 @@
 -- `dates::runs::rank_at` meets its contract: the second date's rank from the last on, else that of the months' end. Assumes nothing.
-use mathlib.Core.Path.{_≡_}
 use Prim.Native.Nat.{_+_, _*_, _≤_}
 use native.Mathlib.Omega.{arith}
 use Rattle.dates.proofs.RankDates.{second-index, index-within, rank-from-last, rank-before-last}
