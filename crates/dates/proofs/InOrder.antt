@@ -14,12 +14,13 @@ use Rattle.dates.specs.declared.Date.{Date}
 use Rattle.dates.specs.Calendar.{leap, daysIn, daysInYear, isDate, isAfter, daysLater}
 use Rattle.dates.specs.DayNumbers.{total, daysBeforeYear, daysBeforeMonth, dayNumber}
 use Rattle.dates.specs.Answers.{firstOfAll, lastOfAll, dayNumberOf, hasDate, dateNumbered}
+use Rattle.dates.specs.inner.Ranks.{rank}
 use Rattle.dates.proofs.Tests.{both, joined, decided, clash}
 use Rattle.dates.proofs.Parts.{Parts, parts}
 use Rattle.refusals.proofs.OneCause.{caused, all-clear}
 use Rattle.dates.proofs.YearDays.{year-more, years-no-less, in-2200}
 use Rattle.dates.proofs.MonthDays.{month-more, months-no-less, before-thirteenth}
-use Rattle.dates.proofs.Ranks.{Shaped, shaped, rank, after-rank, rank-after, same-rank}
+use Rattle.dates.proofs.Ranks.{Shaped, shaped, after-rank, rank-after, same-rank}
 use Rattle.dates.proofs.NextDay.{last-is-date, next-number, next-is-date}
 
 -- ---- the two ends

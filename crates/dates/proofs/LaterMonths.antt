@@ -6,8 +6,9 @@ use native.Mathlib.Omega.{arith}
 use Rattle.dates.specs.declared.Date.{Date}
 use Rattle.dates.specs.Calendar.{daysIn, isDate}
 use Rattle.dates.specs.Months.{monthIndex, dayInMonth, monthsLater}
+use Rattle.dates.specs.inner.Ranks.{rank}
 use Rattle.dates.proofs.Parts.{parts, of-parts, days-in-bounds}
-use Rattle.dates.proofs.Ranks.{Shaped, rank}
+use Rattle.dates.proofs.Ranks.{Shaped}
 
 -- the last day of a month, by its index
 abbrev pub lastDay : ℕ → ℕ

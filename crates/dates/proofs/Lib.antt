@@ -10,6 +10,10 @@ pub mod BondBasis
 pub mod Tiling
 pub mod Following
 pub mod Bounds
+pub mod RankDates
+pub mod DayLists
+pub mod HasRun
+pub mod RunDays
 pub mod Asked
 pub mod Worked
 pub mod Exactly

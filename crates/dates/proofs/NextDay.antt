@@ -9,10 +9,11 @@ use Rattle.dates.specs.declared.Date.{Date}
 use Rattle.dates.specs.Calendar.{daysIn, daysInYear, isDate, isAfter, nextDay}
 use Rattle.dates.specs.DayNumbers.{daysBeforeMonth, dayNumber}
 use Rattle.dates.specs.Answers.{lastOfAll}
+use Rattle.dates.specs.inner.Ranks.{rank}
 use Rattle.dates.proofs.Parts.{Parts, parts, of-parts, days-in-bounds}
 use Rattle.dates.proofs.YearDays.{year-more}
 use Rattle.dates.proofs.MonthDays.{month-more, in-january, before-thirteenth}
-use Rattle.dates.proofs.Ranks.{shaped, rank, after-rank}
+use Rattle.dates.proofs.Ranks.{shaped, after-rank}
 
 -- the days of a year are those before December and December's
 pub year-by-december : (year : ℕ) → daysInYear year ≡ daysBeforeMonth year 12 + daysIn year 12

@@ -8,6 +8,7 @@ use borrow.Author.Tests.{ltb-true, ltb-false, eqb-true, eqb-false, lt-ltb, le-lt
 use Rattle.dates.specs.declared.Date.{Date}
 use Rattle.dates.specs.Calendar.{isDate, isAfter}
 use Rattle.dates.specs.Months.{monthIndex}
+use Rattle.dates.specs.inner.Ranks.{rank}
 use Rattle.dates.proofs.Parts.{parts, days-in-bounds}
 
 pub record Shaped (d : Date) : Type 0 where
@@ -24,9 +25,6 @@ shaped d e =
 
 abbrev rankOf : ℕ → ℕ → ℕ → ℕ
 rankOf year month day = (year * 12 + (month - 1)) * 32 + day
-
-abbrev pub rank : Date → ℕ
-rank d = rankOf (d .year) (d .month) (d .day)
 
 pub rank-by-index : (d : Date) → rank d ≡ monthIndex d * 32 + d .day
 unfolding monthIndex

@@ -15,9 +15,10 @@ use Rattle.dates.specs.DayNumbers.{dayNumber}
 use Rattle.dates.specs.Counts.{actualDays}
 use Rattle.dates.specs.Months.{monthIndex, monthsLater}
 use Rattle.dates.specs.Periods.{isSpan, uncut, bound, wholePeriods, periodCount}
+use Rattle.dates.specs.inner.Ranks.{rank}
 use Rattle.dates.proofs.Tests.{both, decided, clash}
 use Rattle.dates.proofs.Parts.{parts}
-use Rattle.dates.proofs.Ranks.{Shaped, shaped, rank, rank-by-index, after-rank, not-after-rank, rank-after, rank-not-after}
+use Rattle.dates.proofs.Ranks.{Shaped, shaped, rank-by-index, after-rank, not-after-rank, rank-after, rank-not-after}
 use Rattle.dates.proofs.LaterMonths.{lastDay, last-day-bounds, in-month-index, in-month-rank, in-month-shaped, in-month-date, index-bounds, no-months-later}
 use Rattle.dates.proofs.InOrder.{later-number, no-later-number}
 
@@ -54,13 +55,13 @@ module _ (s : Span) (e : isSpan s ≡ true) where
   abbrev pub indexAt : ℕ → ℕ
   indexAt i = monthIndex (s .first) + i * s .step
 
-  abbrev dayAt : ℕ → ℕ
+  abbrev pub dayAt : ℕ → ℕ
   dayAt i = min (s .first .day) (lastDay (indexAt i))
 
   day-low : 1 ≤ s .first .day
   day-low = parts (s .first) (span-parts s e .first-is-date) .day-low
 
-  uncut-rank : (i : ℕ) → rank (uncut s i) ≡ indexAt i * 32 + dayAt i
+  pub uncut-rank : (i : ℕ) → rank (uncut s i) ≡ indexAt i * 32 + dayAt i
   unfolding uncut monthsLater
   uncut-rank i = in-month-rank (indexAt i) (s .first .day)
 
@@ -210,9 +211,6 @@ module _ (s : Span) (e : isSpan s ≡ true) where
   pub ends-at-second : bound s (periodCount s) ≡ s .second
   ends-at-second = bound-second (periodCount s) second-reached
 
-  pub month-past : (i : ℕ) → monthIndex (s .second) < monthIndex (s .first) + i * s .step → bound s i ≡ s .second
-  month-past i h = bound-second i (second-month-after i h)
-
   in-its-years : (i : ℕ) → 22800 ≤ indexAt i → indexAt i ≤ 26399 → isDate (uncut s i) ≡ true
   unfolding uncut monthsLater
   in-its-years i low high = in-month-date (indexAt i) (s .first .day) low high day-low
@@ -275,9 +273,6 @@ module _ (s : Span) (e : isSpan s ≡ true) where
 
     pub number-rises : dayNumber (bound s i) < dayNumber (bound s (suc i))
     number-rises = later-number (bound s i) (bound s (suc i)) (bound-is-date i) (bound-is-date (suc i)) rises
-
-    pub number-no-less : dayNumber (bound s i) ≤ dayNumber (bound s (suc i))
-    number-no-less = let n = number-rises in omega arith
 
     -- no period is empty
     pub not-empty : 0 < actualDays (bound s i) (bound s (suc i))

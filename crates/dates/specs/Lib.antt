@@ -4,3 +4,4 @@ pub mod Counts
 pub mod Months
 pub mod Periods
 pub mod Answers
+pub mod inner

@@ -28,7 +28,7 @@ pub fn bad_dates(first: Date, second: Date) -> bool
 }
 
 // What is left of a number, or 0.
-fn less(all: u32, part: u32) -> u32
+pub(crate) fn less(all: u32, part: u32) -> u32
     ensures { λ r. ⌜ r ≡ all - part ⌝ }
 {
     if all < part { 0 } else { all - part }

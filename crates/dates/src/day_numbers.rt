@@ -21,7 +21,7 @@ const FIRST: u32 = 2;
 const LAST: u32 = 109574;
 
 // The days of the years from 1900 before a year: 365 each, and one more for each fourth year that is no century, and for each fourth century.
-fn days_before_year(year: u32) -> u32
+pub(crate) fn days_before_year(year: u32) -> u32
     requires { ⌜ (1900 ≤ year) × (year < 65536) ⌝ }
     ensures { λ r. ⌜ r ≡ daysBeforeYear year ⌝ }
 {
@@ -30,7 +30,7 @@ fn days_before_year(year: u32) -> u32
 }
 
 // The days of a year's months before a month: 30 and 31 by turns, and two or one fewer behind February.
-fn days_before_month(year: u32, month: u32) -> u32
+pub(crate) fn days_before_month(year: u32, month: u32) -> u32
     requires { ⌜ (1 ≤ month) × (month ≤ 12) ⌝ }
     ensures { λ r. ⌜ r ≡ daysBeforeMonth year month ⌝ }
 {

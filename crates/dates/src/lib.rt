@@ -4,6 +4,7 @@ pub mod counts;
 pub mod day_numbers;
 pub mod months;
 pub mod periods;
+pub mod runs;
 
 // A year, a month from 1 and a day from 1, of the calendar or not.
 pub struct Date {

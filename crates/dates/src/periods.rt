@@ -1,13 +1,11 @@
-// Periods of so many months between two dates: how many there are, and where each ends.
+// Periods of so many months between two dates: how many there are.
 ghost use mathlib.Core.Path.{_≡_};
 ghost use mathlib.Core.Bool.{true};
 ghost use Prim.Native.Nat.{_-_};
-ghost use Rattle.dates.specs.DayNumbers.{dayNumber};
 ghost use Rattle.dates.specs.Months.{monthIndex};
-ghost use Rattle.dates.specs.Periods.{isSpan, bound, periodCount};
+ghost use Rattle.dates.specs.Periods.{isSpan, periodCount};
 use crate::Date;
 use crate::calendar::is_after;
-use crate::day_numbers::number_of;
 use crate::months::day_in_month;
 use crate::months::month_index;
 
@@ -18,39 +16,8 @@ pub struct Span {
     pub step: u32,
 }
 
-// A date with its day number.
-pub struct Numbered {
-    pub date: Date,
-    pub number: u32,
-}
-
 // The index of December 2199.
 const LAST_MONTH: u64 = 26399;
-
-// Where period i of so many ends, counted from 1: the last, and there may be no such date without it, at the second date.
-fn bound_date(span: Span, count: u32, i: u32) -> Date
-    ensures { λ r. ⌜ (isSpan span ≡ true → count ≡ periodCount span → r ≡ bound span i) ⌝ }
-{
-    if i >= count {
-        return span.second;
-    }
-    let index = month_index(span.first) as u64 + (i as u64) * (span.step as u64);
-    if index > LAST_MONTH {
-        return span.second;
-    }
-    day_in_month(index as u32, span.first.day)
-}
-
-// The same with its day number.
-pub fn bound_at(span: Span, count: u32, i: u32) -> Numbered
-    ensures { λ r. ⌜ (isSpan span ≡ true → count ≡ periodCount span → (r .date ≡ bound span i) × (r .number ≡ dayNumber (bound span i))) ⌝ }
-{
-    let date = bound_date(span, count, i);
-    Numbered {
-        date,
-        number: number_of(date),
-    }
-}
 
 // The months from the month of one date to that of another, 0 where it is not later.
 fn months_between(first: Date, second: Date) -> u32

@@ -10,6 +10,7 @@ pub mod PaymentSums
 pub mod Writing
 pub mod Values
 pub mod Fronts
+pub mod DatedDays
 pub mod TriedRates
 pub mod Coupons
 pub mod ParLines

@@ -16,3 +16,10 @@ pub(crate) fn empty_run() -> [f64; 64]
 {
     [0.0; 64]
 }
+
+// Room for the days of a run.
+pub(crate) fn no_days() -> [u32; 64]
+    ensures { λ r. ⌜ length r ≡ 64 ⌝ }
+{
+    [0; 64]
+}

@@ -29,7 +29,7 @@ fn put_undated(swap: Swap, first: u32, times: &mut [f64], fractions: &mut [f64])
 
 // Those of a swap of either kind.
 pub(crate) fn put_periods(swap: AnySwap, first: u32, times: &mut [f64], fractions: &mut [f64])
-    requires { ⌜ HasPeriods swap × (first + length (now times) ≤ termsOf swap .periods .count) × (termsOf swap .periods .count < 4294967296) × (length (now times) ≡ length (now fractions)) ⌝ }
+    requires { ⌜ HasPeriods swap × (first + length (now times) ≤ termsOf swap .periods .count) × (termsOf swap .periods .count < 4294967296) × (length (now times) ≤ 64) × (length (now times) ≡ length (now fractions)) ⌝ }
     ensures { λ _. ⌜ Listed (termsOf swap .periods) first (length (now (times .exit))) (now (times .exit)) (now (fractions .exit)) ⌝ }
 {
     match swap {

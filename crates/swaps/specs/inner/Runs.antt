@@ -1,21 +1,25 @@
 -- A run of periods, worked out together: their times and fractions, their discount factors, the sums up to a period, and the legs that these make.
 -- Definitions only. Assumes nothing.
 use mathlib.Core.Path.{_≡_}
-use mathlib.Core.Bool.{Bool, true}
+use mathlib.Core.Bool.{Bool, true, false}
 use mathlib.Core.List.{List}
 use Prim.Native.Nat.{ℕ, _+_, _<_}
 use lib.Ieee.{Float}
 use Rattle.numbers.specs.Sums.{addedUp}
 use Rattle.dates.specs.Periods.{isSpan}
+use Rattle.dates.specs.inner.DayLists.{entry}
 use Rattle.curves.specs.declared.kinds.Kind.the-variants as kind-is
 use Rattle.curves.specs.Segments.{knot}
 use Rattle.curves.specs.Kinds.{exponentAt}
 use Rattle.curves.specs.Runs.{dateAfter}
 use Rattle.swaps.specs.declared.AnySwap.{AnySwap}
 use Rattle.swaps.specs.declared.AnySwap.the-variants.{Undated, Dated}
+use Rattle.swaps.specs.declared.day_counts.DayCount.{DayCount}
+use Rattle.swaps.specs.declared.day_counts.DayCount.the-variants.{Actual360, Actual365, Thirty360}
 use Rattle.swaps.specs.declared.legs.PaymentSums.{PaymentSums}
 use Rattle.swaps.specs.declared.legs.BothSums.{BothSums}
 use Rattle.swaps.specs.declared.legs.Legs.{Legs}
+use Rattle.swaps.specs.DayCounts.{dayFraction}
 use Rattle.swaps.specs.Discount.{discountOf}
 use Rattle.swaps.specs.DatedSwap.{spanOf}
 use Rattle.swaps.specs.Periods.{Periods, Terms}
@@ -33,6 +37,16 @@ FactorsAfter dt tenors zeros first count factors = (j : ℕ) → j < count → k
 abbrev pub HasPeriods : AnySwap → Type 0
 HasPeriods (Undated s) = Unit
 HasPeriods (Dated s) = isSpan (spanOf s) ≡ true
+
+-- whether a day count's days are the 30/360 count's
+abbrev pub byThirties : DayCount → Bool
+byThirties Actual360 = false
+byThirties Actual365 = false
+byThirties Thirty360 = true
+
+-- so many days as fractions of a year
+abbrev pub FractionsOf : DayCount → List ℕ → ℕ → List Float → Type 0
+FractionsOf d days count fractions = (j : ℕ) → j < count → knot fractions j ≡ dayFraction d (entry days j)
 
 -- the times and the fractions of so many periods after the first ones
 pub record Listed (p : Periods) (first count : ℕ) (times fractions : List Float) : Type 0 where

@@ -1,185 +1,147 @@
--- `swaps::dated_periods::put_dated` meets its contract: each turn of the loop writes one period more. Assumes nothing.
-use mathlib.Core.Path.{_≡_, refl, ap, _∙_}
-use Prim.Native.Nat.{_+_, _-_, _≤_}
+-- `swaps::dated_periods::put_dated` meets its contract: the days of its span's periods, as fractions of a year. Assumes nothing.
+use mathlib.Core.Path.{_≡_, sym, ap, _∙_}
+use mathlib.Core.List.{List, _++_}
+use Prim.Native.Nat.{ℕ, _≤_}
 use native.Mathlib.Omega.{arith}
-use lib.ListN.{length, length-set}
-use Rattle.dates.specs.DayNumbers.{dayNumber}
-use Rattle.dates.specs.Periods.{bound, periodCount}
-use Rattle.swaps.specs.declared.DatedSwap.{DatedSwap}
-use Rattle.swaps.specs.declared.day_counts.DayCount.{DayCount}
-use Rattle.swaps.specs.DayCounts.{datedFraction}
-use Rattle.swaps.specs.DatedSwap.{spanOf}
+use lib.ListN.{length, take, drop}
+use Rattle.dates.specs.Periods.{periodCount}
+use Rattle.dates.specs.inner.DayLists.{DaysListed}
 use Rattle.swaps.specs.Periods.{ofDates}
-use Rattle.swaps.specs.inner.Runs.{Listed}
-use Rattle.swaps.proofs.PeriodLists.{none-listed, all-listed}
-use Rattle.swaps.proofs.PeriodsWritten.{Marks, span-is, not-before-first, all-numbered, one-dated-more}
 use Rattle.swaps.proofs.DatedSpans.{frequency-low}
+use Rattle.swaps.proofs.Fronts.{counted, still-long}
+use Rattle.swaps.proofs.PeriodLists.{all-listed}
+use Rattle.swaps.proofs.DatedDays.{span-is, days-in-front, dated-listed}
 use borrow.Author.Needs.{needs}
 use Rattle.swaps.proofs.dated_periods.put_dated.Statement.{statement}
 use Rattle.swaps.proofs.dated_periods.put_dated.Tie as tie
 
-abbrev Inv-loop : tie.InvT-loop
-Inv-loop first times₀ fractions₀ span count day-count from start₀ k₀ j₀ times fractions start k j =
-    (j ≤ length times)
-    × (k ≡ first + j)
-    × (length times ≡ length times₀)
-    × (length fractions ≡ length fractions₀)
-    × (first + length times ≤ count)
-    × Marks span k start
-    × ((s : DatedSwap) → span ≡ spanOf s → day-count ≡ s .«day_count» → from ≡ dayNumber (bound span 0) → Listed (ofDates s) first j times fractions)
+-- ---- the two rooms, and what is written in front of each
+first-fits : (c : tie.After-no-days) → length (c .before .before .before .args .times .now) ≤ length (c .no-days .result)
+first-fits c = omega (arith, c .before .before .before .pre .2, c .no-days .ensures)
 
-abbrev μ-loop : tie.MeasureT-loop
-μ-loop first times₀ fractions₀ span count day-count from start₀ k₀ j₀ times fractions start k j = length times₀ - j
+second-fits : (c : tie.After-no-days2) → length (c .before .before .before .before .args .times .now) ≤ length (c .no-days2 .result)
+second-fits c = omega (arith, c .before .before .before .before .pre .2, c .no-days2 .ensures)
 
-span-of-requires : tie.Need-span-of-requires Inv-loop μ-loop
-span-of-requires c κs = frequency-low (c .before .before .args .swap) (c .before .before .pre .0)
+first-count : (c : tie.After-no-days) → length (c .before .before .before .args .times .now) ≡ length (take (length (c .before .before .before .args .times .now)) (c .no-days .result))
+first-count c = counted _ _ (first-fits c)
 
-period-count-requires : tie.Need-period-count-requires Inv-loop μ-loop
-period-count-requires c κs = search needs
+second-count : (c : tie.After-no-days2) → length (c .before .before .before .before .args .times .now) ≡ length (take (length (c .before .before .before .before .args .times .now)) (c .no-days2 .result))
+second-count c = counted _ _ (second-fits c)
 
-bound-at-requires : tie.Need-bound-at-requires Inv-loop μ-loop
-bound-at-requires c κs = search needs
+abbrev elapsedOf : tie.After-put-days → List ℕ
+elapsedOf c = c .put-days .last .1 .1 .1 .0 ++ drop (length (c .before .before .before .before .before .before .before .before .before .args .times .now)) (c .before .before .before .before .before .before .no-days .result)
 
-bound-at-requires-2 : tie.Need-bound-at-requires-2 Inv-loop μ-loop
-bound-at-requires-2 c κs = search needs
+abbrev countedOf : tie.After-put-days → List ℕ
+countedOf c = c .put-days .last .1 .1 .1 .1 .0 ++ drop (length (c .before .before .before .before .before .before .before .before .before .args .times .now)) (c .before .before .before .before .before .no-days2 .result)
 
-loop-holds : tie.Need-loop-holds Inv-loop μ-loop
-loop-holds c =
-    let origin = c .before in
-    let counted = origin .before in
-    let spanned = counted .before in
-    let start = spanned .before .before .before in
-    let is = span-is _ (start .args .swap) (spanned .span-of .ensures) (start .pre .0) in
-    let count = counted .period-count .ensures is in
-    let within = ap periodCount (spanned .span-of .ensures) in (
-      omega arith,
-      omega arith,
-      omega arith,
-      omega arith,
-      omega (arith, start .pre .1, within),
-      c .bound-at2 .ensures is count,
-      λ s e d f. none-listed (ofDates s) _ _ _,
-    )
+elapsed-long : (c : tie.After-put-days) → 64 ≡ length (elapsedOf c)
+elapsed-long c =
+    let room = c .before .before .before .before .before .before in
+    still-long _ _ (first-fits room) (c .put-days .last .1 .1 .1 .0) (c .put-days .kept .1 .1 .1 .0) 64 (room .no-days .ensures)
 
-add-k : tie.Need-add-k Inv-loop μ-loop
-add-k c = omega arith
+counted-long : (c : tie.After-put-days) → 64 ≡ length (countedOf c)
+counted-long c =
+    let room = c .before .before .before .before .before in
+    still-long _ _ (second-fits room) (c .put-days .last .1 .1 .1 .1 .0) (c .put-days .kept .1 .1 .1 .1 .0) 64 (room .no-days2 .ensures)
 
-bound-at-requires-3 : tie.Need-bound-at-requires-3 Inv-loop μ-loop
-bound-at-requires-3 c κs = search needs
+days-listed : (c : tie.After-put-days) →
+    let start = c .before .before .before .before .before .before .before .before .before in
+    DaysListed (c .before .before .before .before .span-of .result) (c .before .before .before .by-thirties .result) (start .args .first) (length (start .args .times .now)) (elapsedOf c) (countedOf c)
+days-listed c =
+    let spanned = c .before .before .before .before in
+    let second = spanned .before in
+    let first = second .before in
+    let start = c .before .before .before .before .before .before .before .before .before in
+    let xs = c .put-days .last .1 .1 .1 .0 in
+    let ys = c .put-days .last .1 .1 .1 .1 .0 in
+    let kept : length xs ≡ length (start .args .times .now) = c .put-days .kept .1 .1 .1 .0 ∙ sym (first-count first) in
+    let alike : length ys ≡ length (start .args .times .now) = c .put-days .kept .1 .1 .1 .1 .0 ∙ sym (second-count second) in
+    let within = ap periodCount (spanned .span-of .ensures) in
+    days-in-front _ _ _ _ (first .no-days .result) (second .no-days2 .result) (first-fits first) (second-fits second) xs ys (c .put-days .kept .1 .1 .1 .0) (c .put-days .kept .1 .1 .1 .1 .0)
+    (c .put-days .ensures (span-is _ (start .args .swap) (spanned .span-of .ensures) (start .pre .0)) (omega (arith, start .pre .1, within, kept)) (omega (arith, start .pre .2, kept)) (kept ∙ sym alike))
 
-sub-day-count-fraction : tie.Need-sub-day-count-fraction Inv-loop μ-loop
-sub-day-count-fraction c =
-    let end = c .before in
-    let l = end .before .before .loop in
-    let origin = end .before .before .before .before in
-    let counted = origin .before in
-    let spanned = counted .before in
-    let start = spanned .before .before .before in
-    let is = span-is _ (start .args .swap) (spanned .span-of .ensures) (start .pre .0) in
-    let count = counted .period-count .ensures is in
-    not-before-first _ is (origin .bound-at .result) (l .start) (end .bound-at3 .result) (l .k) (origin .bound-at .ensures is count) (l .inv .5) (end .bound-at3 .ensures is count)
+no-days-requires : tie.Need-no-days-requires
+no-days-requires c κs = search needs
 
-day-count-fraction-requires : tie.Need-day-count-fraction-requires Inv-loop μ-loop
-day-count-fraction-requires c κs = search needs
+no-days-requires-2 : tie.Need-no-days-requires-2
+no-days-requires-2 c κs = search needs
 
-mul-times : tie.Need-mul-times Inv-loop μ-loop
-mul-times c = omega arith
+span-of-requires : tie.Need-span-of-requires
+span-of-requires c κs = let start = c .before .before .before .before in frequency-low (start .args .swap) (start .pre .0)
 
-slice-write-times : tie.Need-slice-write-times Inv-loop μ-loop
-slice-write-times c = omega arith
+by-thirties-requires : tie.Need-by-thirties-requires
+by-thirties-requires c κs = search needs
 
-fraction-between-requires : tie.Need-fraction-between-requires Inv-loop μ-loop
-fraction-between-requires c κs =
-    let end = c .before .before in
-    let l = end .before .before .loop in
-    let origin = end .before .before .before .before in
-    let counted = origin .before in
-    let spanned = counted .before in
-    let start = spanned .before .before .before in
-    let is = span-is _ (start .args .swap) (spanned .span-of .ensures) (start .pre .0) in
-    let count = counted .period-count .ensures is in
-    all-numbered _ is (origin .bound-at .result) (l .start) (end .bound-at3 .result) (l .k) (origin .bound-at .ensures is count) (l .inv .5) (end .bound-at3 .ensures is count)
-    (omega (arith, l .inv .4, count))
+array-borrow-prefix-elapsed : tie.Need-array-borrow-prefix-elapsed
+array-borrow-prefix-elapsed c = first-fits (c .before .before .before)
 
-mul-fractions : tie.Need-mul-fractions Inv-loop μ-loop
-mul-fractions c = omega arith
+slice-aggregate-put-days : tie.Need-slice-aggregate-put-days
+slice-aggregate-put-days c = first-count (c .before .before .before .before)
 
-slice-write-fractions : tie.Need-slice-write-fractions Inv-loop μ-loop
-slice-write-fractions c = omega arith
+array-borrow-prefix-counted : tie.Need-array-borrow-prefix-counted
+array-borrow-prefix-counted c = second-fits (c .before .before .before)
 
-add-j : tie.Need-add-j Inv-loop μ-loop
-add-j c = omega arith
+slice-aggregate-put-days-2 : tie.Need-slice-aggregate-put-days-2
+slice-aggregate-put-days-2 c = second-count (c .before .before .before .before)
 
-loop-less : tie.Need-loop-less Inv-loop μ-loop
-loop-less c = omega arith
+put-days-requires : tie.Need-put-days-requires
+put-days-requires c κs = search needs
 
-loop-again : tie.Need-loop-again Inv-loop μ-loop
-loop-again c =
-    let time = c .before in
-    let end = time .before .before in
-    let l = end .before .before .loop in
-    let origin = end .before .before .before .before in
-    let counted = origin .before in
-    let spanned = counted .before in
-    let start = spanned .before .before .before in
-    let is = span-is _ (start .args .swap) (spanned .span-of .ensures) (start .pre .0) in
-    let count = counted .period-count .ensures is in
-    let marked = end .bound-at3 .ensures is count in
-    let same = length-set (l .times) (l .j) (time .day-count-fraction .result) in
-    let alike = length-set (l .fractions) (l .j) (c .fraction-between .result) in (
-      omega arith,
-      omega (arith, l .inv .1),
-      omega arith,
-      omega arith,
-      omega (arith, l .inv .4),
-      marked,
-      λ s e d f.
-          one-dated-more _ is (origin .bound-at .result) (l .start) (end .bound-at3 .result) (l .k) (origin .bound-at .ensures is count) (l .inv .5) marked s e (start .args .first) (l .j)
-          (l .inv .1) (l .times) (l .fractions) (omega arith) (omega arith) _ _ (time .day-count-fraction .ensures)
-          (c .fraction-between .ensures ∙ ap (λ (x : DayCount). datedFraction x (l .start .date) (end .bound-at3 .result .date)) d) (l .inv .6 s e d f),
-    )
+slice-aggregate-put-fractions : tie.Need-slice-aggregate-put-fractions
+slice-aggregate-put-fractions c = elapsed-long (c .before .before .before)
 
-same-length : tie.Need-same-length Inv-loop μ-loop
-same-length c = omega arith
+put-fractions-requires : tie.Need-put-fractions-requires
+put-fractions-requires c κs =
+    let put = c .before .before .before .before in
+    omega (arith, put .before .before .before .before .before .before .before .before .before .pre .2, elapsed-long put)
 
-same-length-2 : tie.Need-same-length-2 Inv-loop μ-loop
-same-length-2 c = omega arith
+slice-aggregate-put-fractions-2 : tie.Need-slice-aggregate-put-fractions-2
+slice-aggregate-put-fractions-2 c = counted-long (c .before .before .before .before .before .before .before .before)
 
-returns : tie.Need-returns Inv-loop μ-loop
+put-fractions-requires-2 : tie.Need-put-fractions-requires-2
+put-fractions-requires-2 c κs =
+    let put = c .before .before .before .before .before .before .before .before .before in
+    let start = put .before .before .before .before .before .before .before .before .before in
+    omega (arith, start .pre .2, start .pre .3, counted-long put)
+
+same-length : tie.Need-same-length
+same-length c = search needs
+
+same-length-2 : tie.Need-same-length-2
+same-length-2 c = search needs
+
+returns : tie.Need-returns
 returns c =
-    let l = c .before .loop in
-    let origin = c .before .before .before in
-    let counted = origin .before in
-    let spanned = counted .before in
-    let start = spanned .before .before .before in
+    let parts = c .before .before in
+    let ends = c .before .before .before .before .before .before .before in
+    let put = c .before .before .before .before .before .before .before .before .before .before .before .before in
+    let start = put .before .before .before .before .before .before .before .before .before in
     let s = start .args .swap in
-    let is = span-is _ s (spanned .span-of .ensures) (start .pre .0) in
-    all-listed (ofDates s) _ (l .times) (l .fractions) (omega arith)
-    (l .inv .6 s (spanned .span-of .ensures) refl (origin .bound-at .ensures is (counted .period-count .ensures is) .1))
+    let times = ends .put-fractions .last .1 .1 .0 in
+    let fractions = parts .put-fractions2 .last .1 .1 .0 in
+    let kept = ends .put-fractions .kept .1 .1 .0 in
+    let alike = parts .put-fractions2 .kept .1 .1 .0 in
+    all-listed (ofDates s) (start .args .first) times fractions (sym kept)
+    (dated-listed s _ (put .before .before .before .before .span-of .ensures) _ (put .before .before .before .by-thirties .ensures) (start .args .first) _ (elapsedOf put) (countedOf put) (days-listed put) times fractions
+    (λ j h. ends .put-fractions .ensures j (omega (arith, h, kept))) (λ j h. parts .put-fractions2 .ensures j (omega (arith, h, alike, start .pre .3))))
 
 pub put-dated-spec : {M : Type 1} → statement M
 put-dated-spec =
     tie.close
     (tie.spec
-    Inv-loop
-    μ-loop
+    no-days-requires
+    no-days-requires-2
     span-of-requires
-    period-count-requires
-    bound-at-requires
-    bound-at-requires-2
-    loop-holds
-    add-k
-    bound-at-requires-3
-    sub-day-count-fraction
-    day-count-fraction-requires
-    mul-times
-    slice-write-times
-    fraction-between-requires
-    mul-fractions
-    slice-write-fractions
-    add-j
-    loop-less
-    loop-again
+    by-thirties-requires
+    array-borrow-prefix-elapsed
+    slice-aggregate-put-days
+    array-borrow-prefix-counted
+    slice-aggregate-put-days-2
+    put-days-requires
+    slice-aggregate-put-fractions
+    put-fractions-requires
+    slice-aggregate-put-fractions-2
+    put-fractions-requires-2
     same-length
     same-length-2
     returns)

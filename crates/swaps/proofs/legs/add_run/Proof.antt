@@ -44,7 +44,7 @@ put-periods-requires c κs =
     let count = start .args .count in
     let first-count = counted (second .before .empty-run .result) count (first-fits (second .before)) in
     let second-count = counted (second .empty-run2 .result) count (second-fits second) in
-    (start .pre .2, omega (arith, start .pre .3, first-count), start .pre .4, sym first-count ∙ second-count)
+    (start .pre .2, omega (arith, start .pre .3, first-count), start .pre .4, omega (arith, start .pre .0, first-count), sym first-count ∙ second-count)
 
 -- ---- what is written in front of the two rooms
 times-long : (c : tie.After-put-periods) → 64 ≡ length (c .put-periods .last .1 .1 .0 ++ drop (c .before .before .before .before .before .before .before .before .args .count) (c .before .before .before .before .empty-run .result))

@@ -25,7 +25,7 @@ put-dated-requires c κs =
     let told = c .before .before .before in
     let start = told .before .before .before .before in
     let is = told .swap2 .given .1 in
-    (subst HasPeriods is (start .pre .0), subst (λ (x : AnySwap). start .args .first + length (start .args .times .now) ≤ termsOf x .periods .count) is (start .pre .1), start .pre .3)
+    (subst HasPeriods is (start .pre .0), subst (λ (x : AnySwap). start .args .first + length (start .args .times .now) ≤ termsOf x .periods .count) is (start .pre .1), start .pre .3, start .pre .4)
 
 same-length : tie.Need-same-length
 same-length c = search needs
