@@ -8,7 +8,7 @@ use lib.Dec.{eqb}
 use lib.ListN.{length, take, drop, set, getD, List·getD-append}
 use lib.Seq.{getD-set-same, getD-set-other, length-take-le, length-front}
 use borrow.Author.Tests.{eqb-true, eqb-false}
-use Rattle.dates.specs.inner.DayLists.{Follows}
+use Rattle.dates.specs.DayLists.{Follows}
 use Rattle.dates.proofs.Tests.{decided}
 
 -- ---- one place more

@@ -10,7 +10,7 @@ use Rattle.dates.specs.DayNumbers.{dayNumber}
 use Rattle.dates.specs.Counts.{actualDays, thirtyDays}
 use Rattle.dates.specs.Periods.{isSpan, bound}
 use Rattle.dates.specs.inner.Ranks.{rank, dateOf}
-use Rattle.dates.specs.inner.DayLists.{entry, Follows, elapsedAt, countedAt}
+use Rattle.dates.specs.DayLists.{entry, Follows, elapsedAt, countedAt}
 use Rattle.dates.proofs.RankDates.{InYears, bound-of-rank, bound-in-years}
 use Rattle.dates.proofs.Tiling.{begins-at-first}
 

@@ -15,7 +15,7 @@ use Rattle.dates.specs.declared.periods.Span.{Span}
 use Rattle.dates.specs.Answers.{dateOutcome}
 use Rattle.dates.specs.Calendar.{isDate}
 use Rattle.dates.specs.Periods.{isSpan, periodCount}
-use Rattle.dates.specs.inner.DayLists.{Follows, elapsedAt, countedAt, DaysListed}
+use Rattle.dates.specs.DayLists.{Follows, elapsedAt, countedAt, DaysListed}
 use Rattle.dates.proofs.DayLists.{same-list}
 use Rattle.dates.proofs.calendar.is_date.Kinds as is-date-kinds
 use Rattle.dates.proofs.calendar.is_date.Reads as is-date

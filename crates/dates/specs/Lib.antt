@@ -4,4 +4,5 @@ pub mod Counts
 pub mod Months
 pub mod Periods
 pub mod Answers
+pub mod DayLists
 pub mod inner

@@ -8,7 +8,7 @@ ghost use Rattle.dates.specs.DayNumbers.{dayNumber};
 ghost use Rattle.dates.specs.Counts.{firstDay, secondDay, thirtyDays};
 ghost use Rattle.dates.specs.Periods.{isSpan, bound, periodCount};
 ghost use Rattle.dates.specs.inner.Ranks.{rank, dateOf};
-ghost use Rattle.dates.specs.inner.DayLists.{entry, Follows, DaysListed};
+ghost use Rattle.dates.specs.DayLists.{entry, Follows, DaysListed};
 use crate::calendar::days_in;
 use crate::counts::bad_dates;
 use crate::counts::less;

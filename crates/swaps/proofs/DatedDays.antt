@@ -10,7 +10,7 @@ use Rattle.dates.specs.declared.Date.{Date}
 use Rattle.dates.specs.declared.periods.Span.{Span}
 use Rattle.dates.specs.Counts.{actualDays, thirtyDays}
 use Rattle.dates.specs.Periods.{isSpan, bound}
-use Rattle.dates.specs.inner.DayLists.{DaysListed, elapsedAt, countedAt}
+use Rattle.dates.specs.DayLists.{DaysListed, elapsedAt, countedAt}
 use Rattle.dates.proofs.DayLists.{front-follows}
 use Rattle.swaps.specs.declared.DatedSwap.{DatedSwap}
 use Rattle.swaps.specs.declared.day_counts.DayCount.{DayCount}

@@ -7,7 +7,7 @@ use Prim.Native.Nat.{ℕ, _+_, _<_}
 use lib.Ieee.{Float}
 use Rattle.numbers.specs.Sums.{addedUp}
 use Rattle.dates.specs.Periods.{isSpan}
-use Rattle.dates.specs.inner.DayLists.{entry}
+use Rattle.dates.specs.DayLists.{entry}
 use Rattle.curves.specs.declared.kinds.Kind.the-variants as kind-is
 use Rattle.curves.specs.Segments.{knot}
 use Rattle.curves.specs.Kinds.{exponentAt}

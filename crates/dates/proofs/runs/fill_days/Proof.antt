@@ -4,7 +4,7 @@ use mathlib.Core.List.{List, _++_}
 use Prim.Native.Nat.{ℕ, _+_, _≤_}
 use native.Mathlib.Omega.{arith}
 use lib.ListN.{length, take, drop}
-use Rattle.dates.specs.inner.DayLists.{Follows}
+use Rattle.dates.specs.DayLists.{Follows}
 use Rattle.dates.proofs.RankDates.{InYears, bound-in-years}
 use Rattle.dates.proofs.DayLists.{front-count, front-long, front-follows, fewer-follow}
 use Rattle.dates.proofs.RunDays.{RankOf, NumberOf, ranks-in-years, numbers-of-ranks, elapsed-days, by-thirties, by-actual-days}

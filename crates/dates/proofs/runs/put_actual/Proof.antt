@@ -3,7 +3,7 @@ use mathlib.Core.Path.{_≡_}
 use Prim.Native.Nat.{ℕ, _+_, _-_, _≤_}
 use native.Mathlib.Omega.{arith}
 use lib.ListN.{length, length-set}
-use Rattle.dates.specs.inner.DayLists.{entry, Follows}
+use Rattle.dates.specs.DayLists.{entry, Follows}
 use Rattle.dates.proofs.DayLists.{one-more-follows, fewer-follow}
 use borrow.Author.Needs.{needs}
 use Rattle.dates.proofs.runs.put_actual.Statement.{statement}

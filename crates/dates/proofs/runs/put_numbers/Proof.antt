@@ -5,7 +5,7 @@ use native.Mathlib.Omega.{arith}
 use lib.ListN.{length, length-set}
 use Rattle.dates.specs.DayNumbers.{dayNumber}
 use Rattle.dates.specs.inner.Ranks.{dateOf}
-use Rattle.dates.specs.inner.DayLists.{entry, Follows}
+use Rattle.dates.specs.DayLists.{entry, Follows}
 use Rattle.dates.proofs.DayLists.{one-more-follows, fewer-follow}
 use Rattle.dates.proofs.runs.put_numbers.Statement.{statement}
 use Rattle.dates.proofs.runs.put_numbers.Tie as tie

@@ -5,7 +5,7 @@ use native.Mathlib.Omega.{arith}
 use lib.ListN.{length, length-set}
 use Rattle.dates.specs.Periods.{bound}
 use Rattle.dates.specs.inner.Ranks.{rank}
-use Rattle.dates.specs.inner.DayLists.{Follows}
+use Rattle.dates.specs.DayLists.{Follows}
 use Rattle.dates.proofs.DayLists.{one-more-follows, fewer-follow}
 use Rattle.dates.proofs.runs.put_ranks.Statement.{statement}
 use Rattle.dates.proofs.runs.put_ranks.Tie as tie

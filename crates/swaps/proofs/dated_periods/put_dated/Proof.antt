@@ -5,7 +5,7 @@ use Prim.Native.Nat.{ℕ, _≤_}
 use native.Mathlib.Omega.{arith}
 use lib.ListN.{length, take, drop}
 use Rattle.dates.specs.Periods.{periodCount}
-use Rattle.dates.specs.inner.DayLists.{DaysListed}
+use Rattle.dates.specs.DayLists.{DaysListed}
 use Rattle.swaps.specs.Periods.{ofDates}
 use Rattle.swaps.proofs.DatedSpans.{frequency-low}
 use Rattle.swaps.proofs.Fronts.{counted, still-long}

@@ -4,7 +4,7 @@ use mathlib.Core.Path.{_≡_}
 use native.Mathlib.Omega.{arith}
 use lib.ListN.{length, length-set}
 use lib.Ieee.{nan}
-use Rattle.dates.specs.inner.DayLists.{entry}
+use Rattle.dates.specs.DayLists.{entry}
 use Rattle.dates.proofs.DayLists.{one-more-follows}
 use Rattle.swaps.specs.DayCounts.{dayFraction}
 use Rattle.swaps.specs.inner.Runs.{FractionsOf}
