@@ -1011,35 +1011,40 @@ static inline SENYOLANDA_CHECKED senyolanda_result senyolanda_flows_duration_con
  * STACK. The bytes of stack that each function (senyolanda_..) touches beyond the call itself, at the largest input that it takes:
  * the larger of what was measured for Arm and for x86-64.
  *
- *     39616 dated_z_spread                      508 swap_curve_rate_each                  0 bond_current_yield
- *     38704 pool_convexity                      508 zero_curve_rate_each                  0 bond_dv01
- *     38704 pool_duration                       488 bond_convexity                        0 bond_price
- *     38608 pool_price                          488 bond_macaulay_duration_at_price       0 day_count_fraction
- *     21984 dated_duration_convexity            488 bond_modified_duration_at_price       0 discount_curve_rate
- *     21936 dated_pv                            488 bond_price_change                     0 linear_interpolate
- *     20384 z_spread                            456 bond_macaulay_duration                0 ln
- *      9824 pool_cash_flows                     456 bond_modified_duration                0 look_up_year
- *      7856 bootstrap                           408 draw_book                             0 ltv
- *      3968 cubic_spline_interpolate            360 bond_yield_to_maturity                0 monthly_payment
- *      3152 value_swap                          200 draw_with_years                       0 nelson_siegel_instantaneous_forward
- *      3040 swap_dv01                           152 draw                                  0 nelson_siegel_metrics
- *      2752 duration_convexity                   96 zero_curve_forward_rate               0 next_row
- *      2704 pv_cash_flows                        64 nelson_siegel_forward_rate            0 open
- *      1920 nelson_siegel_fit                    64 nelson_siegel_yield                   0 open_with_payment
- *      1888 swap_npv                             48 read_swap                             0 periods_per_year
- *      1872 fixed_leg_pv                         32 monthly_smm                           0 points_to_decimal
- *      1872 floating_leg_pv                      32 read_row                              0 prepayment_savings
- *      1872 par_swap_rate                        32 refinance_breakeven                   0 read_loan
- *      1872 swap_duration                        24 pool_totals                           0 remaining_balance
- *      1488 par_yield                            24 read_bond                             0 swap_curve_rate
- *       936 listing                              16 discount_curve_factor                 0 total_interest
- *       928 discount_curve_factor_each           16 exp                                   0 write_bond
- *       928 yield_curve_discount_factor_each     16 power                                 0 write_loan
- *       928 zero_curve_discount_factor_each      16 yield_curve_discount_factor           0 write_row
- *       784 exp_each                             16 zero_coupon_bond_price                0 write_swap
- *       520 bond_convexity_at_price              16 zero_curve_discount_factor            0 zero_curve_rate
- *       508 discount_curve_rate_each              8 bond_cash_flows
- *       508 linear_interpolate_each               8 yield_curve_forward_rate
+ *     39616 dated_z_spread                      508 discount_curve_rate_each             16 zero_curve_discount_factor
+ *     38704 pool_convexity                      508 linear_interpolate_each               8 bond_cash_flows
+ *     38704 pool_duration                       508 swap_curve_rate_each                  8 yield_curve_forward_rate
+ *     38608 pool_price                          508 zero_curve_rate_each                  0 bond_current_yield
+ *     21984 dated_duration_convexity            488 bond_convexity                        0 bond_dv01
+ *     21936 dated_pv                            488 bond_macaulay_duration_at_price       0 bond_price
+ *     20384 z_spread                            488 bond_modified_duration_at_price       0 day_count_fraction
+ *      9824 pool_cash_flows                     488 bond_price_change                     0 day_number
+ *      7856 bootstrap                           456 bond_macaulay_duration                0 discount_curve_rate
+ *      5768 value_dated_swap                    456 bond_modified_duration                0 linear_interpolate
+ *      5704 value_swap                          408 draw_book                             0 ln
+ *      5672 dated_swap_dv01                     360 bond_yield_to_maturity                0 look_up_year
+ *      5608 swap_dv01                           200 draw_with_years                       0 ltv
+ *      4632 dated_swap_npv                      152 draw                                  0 monthly_payment
+ *      4600 dated_par_swap_rate                  96 read_dated_swap                       0 months_later
+ *      4600 dated_swap_duration                  96 zero_curve_forward_rate               0 nelson_siegel_instantaneous_forward
+ *      4568 swap_npv                             72 write_dated_swap                      0 nelson_siegel_metrics
+ *      4552 par_swap_rate                        68 date_of_number                        0 next_row
+ *      4552 swap_duration                        64 nelson_siegel_forward_rate            0 open
+ *      4504 fixed_leg_pv                         64 nelson_siegel_yield                   0 open_with_payment
+ *      4504 floating_leg_pv                      56 actual_days                           0 periods_per_year
+ *      4440 dated_fixed_leg_pv                   56 dated_fraction                        0 points_to_decimal
+ *      4440 dated_floating_leg_pv                48 read_swap                             0 prepayment_savings
+ *      3968 cubic_spline_interpolate             40 days_30_360                           0 read_loan
+ *      2752 duration_convexity                   32 monthly_smm                           0 remaining_balance
+ *      2704 pv_cash_flows                        32 read_row                              0 swap_curve_rate
+ *      1920 nelson_siegel_fit                    32 refinance_breakeven                   0 total_interest
+ *      1488 par_yield                            24 pool_totals                           0 write_bond
+ *       936 listing                              24 read_bond                             0 write_loan
+ *       928 discount_curve_factor_each           16 discount_curve_factor                 0 write_row
+ *       928 yield_curve_discount_factor_each     16 exp                                   0 write_swap
+ *       928 zero_curve_discount_factor_each      16 power                                 0 zero_curve_rate
+ *       784 exp_each                             16 yield_curve_discount_factor
+ *       520 bond_convexity_at_price              16 zero_coupon_bond_price
  */
 
 #ifdef __cplusplus
