@@ -25,11 +25,12 @@ growth r n = wholePower (add binary64 one r) n
 unfoldable pub levelPayment : Float → Float → Float → Float
 levelPayment P r f = div binary64 (mul binary64 (mul binary64 P r) f) (sub binary64 f one)
 
--- "If r is 0, P/n; else P·r·f/(f-1)"
+-- "If r is 0, P/n; else P·r·f/(f-1)", over n months with the factor f
+abbrev pub paymentBy : Float → Float → ℕ → Float → Float
+paymentBy P r n f = cond (eq r plusZero) (div binary64 P (ofInt binary64 (pos n))) (levelPayment P r f)
+
 unfoldable pub payment : Terms → Float
-payment t =
-    cond (eq (monthlyRate (t .rate)) plusZero) (div binary64 (t .principal) (ofInt binary64 (pos (t .term))))
-    (levelPayment (t .principal) (monthlyRate (t .rate)) (growth (monthlyRate (t .rate)) (t .term)))
+payment t = paymentBy (t .principal) (monthlyRate (t .rate)) (t .term) (growth (monthlyRate (t .rate)) (t .term))
 
 -- what `monthly_payment` answers
 unfoldable pub monthlyPayment : Terms → Outcome Float

@@ -1,7 +1,7 @@
 -- Rows from places of a room: how many are laid there, of one loan and of two loans at once, whatever is asked. Definitions only. Assumes nothing.
 use Prim.Native.Nat.{ℕ, _-_, min}
 use Rattle.mortgage.specs.declared.Loan.{Loan}
-use Rattle.mortgage.specs.Draws.{count}
+use Rattle.mortgage.specs.Level.{count}
 
 -- of the rows that are asked for, those that are due and lie between the place and the end
 abbrev pub countAt : Loan → ℕ → ℕ → ℕ → ℕ

@@ -9,8 +9,7 @@ use Rattle.records.specs.declared.Terms.{Terms}
 use Rattle.mortgage.specs.declared.Loan.{Loan}
 use Rattle.mortgage.specs.Terms.{termsLines}
 use Rattle.mortgage.specs.Payment.{payment, loanOf}
-use Rattle.mortgage.specs.Month.{rowOf}
-use Rattle.mortgage.specs.Rows.{after}
+use Rattle.mortgage.specs.Level.{rowOf, after}
 
 -- the interest of the row k of a loan, from 0
 abbrev pub interestAt : Loan → ℕ → Float

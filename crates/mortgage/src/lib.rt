@@ -1,9 +1,11 @@
-// Mortgages: a loan's payment, its opening, its rows, and draws of them into lent room, with year-end totals beside them.
+// Mortgages: a loan's payment, its opening, its rows, and draws of them into lent room, with year-end totals beside them: level, interest-only, balloon and adjustable loans.
 pub mod breakeven;
 pub mod draws;
+pub mod kinds;
 pub mod opening;
 pub mod pairs;
 pub mod payment;
+pub mod rates;
 pub mod rows;
 pub mod savings;
 pub mod terms;

@@ -4,13 +4,15 @@ ghost use Prim.Native.Nat.{_+_, _*_, _<_, _≤_};
 ghost use lib.ListN.{length};
 ghost use lib.Seq.{sets};
 ghost use Rattle.mortgage.specs.Row.{width};
-ghost use Rattle.mortgage.specs.Month.{endMonth};
-ghost use Rattle.mortgage.specs.Rows.{after, rows};
+ghost use Rattle.mortgage.specs.Kinds.{level, courseOf};
+ghost use Rattle.mortgage.specs.Level.{endMonth, after, rows};
 ghost use Rattle.mortgage.specs.Places.{countAt, countAtBoth};
 use crate::Loan;
 use crate::draws::WIDTH;
 use crate::draws::fewer;
 use crate::draws::put_row;
+use crate::kinds::Course;
+use crate::kinds::Kind;
 
 // Two loans in hand.
 pub struct Pair {
@@ -38,13 +40,21 @@ fn count_at(loan: Loan, asked: u32, at: usize, end: usize) -> u32
     )
 }
 
+// The months of a level loan.
+fn level_course(loan: Loan) -> Course
+    ensures { λ r. ⌜ r ≡ courseOf level (loan .term) ⌝ }
+{
+    crate::kinds::course_of(Kind::Level, loan.term)
+}
+
 // The next rows of a loan, from a place of the room.
 fn lay_from(loan: Loan, room: &mut [f64], at: usize, count: u32) -> Loan
     requires { ⌜ (0 < count) × (at + count * width ≤ length (now room)) × (loan .done + count ≤ endMonth loan) ⌝ }
     ensures { λ r. ⌜ r ≡ after count loan ⌝ }
     ensures { λ _. ⌜ now (room .exit) ≡ sets (now (room .entry)) at (rows count loan) ⌝ }
 {
-    crate::draws::lay_rows(loan, &mut room[at..], count, count - 1)
+    let course = level_course(loan);
+    crate::draws::lay_rows(loan, course, &mut room[at..], count, count - 1)
 }
 
 // Rows of ordinary months of two loans at once, fewer than so many of each: it stops before a month whose principal a bound changes.
@@ -55,6 +65,8 @@ fn pair_rows(first: Loan, second: Loan, room: &mut [f64], a: usize, b: usize, mo
     ensures { λ r. ⌜ (r .count < most) × (r .first ≡ after (r .count) first) × (r .second ≡ after (r .count) second) ⌝ }
     ensures { λ r. ⌜ now (room .exit) ≡ sets (sets (now (room .entry)) a (rows (r .count) first)) b (rows (r .count) second) ⌝ }
 {
+    let x_course = level_course(first);
+    let y_course = level_course(second);
     let x_rate = crate::payment::monthly_rate(first.rate);
     let y_rate = crate::payment::monthly_rate(second.rate);
     let mut x = first;
@@ -79,10 +91,10 @@ fn pair_rows(first: Loan, second: Loan, room: &mut [f64], a: usize, b: usize, mo
         if y_principal < y.balance {} else {
             break;
         }
-        let x_month = crate::rows::ordinary_month(x, x_interest, x_principal);
+        let x_month = crate::rows::ordinary_month(x, x_course, x_interest, x_principal);
         let x_row = x_month.row;
         let x_next = x_month.next;
-        let y_month = crate::rows::ordinary_month(y, y_interest, y_principal);
+        let y_month = crate::rows::ordinary_month(y, y_course, y_interest, y_principal);
         let y_row = y_month.row;
         let y_next = y_month.next;
         put_row(room, x_at, x_row);

@@ -1,7 +1,7 @@
 // The monthly payment.
 ghost use mathlib.Core.Path.{_≡_};
 ghost use Rattle.refusals.specs.Answers.{numberOutcome};
-ghost use Rattle.mortgage.specs.Payment.{monthlyRate, levelPayment, payment, monthlyPayment};
+ghost use Rattle.mortgage.specs.Payment.{monthlyRate, growth, levelPayment, paymentBy, payment, monthlyPayment};
 use records::Terms;
 use refusals::Number;
 use refusals::Verdict;
@@ -19,19 +19,29 @@ fn level_payment(principal: f64, r: f64, factor: f64) -> f64
     principal * r * factor / (factor - 1.0)
 }
 
+// The growth of 1 over so many months.
+pub(crate) fn growth(r: f64, months: u32) -> f64
+    ensures { λ f. ⌜ f ≡ growth r months ⌝ }
+{
+    elementary::whole_power::whole_power(1.0 + r, months)
+}
+
+// The payment over so many months, whose growth is the factor.
+pub(crate) fn payment_by(principal: f64, r: f64, months: u32, factor: f64) -> f64
+    ensures { λ p. ⌜ p ≡ paymentBy principal r months factor ⌝ }
+{
+    if r == 0.0 {
+        return principal / months as f64;
+    }
+    level_payment(principal, r, factor)
+}
+
 // The payment that the terms work out to, whatever they are.
 pub(crate) fn worked_out(terms: Terms) -> f64
     ensures { λ p. ⌜ p ≡ payment terms ⌝ }
 {
     let r = monthly_rate(terms.rate);
-    if r == 0.0 {
-        return terms.principal / terms.term as f64;
-    }
-    level_payment(
-        terms.principal,
-        r,
-        elementary::whole_power::whole_power(1.0 + r, terms.term),
-    )
+    payment_by(terms.principal, r, terms.term, growth(r, terms.term))
 }
 
 pub fn monthly_payment(terms: Terms) -> Number

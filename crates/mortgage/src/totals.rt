@@ -3,9 +3,10 @@ ghost use mathlib.Core.Path.{_≡_};
 ghost use Prim.Native.Nat.{_+_, _≤_, min};
 ghost use Rattle.numbers.specs.Sums.{addedUp};
 ghost use Rattle.refusals.specs.Answers.{numberOutcome};
-ghost use Rattle.mortgage.specs.Month.{endMonth};
+ghost use Rattle.mortgage.specs.Level.{endMonth};
 ghost use Rattle.mortgage.specs.Totals.{interestAt, interestSum, totalInterest, balanceAfter, remainingBalance, loanToValue};
 use crate::Loan;
+use crate::kinds::Kind;
 use records::Terms;
 use refusals::Number;
 use refusals::Verdict;
@@ -15,11 +16,12 @@ fn interest_over(loan: Loan, count: u32) -> f64
     requires { ⌜ loan .done + count ≤ endMonth loan ⌝ }
     ensures { λ r. ⌜ r ≡ addedUp (interestAt loan) count ⌝ }
 {
+    let course = crate::kinds::course_of(Kind::Level, loan.term);
     let mut l = loan;
     let mut total = 0.0;
     let mut k: u32 = 0;
     while k < count {
-        let month = crate::rows::any_month(l);
+        let month = crate::rows::any_month(l, course);
         let row = month.row;
         let next = month.next;
         total = total + row.interest;
@@ -51,11 +53,12 @@ fn balance_after(loan: Loan, count: u32) -> f64
     requires { ⌜ loan .done + count ≤ endMonth loan ⌝ }
     ensures { λ r. ⌜ r ≡ balanceAfter loan count ⌝ }
 {
+    let course = crate::kinds::course_of(Kind::Level, loan.term);
     let mut l = loan;
     let mut balance = loan.balance;
     let mut k: u32 = 0;
     while k < count {
-        let month = crate::rows::any_month(l);
+        let month = crate::rows::any_month(l, course);
         let row = month.row;
         let next = month.next;
         balance = row.balance;

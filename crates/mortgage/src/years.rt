@@ -3,16 +3,21 @@ ghost use mathlib.Core.Path.{_≡_};
 ghost use Prim.Native.Nat.{_+_, _*_, _/_, _%_, _<_, _≤_};
 ghost use lib.ListN.{length};
 ghost use lib.Seq.{sets};
+ghost use lib.Ieee.{Float};
+ghost use mathlib.Core.List.{List};
+ghost use Rattle.mortgage.specs.Kinds.{wayOf};
 ghost use Rattle.refusals.specs.Table.{tooFewLines};
 ghost use Rattle.mortgage.specs.Row.{width};
 ghost use Rattle.mortgage.specs.Draws.{drawingOutcome};
 ghost use Rattle.mortgage.specs.Years.{startedYears, yearWidth, yearPlaces, yearFrom, unbegun, goesOnFrom, enteredUpTo};
 ghost use Rattle.mortgage.specs.YearDraws.{drawnWithYears, filledWithYears, summed, lookedUp, yearOutcome};
+ghost use Rattle.mortgage.specs.Level.{drawnWithYears as levelDrawnWithYears, filledWithYears as levelFilledWithYears, summed as levelSummed, lookedUp as levelLookedUp};
 ghost use Rattle.mortgage.specs.inner.RoomRows.{rowsFrom, withRows};
 use crate::Loan;
 use crate::draws::Drawing;
 use crate::draws::WIDTH;
 use crate::draws::fewer;
+use crate::kinds::Kind;
 
 // The number of places of a year's line.
 pub const YEAR_WIDTH: usize = 4;
@@ -155,11 +160,11 @@ fn enter_rows(room: &[f64], count: u32, done: u32, years: &mut [f64])
     }
 }
 
-// The draw, with the rows that it wrote entered into their years' lines. It hands the loan back as the plain draw does.
-pub fn draw_with_years(loan: Loan, room: &mut [f64], years: &mut [f64]) -> Drawing
-    ensures { λ r. ⌜ drawingOutcome r ≡ drawnWithYears loan (now (room .entry)) (now (years .entry)) ⌝ }
-    ensures { λ _. ⌜ now (room .exit) ≡ filledWithYears loan (now (room .entry)) (now (years .entry)) ⌝ }
-    ensures { λ _. ⌜ now (years .exit) ≡ summed loan (now (room .entry)) (now (years .entry)) ⌝ }
+// The draw of a loan of any kind, with the rows that it wrote entered into their years' lines. It hands the loan back as the draw does.
+pub fn draw_kind_with_years(kind: Kind, loan: Loan, index: &[f64], room: &mut [f64], years: &mut [f64]) -> Drawing
+    ensures { λ r. ⌜ drawingOutcome r ≡ drawnWithYears (wayOf kind (now (index .entry))) loan (now (room .entry)) (now (years .entry)) ⌝ }
+    ensures { λ _. ⌜ now (room .exit) ≡ filledWithYears (wayOf kind (now (index .entry))) loan (now (room .entry)) (now (years .entry)) ⌝ }
+    ensures { λ _. ⌜ now (years .exit) ≡ summed (wayOf kind (now (index .entry))) loan (now (room .entry)) (now (years .entry)) ⌝ }
 {
     if refusals::bad_term(loan.term) {
         return Drawing::Refused(refusals::refuse(2));
@@ -167,7 +172,7 @@ pub fn draw_with_years(loan: Loan, room: &mut [f64], years: &mut [f64]) -> Drawi
     if too_few(loan.term, years.len()) {
         return Drawing::Refused(refusals::refuse(3));
     }
-    match crate::draws::draw(loan, room) {
+    match crate::draws::draw_kind(kind, loan, index, room) {
         Drawing::Refused(refusal) => Drawing::Refused(refusal),
         Drawing::Drawn(portion) => {
             enter_rows(room, portion.written, loan.done, years);
@@ -176,9 +181,18 @@ pub fn draw_with_years(loan: Loan, room: &mut [f64], years: &mut [f64]) -> Drawi
     }
 }
 
-// The line of a year, counted from 1, once a row of that year is drawn.
-pub fn look_up_year(loan: Loan, years: &[f64], year: u32) -> YearAnswer
-    ensures { λ r. ⌜ yearOutcome r ≡ lookedUp loan (now (years .entry)) year ⌝ }
+// The same of a level loan.
+pub fn draw_with_years(loan: Loan, room: &mut [f64], years: &mut [f64]) -> Drawing
+    ensures { λ r. ⌜ drawingOutcome r ≡ levelDrawnWithYears loan (now (room .entry)) (now (years .entry)) ⌝ }
+    ensures { λ _. ⌜ now (room .exit) ≡ levelFilledWithYears loan (now (room .entry)) (now (years .entry)) ⌝ }
+    ensures { λ _. ⌜ now (years .exit) ≡ levelSummed loan (now (room .entry)) (now (years .entry)) ⌝ }
+{
+    draw_kind_with_years(Kind::Level, loan, &[0.0; 1], room, years)
+}
+
+// The line of a year, counted from 1, once a row of that year is drawn; no kind's list is read.
+pub fn look_up_kind_year(kind: Kind, loan: Loan, years: &[f64], year: u32) -> YearAnswer
+    ensures { λ r. ⌜ ((index : List Float) → yearOutcome r ≡ lookedUp (wayOf kind index) loan (now (years .entry)) year) ⌝ }
 {
     if refusals::bad_term(loan.term) {
         return YearAnswer::Refused(refusals::refuse(2));
@@ -186,7 +200,7 @@ pub fn look_up_year(loan: Loan, years: &[f64], year: u32) -> YearAnswer
     if too_few(loan.term, years.len()) {
         return YearAnswer::Refused(refusals::refuse(3));
     }
-    if crate::rows::end_month(loan) < loan.done {
+    if crate::kinds::course_of(kind, loan.term).end < loan.done {
         return YearAnswer::Refused(refusals::refuse(10));
     }
     if year == 0 {
@@ -197,4 +211,11 @@ pub fn look_up_year(loan: Loan, years: &[f64], year: u32) -> YearAnswer
     }
     let place = (year - 1) as usize * YEAR_WIDTH;
     YearAnswer::Found(line_from(years, place))
+}
+
+// The same of a level loan.
+pub fn look_up_year(loan: Loan, years: &[f64], year: u32) -> YearAnswer
+    ensures { λ r. ⌜ yearOutcome r ≡ levelLookedUp loan (now (years .entry)) year ⌝ }
+{
+    look_up_kind_year(Kind::Level, loan, years, year)
 }

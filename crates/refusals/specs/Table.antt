@@ -127,3 +127,28 @@ noSuchDate isDate = not isDate
 
 unfoldable pub badDates : Bool → Bool → Bool → Bool
 badDates first second after = noSuchDate (first && second) || not after
+
+-- ---- 16 (document 02, K4): "a period or balloon month of 0 or beyond the term (for interest-only, equal to it as well), an initial rate not finite, a cap not finite or below zero, an
+-- index list too short or not finite in an entry read"
+
+-- so many months of interest alone, of a term
+unfoldable pub badPeriod : ℕ → ℕ → Bool
+badPeriod months term = eqb months 0 || not (ltb months term)
+
+-- the month of a balloon, of a term
+unfoldable pub badBalloon : ℕ → ℕ → Bool
+badBalloon month term = eqb month 0 || ltb term month
+
+-- an initial rate, the cap of one adjustment and the cap of the loan's life
+unfoldable pub badInitial : Float → Bool
+badInitial rate = not (finite rate)
+
+unfoldable pub badCap : Float → Bool
+badCap cap = not (finite cap) || lt cap plusZero
+
+-- so many entries are read, and so many are lent; and an entry that is read
+unfoldable pub tooFewEntries : ℕ → ℕ → Bool
+tooFewEntries read lent = ltb lent read
+
+unfoldable pub badEntry : Float → Bool
+badEntry rate = not (finite rate)
