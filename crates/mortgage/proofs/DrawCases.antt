@@ -1,92 +1,84 @@
--- The cases of a draw and of the next row alone, in the order in which the code tests: what is answered, and what the room holds then. Assumes nothing.
-use mathlib.Core.Path.{_≡_, refl, ap, _∙_}
-use mathlib.Core.Bool.{true, false}
-use mathlib.Core.List.{List}
-use Prim.Native.Nat.{ℕ, _-_, _/_, _<_, _≤_, min}
+-- The lines that a draw, and the next row alone, meet, of a loan of any kind: where they have no cause, what is known of the loan and of its kind; and what a draw answers and leaves then. Assumes nothing.
+use mathlib.Core.Path.{_≡_, refl, sym, ap, _∙_}
+use mathlib.Core.Bool.{Bool, true, false, _||_}
+use mathlib.Core.List.{List, [], _∷_, map}
+use Prim.Native.Nat.{ℕ, _-_, _<_, _≤_}
 use native.Mathlib.Omega.{arith}
+use lib.Dec.{eqb}
 use lib.ListN.{length}
 use lib.Ieee.{Float}
-use borrow.Author.Tests.{lt-ltb, le-ltb, eq-eqb, ne-eqb}
+use borrow.Author.Tests.{lt-ltb, le-ltb, ltb-false, eq-eqb, ne-eqb}
+use Rattle.refusals.specs.declared.Verdict.{Verdict}
+use Rattle.refusals.specs.declared.Verdict.the-variants as verdict-is
 use Rattle.refusals.specs.declared.Refusal.{Refusal}
-use Rattle.refusals.proofs.Verdicts.{refused-as}
-use Rattle.refusals.specs.Outcome.{Outcome, refused, accepted, firstOr, judged}
-use Rattle.refusals.specs.Table.{badTerm, noRoom, pastEnd}
+use Rattle.refusals.specs.Answers.{verdictOutcome}
+use Rattle.refusals.specs.Outcome.{Outcome, refused, accepted, Line, line, alone, judged}
+use Rattle.refusals.specs.Table.{badTerm, noRoom, pastEnd, badPeriod, badBalloon, badInitial, badCap, tooFewEntries, badEntry}
+use Rattle.refusals.proofs.Causes.{neither, term-within}
+use Rattle.refusals.proofs.Judging.{none-is, passed}
+use Rattle.refusals.proofs.OneCause.{caused, clear}
+use Rattle.refusals.proofs.Verdicts.{verdict, refused-by, accepted-by, accepted-alike}
+use Rattle.steps.specs.Steps.{laid}
 use Rattle.mortgage.specs.declared.Loan.{Loan}
 use Rattle.mortgage.specs.declared.draws.Portion.{Portion}
+use Rattle.mortgage.specs.declared.kinds.Adjustment.{Adjustment}
 use Rattle.mortgage.specs.Row.{width, places}
-use Rattle.mortgage.specs.Month.{endMonth, due, rowOf, nextOf}
-use Rattle.steps.specs.Steps.{pieces, stepped, laid}
-use Rattle.mortgage.specs.Rows.{after, rows, finished, next, nextRow}
-use Rattle.mortgage.specs.Draws.{portion, drawn, filledBy, filled}
+use Rattle.mortgage.specs.Kinds.{Way, level, interestOnly, balloon, adjustable, laterYears, entriesRead, kindLines}
+use Rattle.mortgage.specs.Month.{endMonth, due, rowOn, rowOf}
+use Rattle.mortgage.specs.Rows.{rows, stateLines}
+use Rattle.mortgage.specs.Draws.{drawLines, portion, drawn, filledBy, filled}
+use Rattle.mortgage.specs.inner.Coming.{Listed}
 
 -- ---- the numbers of a loan's next row, as the piece of a room that the laws of portions speak of
-abbrev pub rowPlaces : Loan → List Float
-rowPlaces l = places (rowOf l)
+abbrev pub rowPlaces : Way → Loan → List Float
+rowPlaces way l = places (rowOf way l)
 
-pub wide : (l : Loan) → length (rowPlaces l) ≡ width
-wide l = refl
+pub wide : (way : Way) (l : Loan) → length (rowPlaces way l) ≡ width
+wide way l = refl
 
--- ---- the next row alone
-module _ (l : Loan) where
-  pub next-row-bad-term : badTerm (l .term) ≡ true → refused 2 0 ≡ nextRow l
-  unfolding nextRow judged firstOr
-  next-row-bad-term t = rw t
+-- ---- a kind whose line 16 has no cause, for a term
+abbrev pub Fits : Way → ℕ → Type 0
+Fits way term = accepted tt ≡ verdict (kindLines way term)
 
-  pub next-row-past : badTerm (l .term) ≡ false → endMonth l < l .done → refused 10 0 ≡ nextRow l
-  unfolding nextRow judged firstOr pastEnd
-  next-row-past t h = rw (t, lt-ltb _ _ h)
+pub fits-listed : (way : Way) (term : ℕ) → Fits way term → Listed way term
+fits-listed way term f = ?
 
-  pub next-row-finished : badTerm (l .term) ≡ false → endMonth l ≡ l .done → accepted finished ≡ nextRow l
-  unfolding nextRow judged firstOr pastEnd due
-  next-row-finished t h = rw (t, le-ltb (endMonth l) (l .done) (omega arith), eq-eqb (endMonth l - l .done) 0 (omega arith))
+-- it ends within the term
+pub fits-ends : (way : Way) (l : Loan) → Fits way (l .term) → endMonth way l ≤ l .term
+fits-ends way l f = ?
 
-  pub next-row-due : badTerm (l .term) ≡ false → l .done < endMonth l → accepted (next (rowOf l) (nextOf l)) ≡ nextRow l
-  unfolding nextRow judged firstOr pastEnd due
-  next-row-due t h = rw (t, le-ltb (endMonth l) (l .done) (omega arith), ne-eqb (endMonth l - l .done) 0 (λ e. omega arith))
+-- and no sooner than with its first month
+pub fits-some : (way : Way) (l : Loan) → badTerm (l .term) ≡ false → Fits way (l .term) → 0 < endMonth way l
+fits-some way l t f = ?
 
--- ---- a draw
-module _ (l : Loan) (room : List Float) where
-  pub drawn-bad-term : badTerm (l .term) ≡ true → refused 2 0 ≡ drawn l room
-  unfolding drawn judged firstOr
-  drawn-bad-term t = rw t
+-- ---- lines without a cause
+pub record Drawable (way : Way) (l : Loan) : Type 0 where
+  pub good-term : badTerm (l .term) ≡ false
+  pub within : l .done ≤ endMonth way l
+  pub kind-fits : Fits way (l .term)
 
-  -- past the end no rows are due, so that 3 has no cause
-  pub drawn-past : badTerm (l .term) ≡ false → endMonth l < l .done → refused 10 0 ≡ drawn l room
-  unfolding drawn judged firstOr noRoom pastEnd due
-  drawn-past t h = rw (t, le-ltb 0 (endMonth l - l .done) (omega arith), lt-ltb _ _ h)
+module _ (way : Way) (l : Loan) where
+  pub state-clear : accepted tt ≡ verdict (stateLines way l) → Drawable way l
+  state-clear e = ?
 
-  pub drawn-finished : badTerm (l .term) ≡ false → endMonth l ≡ l .done → accepted (record { written = 0; owed = 0; loan = l }) ≡ drawn l room
-  unfolding drawn judged firstOr noRoom pastEnd due portion stepped
-  drawn-finished t h =
-      let d : endMonth l - l .done ≡ 0 = omega arith in
-      let n : min 0 (length room / width) ≡ 0 = omega arith in
-      rw (t, le-ltb (endMonth l) (l .done) (omega arith), d, n)
+  pub draw-clear : (room : ℕ) → accepted tt ≡ verdict (drawLines way l room) → Drawable way l
+  draw-clear room e = ?
 
-  pub drawn-short : badTerm (l .term) ≡ false → l .done < endMonth l → length room < width → refused 3 0 ≡ drawn l room
-  unfolding drawn judged firstOr noRoom due
-  drawn-short t h s = rw (t, lt-ltb 0 (endMonth l - l .done) (omega arith), lt-ltb _ _ s)
+  -- a draw that meets no cause is accepted
+  pub drawable-draws : (room : List Float) → Drawable way l → noRoom (due way l) (length room) width ≡ false → accepted (portion way l (length room)) ≡ drawn way l room
+  drawable-draws room d n = ?
 
-  pub drawn-rows : badTerm (l .term) ≡ false → l .done < endMonth l → width ≤ length room → accepted (portion l (length room)) ≡ drawn l room
-  unfolding drawn judged firstOr noRoom pastEnd due
-  drawn-rows t h s = rw (t, lt-ltb 0 (endMonth l - l .done) (omega arith), le-ltb (length room) width s, le-ltb (endMonth l) (l .done) (omega arith))
+  -- ---- as a `match` on the verdict has it, in either arm
+  module _ (room : List Float) (x : Verdict) (e : verdictOutcome x ≡ verdict (drawLines way l (length room))) where
+    pub refused-draw : (r : Refusal) → x ≡ verdict-is.Refused r → (refused (r .number) (r .place) ≡ drawn way l room) × (room ≡ filled way l room)
+    unfolding drawn filled
+    refused-draw r h =
+        let is = refused-by (drawLines way l (length room)) (portion way l (length room)) x r h e in
+        (is, ap (λ (o : Outcome Portion). filledBy way o l room) is)
 
-  -- a refusal leaves the room as it was
-  pub refused-draw : (k : ℕ) (r : Refusal) → (r .number ≡ k) × (r .place ≡ 0) → refused k 0 ≡ drawn l room
-      → (refused (r .number) (r .place) ≡ drawn l room) × (room ≡ filled l room)
-  unfolding filled
-  refused-draw k r h e = (refused-as k r (drawn l room) h e, ap (λ (x : Outcome Portion). filledBy x l room) e)
-
-  -- and so does a finished loan
-  pub finished-draw : badTerm (l .term) ≡ false → endMonth l ≡ l .done
-      → (accepted (record { written = 0; owed = 0; loan = l }) ≡ drawn l room) × (room ≡ filled l room)
-  unfolding filled pieces
-  finished-draw t h = let e = drawn-finished t h in (e, ap (λ (x : Outcome Portion). filledBy x l room) e)
-
-  -- any other writes the rows that are due and fit
-  pub rows-draw : (end n : ℕ) (l′ : Loan) (room′ : List Float) → end ≡ endMonth l → n ≡ min (end - l .done) (length room / width) → l′ ≡ after n l
-      → room′ ≡ laid width n (rows n l) room → badTerm (l .term) ≡ false → l .done < endMonth l → width ≤ length room
-      → (accepted (record { written = n; owed = end - l .done - n; loan = l′ }) ≡ drawn l room) × (room′ ≡ filled l room)
-  unfolding filled portion due
-  rows-draw end n l′ room′ ee en el eo t h s =
-      let e = drawn-rows t h s in
-      (rw (el, en, ee) e, eo ∙ rw (en, ee) (ap (λ (x : Outcome Portion). filledBy x l room) e))
+    pub accepted-draw : x ≡ verdict-is.Accepted → (d : Portion) (room′ : List Float) → d ≡ portion way l (length room) → room′ ≡ laid width (d .written) (rows way (d .written) l) room
+        → (accepted d ≡ drawn way l room) × (room′ ≡ filled way l room)
+    unfolding drawn filled
+    accepted-draw h d room′ ed er =
+        let is = ap accepted ed ∙ accepted-by (drawLines way l (length room)) (portion way l (length room)) x h e in
+        (is, er ∙ ap (λ (o : Outcome Portion). filledBy way o l room) is)
