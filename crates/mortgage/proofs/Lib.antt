@@ -1,7 +1,10 @@
 pub mod RuleLaws
 pub mod RowLaws
 pub mod RowFits
+pub mod RowsLaid
+pub mod SteadyKinds
 pub mod DrawCases
+pub mod YearByYear
 pub mod PlaceLaws
 pub mod DrawLaws
 pub mod Sequences
