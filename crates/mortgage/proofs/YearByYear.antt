@@ -6,12 +6,12 @@ use mathlib.Core.List.{List, _++_}
 use Prim.Native.Nat.{ℕ, _+_, _-_, _*_, _%_, _<_, _≤_, min}
 use native.Mathlib.Omega.{arith}
 use lib.Dec.{eqb, ltb}
-use lib.ListN.{length, take, drop}
+use lib.ListN.{length, take, drop, length-append, length-drop}
 use lib.Ieee.{Float}
 use borrow.Author.Tests.{ltb-true, eqb-true, ne-eqb}
 use Rattle.steps.specs.Steps.{laid}
 use Rattle.steps.proofs.Laying as laying
-use Rattle.steps.proofs.Portions.{room-left, joined}
+use Rattle.steps.proofs.Portions.{length-written, room-left, joined}
 use Rattle.mortgage.specs.declared.Loan.{Loan}
 use Rattle.mortgage.specs.declared.kinds.Adjustment.{Adjustment}
 use Rattle.mortgage.specs.declared.kinds.Course.{Course}
@@ -79,6 +79,10 @@ module _ (a : Adjustment) (index : List Float) where
     none-yet coming e =
         let b = laying.begun (nextOf way) (rowPlaces way) width count room₀ l₀ in
         (b .0, b .1, b .3, b .4, λ y h. let z = later-year (l₀ .done) y in e (omega (arith, z .0, z .1)) h)
+
+    length-laid : (m : ℕ) → m * width ≤ length room₀ → length (laid width m (rows way m l₀) room₀) ≡ length room₀
+    length-laid m h =
+        length-append (rows way m l₀) (drop (m * width) room₀) ∙ omega (arith, length-written (nextOf way) (rowPlaces way) width (wide way) m l₀, length-drop (m * width) room₀)
 
     module _ (fits : count * width ≤ length room₀) (has : l₀ .done + count ≤ l₀ .term) (room : List Float) (l : Loan) (coming : Coming) (k : ℕ) (i : Underway room l coming k) (h : k < count) where
       term-here : l .term ≡ l₀ .term
@@ -149,12 +153,11 @@ module _ (a : Adjustment) (index : List Float) where
                   rw (r, t, w) (e (omega (arith, z .0, z .1, w)) (omega (arith, b, w, t)))
 
               pub a-year : (part : List Float) → part ≡ laid width n (rowsOn c n begun) (take (length room - k * width) (drop (k * width) room))
-                  → length (take (k * width) room ++ (part ++ drop (length room - k * width) (drop (k * width) room))) ≡ length room
                   → (11 < begun .done + (12 - begun .done % 12) → begun .done + (12 - begun .done % 12) < begun .term
                       → coming′ ≡ comingBehind a (begun .rate) (begun .done + (12 - begun .done % 12)) (begun .term) index)
                   → Underway (take (k * width) room ++ (part ++ drop (length room - k * width) (drop (k * width) room))) l′ coming′ (k + n)
-              a-year part ep kept e =
+              a-year part ep e =
                   let j =
                   joined (nextOf way) (rowPlaces way) width (wide way) l₀ l l′ room₀ room part k (k + n) (i .1) (i .0) (rw rest (el ∙ stretch-is)) (rw (rest, ← stretch-rows-are) ep) (omega arith) fits-here
                   in
-                  (j .1, j .0, of-a-year .2, kept ∙ i .3, next-at-hand e)
+                  (j .1, j .0, of-a-year .2, ap (length {A = Float}) (j .1) ∙ length-laid (k + n) fits-here, next-at-hand e)
