@@ -13,9 +13,8 @@ use mir.Val.{Fits}
 use Rattle.refusals.specs.Outcome.{Outcome, refused, accepted}
 use Rattle.mortgage.specs.declared.Loan.{Loan}
 use Rattle.mortgage.specs.Row.{width}
-use Rattle.mortgage.specs.Month.{due, nextOf}
+use Rattle.mortgage.specs.Level.{due, nextOf, after, rows}
 use Rattle.steps.specs.Steps.{pieces, laid}
-use Rattle.mortgage.specs.Rows.{after, rows}
 use Rattle.mortgage.specs.Places.{countAt, countAtBoth}
 use Rattle.mortgage.proofs.RowLaws.{due-after}
 use Rattle.mortgage.proofs.DrawCases.{rowPlaces}

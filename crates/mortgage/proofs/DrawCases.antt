@@ -1,30 +1,29 @@
 -- The lines that a draw, and the next row alone, meet, of a loan of any kind: where they have no cause, what is known of the loan and of its kind; and what a draw answers and leaves then. Assumes nothing.
-use mathlib.Core.Path.{_≡_, refl, sym, ap, _∙_}
-use mathlib.Core.Bool.{Bool, true, false, _||_}
+use mathlib.Core.Path.{_≡_, refl, ap, _∙_}
+use mathlib.Core.Bool.{Bool, false, _||_}
 use mathlib.Core.List.{List, [], _∷_, map}
-use Prim.Native.Nat.{ℕ, _-_, _<_, _≤_}
+use Prim.Native.Nat.{ℕ, _<_, _≤_}
 use native.Mathlib.Omega.{arith}
-use lib.Dec.{eqb}
-use lib.ListN.{length}
+use lib.Dec.{eqb, ltb}
+use lib.ListN.{length, getD}
 use lib.Ieee.{Float}
-use borrow.Author.Tests.{lt-ltb, le-ltb, ltb-false, eq-eqb, ne-eqb}
+use borrow.Author.Tests.{le-ltb, ltb-false, eqb-false}
 use Rattle.refusals.specs.declared.Verdict.{Verdict}
 use Rattle.refusals.specs.declared.Verdict.the-variants as verdict-is
 use Rattle.refusals.specs.declared.Refusal.{Refusal}
 use Rattle.refusals.specs.Answers.{verdictOutcome}
-use Rattle.refusals.specs.Outcome.{Outcome, refused, accepted, Line, line, alone, judged}
-use Rattle.refusals.specs.Table.{badTerm, noRoom, pastEnd, badPeriod, badBalloon, badInitial, badCap, tooFewEntries, badEntry}
-use Rattle.refusals.proofs.Causes.{neither, term-within}
+use Rattle.refusals.specs.Outcome.{Outcome, refused, accepted, line, alone}
+use Rattle.refusals.specs.Table.{badTerm, noRoom, pastEnd, badBalloon, badInitial, badCap, tooFewEntries, badEntry}
+use Rattle.refusals.proofs.Causes.{neither}
 use Rattle.refusals.proofs.Judging.{none-is, passed}
-use Rattle.refusals.proofs.OneCause.{caused, clear}
+use Rattle.refusals.proofs.OneCause.{clear}
 use Rattle.refusals.proofs.Verdicts.{verdict, refused-by, accepted-by, accepted-alike}
 use Rattle.steps.specs.Steps.{laid}
 use Rattle.mortgage.specs.declared.Loan.{Loan}
 use Rattle.mortgage.specs.declared.draws.Portion.{Portion}
-use Rattle.mortgage.specs.declared.kinds.Adjustment.{Adjustment}
 use Rattle.mortgage.specs.Row.{width, places}
-use Rattle.mortgage.specs.Kinds.{Way, level, interestOnly, balloon, adjustable, laterYears, entriesRead, kindLines}
-use Rattle.mortgage.specs.Month.{endMonth, due, rowOn, rowOf}
+use Rattle.mortgage.specs.Kinds.{Way, level, interestOnly, balloon, adjustable, laterYears, entriesRead, badAdjustment, kindLines}
+use Rattle.mortgage.specs.Month.{endMonth, due, rowOf}
 use Rattle.mortgage.specs.Rows.{rows, stateLines}
 use Rattle.mortgage.specs.Draws.{drawLines, portion, drawn, filledBy, filled}
 use Rattle.mortgage.specs.inner.Coming.{Listed}
@@ -40,16 +39,41 @@ wide way l = refl
 abbrev pub Fits : Way → ℕ → Type 0
 Fits way term = accepted tt ≡ verdict (kindLines way term)
 
+-- where a line's only cause, or its single one beside those of a list, is not there
+one-none : (k : ℕ) (b : Bool) → accepted tt ≡ verdict (line k b ∷ []) → b ≡ false
+one-none k b e = none-is (passed tt tt (line k b) [] e .0) 0
+
+alone-none : (b : Bool) (causes : List Bool) → getD (alone b causes) 0 false ≡ false → b ≡ false
+alone-none b [] e = e
+alone-none b (c ∷ causes) e = neither b c e .0
+
 pub fits-listed : (way : Way) (term : ℕ) → Fits way term → Listed way term
-fits-listed way term f = ?
+unfolding tooFewEntries
+fits-listed level term f = tt
+fits-listed (interestOnly months) term f = tt
+fits-listed (balloon month) term f = tt
+fits-listed (adjustable a index) term f =
+    let single = alone-none (badInitial (a .initial) || badCap (a .cap) || badCap (a .lifetime) || tooFewEntries (laterYears term) (length index)) (map badEntry (entriesRead index term)) (none-is (passed tt tt (badAdjustment a index term) [] f .0) 0) in
+    ltb-false (length index) (laterYears term) (neither (badInitial (a .initial) || badCap (a .cap) || badCap (a .lifetime)) (tooFewEntries (laterYears term) (length index)) single .1)
 
 -- it ends within the term
 pub fits-ends : (way : Way) (l : Loan) → Fits way (l .term) → endMonth way l ≤ l .term
-fits-ends way l f = ?
+unfolding endMonth badBalloon
+fits-ends level l f = omega arith
+fits-ends (interestOnly months) l f = omega arith
+fits-ends (balloon month) l f = ltb-false (l .term) month (neither (eqb month 0) (ltb (l .term) month) (one-none 16 (badBalloon month (l .term)) f) .1)
+fits-ends (adjustable a index) l f = omega arith
+
+not-zero : (n : ℕ) (b : Bool) → (eqb n 0 || b) ≡ false → 0 < n
+not-zero n b e = let h = eqb-false n 0 (neither (eqb n 0) b e .0) in omega arith
 
 -- and no sooner than with its first month
 pub fits-some : (way : Way) (l : Loan) → badTerm (l .term) ≡ false → Fits way (l .term) → 0 < endMonth way l
-fits-some way l t f = ?
+unfolding endMonth badBalloon badTerm
+fits-some level l t f = not-zero (l .term) (ltb 1200 (l .term)) t
+fits-some (interestOnly months) l t f = not-zero (l .term) (ltb 1200 (l .term)) t
+fits-some (balloon month) l t f = not-zero month (ltb (l .term) month) (one-none 16 (badBalloon month (l .term)) f)
+fits-some (adjustable a index) l t f = not-zero (l .term) (ltb 1200 (l .term)) t
 
 -- ---- lines without a cause
 pub record Drawable (way : Way) (l : Loan) : Type 0 where
@@ -59,14 +83,27 @@ pub record Drawable (way : Way) (l : Loan) : Type 0 where
 
 module _ (way : Way) (l : Loan) where
   pub state-clear : accepted tt ≡ verdict (stateLines way l) → Drawable way l
-  state-clear e = ?
+  unfolding pastEnd
+  state-clear e =
+      let first = passed tt tt (line 2 (badTerm (l .term))) (line 10 (pastEnd (endMonth way l) (l .done)) ∷ kindLines way (l .term)) e in
+      let second = passed tt tt (line 10 (pastEnd (endMonth way l) (l .done))) (kindLines way (l .term)) (first .1) in
+      record { good-term = none-is (first .0) 0; within = ltb-false (endMonth way l) (l .done) (none-is (second .0) 0); kind-fits = second .1 }
 
   pub draw-clear : (room : ℕ) → accepted tt ≡ verdict (drawLines way l room) → Drawable way l
-  draw-clear room e = ?
+  draw-clear room e =
+      let first = passed tt tt (line 2 (badTerm (l .term))) (line 3 (noRoom (due way l) room width) ∷ line 10 (pastEnd (endMonth way l) (l .done)) ∷ kindLines way (l .term)) e in
+      let second = passed tt tt (line 3 (noRoom (due way l) room width)) (line 10 (pastEnd (endMonth way l) (l .done)) ∷ kindLines way (l .term)) (first .1) in
+      state-clear (second .1 ∙ clear tt 2 (badTerm (l .term)) (line 10 (pastEnd (endMonth way l) (l .done)) ∷ kindLines way (l .term)) (none-is (first .0) 0))
 
   -- a draw that meets no cause is accepted
   pub drawable-draws : (room : List Float) → Drawable way l → noRoom (due way l) (length room) width ≡ false → accepted (portion way l (length room)) ≡ drawn way l room
-  drawable-draws room d n = ?
+  unfolding drawn pastEnd
+  drawable-draws room d n =
+      let v : Portion = portion way l (length room) in
+      accepted-alike (kindLines way (l .term)) v (d .kind-fits)
+      ∙ clear v 10 (pastEnd (endMonth way l) (l .done)) (kindLines way (l .term)) (le-ltb (endMonth way l) (l .done) (d .within))
+      ∙ clear v 3 (noRoom (due way l) (length room) width) (line 10 (pastEnd (endMonth way l) (l .done)) ∷ kindLines way (l .term)) n
+      ∙ clear v 2 (badTerm (l .term)) (line 3 (noRoom (due way l) (length room) width) ∷ line 10 (pastEnd (endMonth way l) (l .done)) ∷ kindLines way (l .term)) (d .good-term)
 
   -- ---- as a `match` on the verdict has it, in either arm
   module _ (room : List Float) (x : Verdict) (e : verdictOutcome x ≡ verdict (drawLines way l (length room))) where

@@ -1,12 +1,14 @@
 -- Laws of the row rule over plain numbers, whatever loan they are of: what a month's principal and what is left are in the last month, in any other, and in an ordinary month, whose
--- principal neither bound changes; and that a month's principal is a part of the balance. Assumes nothing.
+-- principal neither bound changes; and that a month's principal, or none, is a part of the balance. Assumes nothing.
 use mathlib.Core.Path.{_≡_, refl, sym, ap, _∙_}
 use mathlib.Core.Bool.{Bool, true, false}
+use native.Mathlib.Omega.{arith}
 use lib.Dec.{T}
 use lib.Ieee.{Float, binary64, sub, lt, fits}
 use lib.Ieee.Fits.{sub-fits}
 use Rattle.numbers.specs.Clamps.{plusZero, raised, lowered}
 use Rattle.numbers.proofs.Amounts.{amount}
+use Rattle.numbers.proofs.Order.{zero-amount, zero-count}
 use Rattle.numbers.proofs.Clamping.{PartOf, whole-part, clamped-part}
 use Rattle.numbers.proofs.Differences.{left-above}
 use Rattle.mortgage.specs.RowRule.{interestOf, principalOf, leftOf}
@@ -18,6 +20,10 @@ within p b h g = rw (h, g)
 -- and what it leaves is above 0, so that the column needs no raising
 pub left-as-it-is : (b p : Float) → fits binary64 b ≡ true → fits binary64 p ≡ true → lt plusZero p ≡ true → lt p b ≡ true → sub binary64 b p ≡ raised (sub binary64 b p)
 left-as-it-is b p fb fp h g = rw (left-above binary64 b p fb fp h g)
+
+-- no principal is a part of any balance
+pub nothing-part : (b : Float) → PartOf binary64 plusZero b
+nothing-part b = (zero-amount binary64, rw (zero-count binary64) (omega arith))
 
 module _ (pay r b : Float) where
   pub last-principal : principalOf true pay r b ≡ b

@@ -1,7 +1,7 @@
 -- How tight the promises of payments, verdicts on terms, openings, rows and draws are: whatever a public function is given, any two results that its contract allows are equal, and for a draw, and for rows laid at
 -- places of a room, so are any two rooms that it may leave, and so are any two last states of the year-end lines beside them. Assumes nothing.
 use mathlib.Core.Path.{_≡_, refl, sym, ap, _∙_}
-use mathlib.Core.List.{List}
+use mathlib.Core.List.{List, []}
 use lib.Ieee.{Float}
 use Rattle.numbers.proofs.Determined.{Determined, Settled}
 use Rattle.refusals.proofs.OneToOne.{same-refusal, verdict-one-to-one, number-one-to-one}
@@ -42,6 +42,24 @@ use Rattle.mortgage.proofs.pairs.lay_at.Kinds as lay-at-kinds
 use Rattle.mortgage.proofs.pairs.lay_at.Reads as lay-at
 use Rattle.mortgage.proofs.pairs.lay_both.Kinds as lay-both-kinds
 use Rattle.mortgage.proofs.pairs.lay_both.Reads as lay-both
+use Rattle.mortgage.proofs.kinds.judge_kind.Kinds as judge-kind-kinds
+use Rattle.mortgage.proofs.kinds.judge_kind.Reads as judge-kind
+use Rattle.mortgage.proofs.opening.open_kind.Kinds as open-kind-kinds
+use Rattle.mortgage.proofs.opening.open_kind.Reads as open-kind
+use Rattle.mortgage.proofs.opening.open_interest_only_with_payment.Kinds as open-interest-only-with-payment-kinds
+use Rattle.mortgage.proofs.opening.open_interest_only_with_payment.Reads as open-interest-only-with-payment
+use Rattle.mortgage.proofs.opening.open_balloon_with_payment.Kinds as open-balloon-with-payment-kinds
+use Rattle.mortgage.proofs.opening.open_balloon_with_payment.Reads as open-balloon-with-payment
+use Rattle.mortgage.proofs.rows.kind_rows_due.Kinds as kind-rows-due-kinds
+use Rattle.mortgage.proofs.rows.kind_rows_due.Reads as kind-rows-due
+use Rattle.mortgage.proofs.rows.next_kind_row.Kinds as next-kind-row-kinds
+use Rattle.mortgage.proofs.rows.next_kind_row.Reads as next-kind-row
+use Rattle.mortgage.proofs.draws.draw_kind.Kinds as draw-kind-kinds
+use Rattle.mortgage.proofs.draws.draw_kind.Reads as draw-kind
+use Rattle.mortgage.proofs.years.draw_kind_with_years.Kinds as draw-kind-with-years-kinds
+use Rattle.mortgage.proofs.years.draw_kind_with_years.Reads as draw-kind-with-years
+use Rattle.mortgage.proofs.years.look_up_kind_year.Kinds as look-up-kind-year-kinds
+use Rattle.mortgage.proofs.years.look_up_kind_year.Reads as look-up-kind-year
 
 -- ---- each answer has its own outcome
 pub opening-one-to-one : (x y : Opening) → openingOutcome x ≡ openingOutcome y → x ≡ y
@@ -112,6 +130,44 @@ rows-due-determined κs a x y e e′ p q = p ∙ sym q
 
 pub judge-terms-determined : Determined 0 judge-terms-kinds.ps judge-terms-kinds.r judge-terms.Post
 judge-terms-determined κs a x y e e′ p q = verdict-one-to-one x y (p ∙ sym q)
+
+-- ---- of loans of any kind: where no list is lent the promise is made for every list, the empty one too
+pub judge-kind-determined : Determined 1 judge-kind-kinds.ps judge-kind-kinds.r judge-kind.Post
+judge-kind-determined κs a x y e e′ p q = verdict-one-to-one x y (p ∙ sym q)
+
+pub open-kind-determined : Determined 1 open-kind-kinds.ps open-kind-kinds.r open-kind.Post
+open-kind-determined κs a x y e e′ p q = opening-one-to-one x y (p ∙ sym q)
+
+pub open-interest-only-with-payment-determined : Determined 0 open-interest-only-with-payment-kinds.ps open-interest-only-with-payment-kinds.r open-interest-only-with-payment.Post
+open-interest-only-with-payment-determined κs a x y e e′ p q = opening-one-to-one x y (p ∙ sym q)
+
+pub open-balloon-with-payment-determined : Determined 0 open-balloon-with-payment-kinds.ps open-balloon-with-payment-kinds.r open-balloon-with-payment.Post
+open-balloon-with-payment-determined κs a x y e e′ p q = opening-one-to-one x y (p ∙ sym q)
+
+pub kind-rows-due-determined : Determined 0 kind-rows-due-kinds.ps kind-rows-due-kinds.r kind-rows-due.Post
+kind-rows-due-determined κs a x y e e′ p q = p [] ∙ sym (q [])
+
+pub next-kind-row-determined : Determined 1 next-kind-row-kinds.ps next-kind-row-kinds.r next-kind-row.Post
+next-kind-row-determined κs a x y e e′ p q = next-one-to-one x y (p ∙ sym q)
+
+pub draw-kind-determined : Determined 2 draw-kind-kinds.ps draw-kind-kinds.r draw-kind.Post
+draw-kind-determined κs a x y e e′ p q = drawing-one-to-one x y (p .0 ∙ sym (q .0))
+
+-- and a draw's promise one room, the fourth parameter
+pub draw-kind-room-settled : Settled 2 draw-kind-kinds.ps draw-kind-kinds.r draw-kind.Post
+draw-kind-room-settled κs a x y w w′ p q = ap (λ (l : List Float). (tt, (tt, (tt, (l, tt))))) (p .1 ∙ sym (q .1))
+
+pub draw-kind-with-years-determined : Determined 3 draw-kind-with-years-kinds.ps draw-kind-with-years-kinds.r draw-kind-with-years.Post
+draw-kind-with-years-determined κs a x y e e′ p q = drawing-one-to-one x y (p .0 ∙ sym (q .0))
+
+-- with year-end lines one room and one last state of the lines, the fourth parameter and the fifth
+pub draw-kind-with-years-room-and-years-settled : Settled 3 draw-kind-with-years-kinds.ps draw-kind-with-years-kinds.r draw-kind-with-years.Post
+draw-kind-with-years-room-and-years-settled κs a x y w w′ p q =
+    ap (λ (l : List Float). (tt, (tt, (tt, (l, (w .1 .1 .1 .1 .0, tt)))))) (p .1 .0 ∙ sym (q .1 .0))
+    ∙ ap (λ (l : List Float). (tt, (tt, (tt, (w′ .1 .1 .1 .0, (l, tt)))))) (p .1 .1 ∙ sym (q .1 .1))
+
+pub look-up-kind-year-determined : Determined 1 look-up-kind-year-kinds.ps look-up-kind-year-kinds.r look-up-kind-year.Post
+look-up-kind-year-determined κs a x y e e′ p q = year-one-to-one x y (p [] ∙ sym (q []))
 
 -- ---- rows at places of a room, the second parameter of one loan's and the third of two loans'
 pub lay-at-determined : Determined 1 lay-at-kinds.ps lay-at-kinds.r lay-at.Post

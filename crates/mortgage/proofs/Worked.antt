@@ -11,12 +11,16 @@ use Rattle.records.specs.declared.Terms.{Terms}
 use Rattle.mortgage.specs.declared.Loan.{Loan}
 use Rattle.mortgage.specs.Row.{width}
 use Rattle.mortgage.specs.Payment.{monthlyRate, payment, loanOf, openedWith, opened}
-use Rattle.mortgage.specs.Month.{endMonth, due, last, rowOf, nextOf}
-use Rattle.mortgage.specs.RowRule.{interestOf, principalOf, paymentOf, leftOf}
+use Rattle.mortgage.specs.Rates.{inForce}
+use Rattle.mortgage.specs.Month as months
+use Rattle.mortgage.specs.Month.{interestAlone, last, principal, paid, remaining, rowOn, nextOn}
+use Rattle.mortgage.specs.RowRule.{interestOf, principalOf, paymentOf}
 use Rattle.steps.specs.Steps.{pieces, stepped}
 use Rattle.steps.specs.Calls as calls
-use Rattle.mortgage.specs.Draws.{portion, drawn, filled}
-use Rattle.mortgage.specs.Demand3.{wrote, filed, left, Repaid, Repays, OpensAndRepays}
+use Rattle.mortgage.specs.Draws as draws
+use Rattle.mortgage.specs.Demand3 as demand
+use Rattle.mortgage.specs.Demand3.{Repaid}
+use Rattle.mortgage.specs.Level.{due, drawn, filed, left, Repays, OpensAndRepays}
 use Rattle.mortgage.proofs.Demand3.{demand3-worked-out}
 
 abbrev number : ℕ → Float
@@ -52,11 +56,11 @@ unfolding fits lt ofBits
 repays = subst (OpensAndRepays terms) opens (demand3-worked-out terms tt tt tt (omega arith) (omega arith))
 
 pub second-is-refused : drawn (left loan (one ∷ [])) none ≡ refused 3 0
-unfolding calls.left drawn judged firstOr badTerm noRoom pastEnd portion due endMonth stepped nextOf
+unfolding calls.left draws.drawn judged firstOr badTerm noRoom pastEnd draws.portion months.due months.endMonth stepped months.nextOf nextOn inForce
 second-is-refused = refl
 
 pub drawn-to-the-end : due (left loan rooms) ≡ 0
-unfolding calls.left drawn judged firstOr badTerm noRoom pastEnd portion due endMonth stepped nextOf
+unfolding calls.left draws.drawn judged firstOr badTerm noRoom pastEnd draws.portion months.due months.endMonth stepped months.nextOf nextOn inForce
 drawn-to-the-end = refl
 
 pub repaid-in-portions : Repaid (terms .principal) 3 (filed loan rooms)
@@ -67,5 +71,5 @@ pub listing : filed loan rooms ≡ map number
     (0x3ff0_0000_0000_0000 ∷ 0x4079_0000_0000_0000 ∷ 0x4079_0000_0000_0000 ∷ 0 ∷ 0x4089_0000_0000_0000
     ∷ 0x4000_0000_0000_0000 ∷ 0x4079_0000_0000_0000 ∷ 0x4079_0000_0000_0000 ∷ 0 ∷ 0x4079_0000_0000_0000
     ∷ 0x4008_0000_0000_0000 ∷ 0x4079_0000_0000_0000 ∷ 0x4079_0000_0000_0000 ∷ 0 ∷ 0 ∷ [])
-unfolding calls.filed wrote filled drawn judged firstOr badTerm noRoom pastEnd portion due endMonth stepped pieces rowOf nextOf leftOf paymentOf principalOf interestOf last monthlyRate add sub mul div lt ofInt ofBits
+unfolding calls.filed demand.wrote draws.filled draws.drawn judged firstOr badTerm noRoom pastEnd draws.portion months.due months.endMonth stepped pieces months.rowOf months.nextOf rowOn nextOn inForce interestAlone last principal paid remaining paymentOf principalOf interestOf monthlyRate add sub mul div lt ofInt ofBits
 listing = refl
