@@ -14,6 +14,7 @@ pub mod YearDrawLaws
 pub mod Summing
 pub mod Worked
 pub mod YearsWorked
+pub mod InterestOnly
 pub mod RowColumns
 pub mod PayingDown
 pub mod BreakEvens
