@@ -17,6 +17,7 @@ pub mod YearDrawLaws
 pub mod Summing
 pub mod Worked
 pub mod YearsWorked
+pub mod InterestOnly
 pub mod RowColumns
 pub mod PayingDown
 pub mod BreakEvens
