@@ -7,6 +7,7 @@ pub mod DrawCases
 pub mod YearByYear
 pub mod PlaceLaws
 pub mod DrawLaws
+pub mod LevelLaws
 pub mod Sequences
 pub mod RowsRepay
 pub mod Demand3
