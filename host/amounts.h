@@ -25,6 +25,9 @@ bool written_cents(double amount, uint64_t *cents);
    the text, to follow its name. */
 const char *read_decimal(const char *text, double *number);
 
+/* The same of a decimal that ends where it is said, behind which more text may stand. */
+const char *read_decimal_up_to(const char *text, const char *end, double *number);
+
 /* Reads a whole number up to 4,294,967,295, digits alone. */
 bool read_whole(const char *text, uint32_t *number);
 

@@ -1,0 +1,128 @@
+#include "kinds.h"
+
+#include "amounts.h"
+
+#include <inttypes.h>
+#include <math.h>
+#include <string.h>
+
+/* ---- from the command line ---- */
+
+bool read_months(const struct option *option, struct kind *kind) {
+    if (read_whole(option->value, &kind->months)) return true;
+    fail("%s wants %s, and '%s' is no whole number from 0 to 4294967295", option->name, option->wants, option->value);
+    return false;
+}
+
+/* Reads decimals with commas between them, none of them from an empty text, and keeps at most so many. */
+static bool read_list(const struct option *option, double *numbers, size_t most, size_t *count) {
+    *count = 0;
+    if (*option->value == '\0') return true;
+    for (const char *next = option->value, *end;; next = end + 1) {
+        double number;
+        end = next + strcspn(next, ",");
+        const char *wrong = read_decimal_up_to(next, end, &number);
+        if (wrong != NULL) {
+            fail("entry %zu of %s, '%.*s', %s", *count + 1, option->name, (int)(end - next), next, wrong);
+            return false;
+        }
+        if (*count < most) numbers[*count] = number;
+        ++*count;
+        if (*end == '\0') return true;
+    }
+}
+
+bool read_adjustment(const struct option *option, struct kind *kind) {
+    enum { NUMBERS = 3 };
+    double numbers[NUMBERS];
+    size_t count;
+    if (!read_list(option, numbers, NUMBERS, &count)) return false;
+    if (count != NUMBERS) {
+        fail("%s wants %s, and '%s' was given", option->name, option->wants, option->value);
+        return false;
+    }
+    kind->initial = numbers[0];
+    kind->cap = numbers[1];
+    kind->lifetime = numbers[2];
+    return true;
+}
+
+bool read_index(const struct option *option, struct kind *kind) {
+    size_t count;
+    if (!read_list(option, kind->index, MOST_ENTRIES, &count)) return false;
+    kind->entries = count < MOST_ENTRIES ? count : MOST_ENTRIES;
+    return true;
+}
+
+/* ---- in words ---- */
+
+static char *put_adjustment(char *at, const struct kind *kind) {
+    char cap[SHORTEST_ROOM], lifetime[SHORTEST_ROOM];
+    put_shortest(cap, kind->cap);
+    put_shortest(lifetime, kind->lifetime);
+    return at + sprintf(at, ", adjustable with cap %s and lifetime cap %s", cap, lifetime);
+}
+
+char *put_kind(char *at, const struct kind *kind) {
+    switch (kind->name) {
+    case INTEREST_ONLY: return at + sprintf(at, ", interest only for %" PRIu32 " month%s", kind->months, plural(kind->months));
+    case BALLOON: return at + sprintf(at, ", balloon in month %" PRIu32, kind->months);
+    case ADJUSTABLE: return put_adjustment(at, kind);
+    default: return at;
+    }
+}
+
+/* Of an adjustable loan: a list that is too short, the entry at the refusal's place, or what is left. */
+static void put_adjustment_cause(char text[CAUSE_ROOM], const struct kind *kind, uint32_t term, uint32_t place) {
+    const uint32_t wanted = SENYOLANDA_STARTED_YEARS(term) - 1;
+    if (kind->entries < wanted) {
+        snprintf(text, CAUSE_ROOM, "there are %zu index rates, and a term of %" PRIu32 " months wants %" PRIu32,
+                 kind->entries, term, wanted);
+    } else if (place < wanted && !isfinite(kind->index[place])) {
+        snprintf(text, CAUSE_ROOM, "index entry %" PRIu32 ", for year %" PRIu32 ", is not finite", place + 1, place + 2);
+    } else {
+        snprintf(text, CAUSE_ROOM, "the initial rate is not finite, or a cap is below zero or not finite");
+    }
+}
+
+/* Refusal 16, in words that know the kind. */
+static void put_kind_cause(char text[CAUSE_ROOM], const struct kind *kind, uint32_t term, uint32_t place) {
+    switch (kind->name) {
+    case INTEREST_ONLY:
+        snprintf(text, CAUSE_ROOM, "the months of interest alone, %" PRIu32 ", are none, or not fewer than the term's %" PRIu32,
+                 kind->months, term);
+        break;
+    case BALLOON:
+        snprintf(text, CAUSE_ROOM, "the balloon's month, %" PRIu32 ", is not from 1 to the term's %" PRIu32, kind->months, term);
+        break;
+    default: put_adjustment_cause(text, kind, term, place);
+    }
+}
+
+void put_cause(char text[CAUSE_ROOM], const struct kind *kind, uint32_t term, senyolanda_result result) {
+    const uint32_t number = senyolanda_number(result);
+    if (number == SENYOLANDA_BAD_KIND) {
+        put_kind_cause(text, kind, term, senyolanda_place(result));
+    } else {
+        snprintf(text, CAUSE_ROOM, "%s", senyolanda_refusal_text(number));
+    }
+}
+
+/* ---- warnings ---- */
+
+/* Whether the rate is above 1, which is then said. */
+static bool warn_of(const char *name, double rate) {
+    char text[SHORTEST_ROOM];
+    if (!(rate > 1)) return false;
+    put_shortest(text, rate);
+    say("%s of %s is %.15g per cent a year; six per cent is 0.06", name, text, 100 * rate);
+    return true;
+}
+
+void warn_of_rates(const struct kind *kind) {
+    warn_of("an initial rate", kind->initial);
+    warn_of("a cap", kind->cap);
+    warn_of("a lifetime cap", kind->lifetime);
+    for (size_t entry = 0; entry < kind->entries; entry++)
+        if (warn_of("an index rate", kind->index[entry])) break;
+}
