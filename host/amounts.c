@@ -7,6 +7,12 @@
 #include <stdlib.h>
 #include <string.h>
 
+char *put_text(char *at, const char *text) {
+    const size_t length = strlen(text);
+    memcpy(at, text, length);
+    return at + length;
+}
+
 /* ---- whole numbers ---- */
 
 static char *put_two_digits(char *at, unsigned number) {
@@ -143,6 +149,12 @@ void put_shortest(char text[SHORTEST_ROOM], double number) {
     do {
         snprintf(text, SHORTEST_ROOM, "%.*g", ++digits, with_one_nan(number));
     } while (digits < 17 && strtod(text, NULL) != number);
+}
+
+char *put_decimal(char *at, double number) {
+    char text[SHORTEST_ROOM];
+    put_shortest(text, number);
+    return put_text(at, text);
 }
 
 /* ---- numbers from text ---- */

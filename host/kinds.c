@@ -56,18 +56,15 @@ bool read_index(const struct option *option, struct kind *kind) {
 
 /* ---- in words ---- */
 
-static char *put_adjustment(char *at, const struct kind *kind) {
-    char cap[SHORTEST_ROOM], lifetime[SHORTEST_ROOM];
-    put_shortest(cap, kind->cap);
-    put_shortest(lifetime, kind->lifetime);
-    return at + sprintf(at, ", adjustable with cap %s and lifetime cap %s", cap, lifetime);
-}
-
 char *put_kind(char *at, const struct kind *kind) {
     switch (kind->name) {
-    case INTEREST_ONLY: return at + sprintf(at, ", interest only for %" PRIu32 " month%s", kind->months, plural(kind->months));
-    case BALLOON: return at + sprintf(at, ", balloon in month %" PRIu32, kind->months);
-    case ADJUSTABLE: return put_adjustment(at, kind);
+    case INTEREST_ONLY:
+        at = put_whole(put_text(at, ", interest only for "), kind->months);
+        return put_text(put_text(at, " month"), plural(kind->months));
+    case BALLOON: return put_whole(put_text(at, ", balloon in month "), kind->months);
+    case ADJUSTABLE:
+        at = put_decimal(put_text(at, ", adjustable with cap "), kind->cap);
+        return put_decimal(put_text(at, " and lifetime cap "), kind->lifetime);
     default: return at;
     }
 }
@@ -76,8 +73,8 @@ char *put_kind(char *at, const struct kind *kind) {
 static void put_adjustment_cause(char text[CAUSE_ROOM], const struct kind *kind, uint32_t term, uint32_t place) {
     const uint32_t wanted = SENYOLANDA_STARTED_YEARS(term) - 1;
     if (kind->entries < wanted) {
-        snprintf(text, CAUSE_ROOM, "there are %zu index rates, and a term of %" PRIu32 " months wants %" PRIu32,
-                 kind->entries, term, wanted);
+        snprintf(text, CAUSE_ROOM, "the index has %zu rate%s, and a term of %" PRIu32 " months wants %" PRIu32,
+                 kind->entries, plural(kind->entries), term, wanted);
     } else if (place < wanted && !isfinite(kind->index[place])) {
         snprintf(text, CAUSE_ROOM, "index entry %" PRIu32 ", for year %" PRIu32 ", is not finite", place + 1, place + 2);
     } else {
@@ -89,7 +86,7 @@ static void put_adjustment_cause(char text[CAUSE_ROOM], const struct kind *kind,
 static void put_kind_cause(char text[CAUSE_ROOM], const struct kind *kind, uint32_t term, uint32_t place) {
     switch (kind->name) {
     case INTEREST_ONLY:
-        snprintf(text, CAUSE_ROOM, "the months of interest alone, %" PRIu32 ", are none, or not fewer than the term's %" PRIu32,
+        snprintf(text, CAUSE_ROOM, "the months of interest alone, %" PRIu32 ", are not from 1 to one fewer than the term's %" PRIu32,
                  kind->months, term);
         break;
     case BALLOON:

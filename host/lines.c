@@ -31,12 +31,6 @@ static const char *const *names_of(const struct layout *layout) {
     return layout->rows ? row_names : year_names;
 }
 
-static char *put_text(char *at, const char *text) {
-    const size_t length = strlen(text);
-    memcpy(at, text, length);
-    return at + length;
-}
-
 static char *put_front(char *at, const struct line *line) {
     if (line->word != NULL) at = put_text(at, line->word);
     return line->number == 0 ? at : put_whole(at, line->number);
@@ -171,13 +165,6 @@ static void widen(size_t width[COLUMNS], const struct texts *texts) {
         if (texts->length[column] > width[column]) width[column] = texts->length[column];
 }
 
-/* A number as the shortest decimal that reads back as the same, behind a word. */
-static char *put_rate(char *at, const char *word, double rate) {
-    char text[SHORTEST_ROOM];
-    put_shortest(text, rate);
-    return put_text(put_text(at, word), text);
-}
-
 /* Each cell stands at the right of its column, two spaces from the one before; a rate that is not null stands behind them. */
 static void print_texts(const struct texts *texts, const size_t width[COLUMNS], const double *rate) {
     char *at = start_line();
@@ -187,7 +174,7 @@ static void print_texts(const struct texts *texts, const size_t width[COLUMNS], 
         memcpy(at + spaces, texts->text[column], texts->length[column]);
         at += spaces + texts->length[column];
     }
-    if (rate != NULL) at = put_rate(at, "  rate ", *rate);
+    if (rate != NULL) at = put_decimal(put_text(at, "  rate "), *rate);
     *at++ = '\n';
     end_line(at);
 }
@@ -209,7 +196,7 @@ static void print_title(const struct schedule *schedule, enum form form, bool is
     char *at = start_line();
     at = put_whole(put_text(at, is_first ? "Loan " : "\nLoan "), schedule->number);
     at = put_amount(put_text(at, ": principal "), schedule->principal, form);
-    at = put_rate(at, kind->name == ADJUSTABLE ? ", initial rate " : ", rate ", schedule->rate);
+    at = put_decimal(put_text(at, kind->name == ADJUSTABLE ? ", initial rate " : ", rate "), schedule->rate);
     at = put_whole(put_text(at, ", months "), schedule->term);
     at = put_kind(at, kind);
     *at++ = '\n';

@@ -28,11 +28,12 @@ static const char help[] =
     "  --interest-only K  pay interest alone in the first K months, and a level payment, or that of --payment, in those after them\n"
     "  --balloon M        pay as over all MONTHS, and the whole balance in month M; no rows come after it\n"
     "  --adjustable INITIAL,CAP,LIFETIME\n"
-    "                     pay at the rate INITIAL in year 1. A later year has its index rate, held within CAP of the last year's\n"
-    "                     rate, then not above INITIAL plus LIFETIME, and a payment worked out for the balance and the months left;\n"
-    "                     a table has each year's rate behind its line. RATE, or a record's rate, is not read: 0 may stand there\n"
-    "  --index LIST       the index rates of year 2, 3, .., with commas between them, as in 0.05,0.055,0.06; wanted with --adjustable,\n"
-    "                     a rate for each later year of the term, and '' where there is none; more are not read\n"
+    "                     pay at the rate INITIAL in year 1; not with --payment. A later year has its index rate, held within CAP of\n"
+    "                     the last year's rate, then not above INITIAL plus LIFETIME, and a payment worked out for the balance and\n"
+    "                     the months left. A table has each year's rate behind its line. RATE is not read, and 0 may stand there;\n"
+    "                     nor is a record's rate\n"
+    "  --index LIST       take the index rates of year 2, 3, .. from LIST, with commas between them, as in 0.05,0.055,0.06. It is\n"
+    "                     wanted with --adjustable: a rate for each later year of the term, or '' for none; more are not read\n"
     "\n"
     "A value may stand behind its option or in it, as in --records=FILE. A minus in front of a number makes no option of it.\n"
     "\n"
@@ -243,7 +244,7 @@ static enum status run_statement(char **words) {
     static struct run run;
     if (!choose_layout(&run.layout) || !choose_payment(&run.kind) || !choose_kind(&run.kind)) return FAILED;
     const enum status status = state_loans(words, &run);
-    if (run.good > 0) warn_of_rates(&run.kind);
+    if (status != FAILED && run.good > 0) warn_of_rates(&run.kind);
     return status;
 }
 
