@@ -190,28 +190,37 @@ static bool choose_payment(struct kind *kind) {
     return wrong == NULL;
 }
 
-/* The kind that the options name; false where they name two, which is then said. */
+/* The kind that the options name, with its value; false where they name two or the value is none, which is then said. */
 static bool name_kind(struct kind *kind) {
-    static const int namers[] = {[INTEREST_ONLY] = AS_INTEREST_ONLY, [BALLOON] = AS_BALLOON, [ADJUSTABLE] = AS_ADJUSTABLE};
+    static const struct {
+        int option;
+        bool (*read)(const struct option *option, struct kind *kind);
+    } kinds[] = {
+        [INTEREST_ONLY] = {AS_INTEREST_ONLY, read_months},
+        [BALLOON] = {AS_BALLOON, read_months},
+        [ADJUSTABLE] = {AS_ADJUSTABLE, read_adjustment},
+    };
     for (int name = INTEREST_ONLY; name <= ADJUSTABLE; name++) {
-        if (!is_given(namers[name])) continue;
+        const struct option *option = &options[kinds[name].option];
+        if (option->value == NULL) continue;
         if (kind->name != LEVEL) {
-            fail("%s does not go with %s: a loan is of one kind", options[namers[name]].name, options[namers[kind->name]].name);
+            fail("%s does not go with %s: a loan is of one kind", option->name, options[kinds[kind->name].option].name);
             return false;
         }
+        if (!kinds[name].read(option, kind)) return false;
         kind->name = name;
     }
     return true;
 }
 
-/* What does not go together with a kind, or is missing beside it; null where all is well. */
+/* What does not go with a kind, or is missing beside it; null where all is well. */
 static const char *amiss_with(const struct kind *kind) {
     if (kind->name != ADJUSTABLE) return is_given(INDEX) ? "--index goes with --adjustable alone" : NULL;
     if (kind->is_payment_given) return "--payment does not go with --adjustable, which works out each year's payment";
     return is_given(INDEX) ? NULL : "--adjustable wants --index beside it, the index rates of the years after the first";
 }
 
-/* The kind that the options ask for; false where they do not go together or cannot be read, which is then said. */
+/* The kind that the options ask for; false where there is none such, which is then said. */
 static bool choose_kind(struct kind *kind) {
     if (!name_kind(kind)) return false;
     const char *amiss = amiss_with(kind);
@@ -219,12 +228,7 @@ static bool choose_kind(struct kind *kind) {
         fail("%s", amiss);
         return false;
     }
-    switch (kind->name) {
-    case INTEREST_ONLY: return read_months(&options[AS_INTEREST_ONLY], kind);
-    case BALLOON: return read_months(&options[AS_BALLOON], kind);
-    case ADJUSTABLE: return read_adjustment(&options[AS_ADJUSTABLE], kind) && read_index(&options[INDEX], kind);
-    default: return true;
-    }
+    return !is_given(INDEX) || read_index(&options[INDEX], kind);
 }
 
 /* The loans from a file, or one from the words. */
