@@ -69,16 +69,24 @@ char *put_kind(char *at, const struct kind *kind) {
     }
 }
 
-/* Of an adjustable loan: a list that is too short, the entry at the refusal's place, or what is left. */
+static bool is_bad_cap(double cap) {
+    return !isfinite(cap) || cap < 0;
+}
+
+/* Of an adjustable loan: what stands alone comes before the list, and its length before the entry at the refusal's place. */
 static void put_adjustment_cause(char text[CAUSE_ROOM], const struct kind *kind, uint32_t term, uint32_t place) {
     const uint32_t wanted = SENYOLANDA_STARTED_YEARS(term) - 1;
-    if (kind->entries < wanted) {
+    if (!isfinite(kind->initial)) {
+        snprintf(text, CAUSE_ROOM, "the initial rate is not finite");
+    } else if (is_bad_cap(kind->cap)) {
+        snprintf(text, CAUSE_ROOM, "the cap is below zero or not finite");
+    } else if (is_bad_cap(kind->lifetime)) {
+        snprintf(text, CAUSE_ROOM, "the lifetime cap is below zero or not finite");
+    } else if (kind->entries < wanted) {
         snprintf(text, CAUSE_ROOM, "the index has %zu rate%s, and a term of %" PRIu32 " months wants %" PRIu32,
                  kind->entries, plural(kind->entries), term, wanted);
-    } else if (place < wanted && !isfinite(kind->index[place])) {
-        snprintf(text, CAUSE_ROOM, "index entry %" PRIu32 ", for year %" PRIu32 ", is not finite", place + 1, place + 2);
     } else {
-        snprintf(text, CAUSE_ROOM, "the initial rate is not finite, or a cap is below zero or not finite");
+        snprintf(text, CAUSE_ROOM, "index entry %" PRIu32 ", for year %" PRIu32 ", is not finite", place + 1, place + 2);
     }
 }
 

@@ -45,7 +45,7 @@ static const char help[] =
     "Loans are counted from 1. A refused loan gets a line on standard error, such as `loan 3: refused 2 at 2`: the loan's number,\n"
     "the refusal's number and the loan's place, which is counted from 0, and the cause in words, such as `index entry 3, for year\n"
     "4`, counted from 1; the loans after it get their statements. After 20 such lines refusals are only counted. A file whose first\n"
-    "10 records are all refused, and not for the kind alone, is read no further.\n"
+    "10 records are all refused, none of them with 16, is read no further.\n"
     "\n"
     "Exit status: 0, every loan has its statement; 1, a loan was refused, or the file holds none or ends inside a record; 2, bad\n"
     "usage, or a failure to read or write.\n";

@@ -311,16 +311,20 @@ for month in 0 13 1201 4294967295; do
     unfit "the balloon's month, $month, is not from 1 to the term's 12" --balloon $month 1200 0 12
     unfit "the balloon's month, $month, is not from 1 to the term's 12" --balloon $month --payment 5 1200 6 12
 done
-single="the initial rate is not finite, or a cap is below zero or not finite"
 for number in nan inf -inf; do
-    unfit "$single" --adjustable $number,0.02,0.06 --index 0.05 1200 0 24
-    unfit "$single" --adjustable 0.05,$number,0.06 --index 0.05 1200 0 24
-    unfit "$single" --adjustable 0.05,0.02,$number --index '' 1200 0 12
+    unfit "the initial rate is not finite" --adjustable $number,0.02,0.06 --index 0.05 1200 0 24
+    unfit "the cap is below zero or not finite" --adjustable 0.05,$number,0.06 --index 0.05 1200 0 24
+    unfit "the lifetime cap is below zero or not finite" --adjustable 0.05,0.02,$number --index '' 1200 0 12
 done
-unfit "$single" --adjustable 0.05,-0.02,0.06 --index 0.05 1200 0 24
-unfit "$single" --adjustable 0.05,0.02,-5e-324 --index 0.05 1200 0 24
+unfit "the cap is below zero or not finite" --adjustable 0.05,-0.02,0.06 --index 0.05 1200 0 24
+unfit "the lifetime cap is below zero or not finite" --adjustable 0.05,0.02,-5e-324 --index 0.05 1200 0 24
+# what stands alone comes before the list
+unfit "the initial rate is not finite" --adjustable nan,-1,-1 --index nan 1200 0 12
+unfit "the cap is below zero or not finite" --adjustable 0.05,-1,-1 --index nan 1200 0 36
+unfit "the lifetime cap is below zero or not finite" --adjustable 0.05,1,-1 --index nan 1200 0 24
 unfit "the index has 0 rates, and a term of 13 months wants 1" --adjustable 0.05,0.02,0.06 --index '' 1200 0 13
 unfit "the index has 1 rate, and a term of 25 months wants 2" --adjustable 0.05,0.02,0.06 --index 0.05 1200 0 25
+unfit "the index has 1 rate, and a term of 36 months wants 2" --adjustable 0.05,0.02,0.06 --index nan 1200 0 36
 unfit "the index has 98 rates, and a term of 1200 months wants 99" --adjustable 0.05,0.02,0.06 --index "${zeros%,}" 1200 0 1200
 for number in nan inf -inf; do
     unfit "index entry 1, for year 2, is not finite" --adjustable 0.05,0.02,0.06 --index $number 1200 0 13
