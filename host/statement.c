@@ -23,7 +23,7 @@ static const char help[] =
     "  -h, --help        write this\n"
     "  --                take no word behind this for an option\n"
     "\n"
-    "A loan pays the same each month, unless one of these says that it is of another kind:\n"
+    "A loan pays the same each month, unless one of these says that it, or every loan of FILE, is of another kind:\n"
     "\n"
     "  --interest-only K  pay interest alone in the first K months, and a level payment, or that of --payment, in those after them\n"
     "  --balloon M        pay as over all MONTHS, and the whole balance in month M; no rows come after it\n"
