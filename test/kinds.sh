@@ -549,4 +549,9 @@ for words in "--interest-only 2" "--balloon 2" "--adjustable 0.05,0.02,0.06 --in
         unwritten "Bad file descriptor"
     done
 done
+# work that ends there warns of nothing
+last="a file's loans at an initial rate of 5, on a full device"
+status=0
+"$program" statement --adjustable 5,0.02,0.06 --index= --records "$room/many" >/dev/full 2>"$room/said" || status=$?
+unwritten "No space left on device"
 echo "kinds: $count runs as they should be"
