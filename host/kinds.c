@@ -14,6 +14,13 @@ bool read_months(const struct option *option, struct kind *kind) {
     return false;
 }
 
+/* Reads the entry, from 1, of an option's value that stands between two ends of a text. */
+static bool read_entry(const struct option *option, size_t entry, const char *text, const char *end, double *number) {
+    const char *wrong = read_decimal_up_to(text, end, number);
+    if (wrong != NULL) fail("entry %zu of %s, '%.*s', %s", entry, option->name, (int)(end - text), text, wrong);
+    return wrong == NULL;
+}
+
 /* Reads decimals with commas between them, none of them from an empty text, and keeps at most so many. */
 static bool read_list(const struct option *option, double *numbers, size_t most, size_t *count) {
     *count = 0;
@@ -21,22 +28,26 @@ static bool read_list(const struct option *option, double *numbers, size_t most,
     for (const char *next = option->value, *end;; next = end + 1) {
         double number;
         end = next + strcspn(next, ",");
-        const char *wrong = read_decimal_up_to(next, end, &number);
-        if (wrong != NULL) {
-            fail("entry %zu of %s, '%.*s', %s", *count + 1, option->name, (int)(end - next), next, wrong);
-            return false;
-        }
+        if (!read_entry(option, *count + 1, next, end, &number)) return false;
         if (*count < most) numbers[*count] = number;
         ++*count;
         if (*end == '\0') return true;
     }
 }
 
+/* Reads a value of three words, a decimal each. */
+static bool read_words(const struct option *option, double *numbers) {
+    const char *words[] = {option->value, option->behind[0], option->behind[1]};
+    for (size_t k = 0; k < sizeof words / sizeof *words; k++)
+        if (!read_entry(option, k + 1, words[k], words[k] + strlen(words[k]), &numbers[k])) return false;
+    return true;
+}
+
 bool read_adjustment(const struct option *option, struct kind *kind) {
     enum { NUMBERS = 3 };
     double numbers[NUMBERS];
-    size_t count;
-    if (!read_list(option, numbers, NUMBERS, &count)) return false;
+    size_t count = NUMBERS;
+    if (!(option->behind[0] != NULL ? read_words(option, numbers) : read_list(option, numbers, NUMBERS, &count))) return false;
     if (count != NUMBERS) {
         fail("%s wants %s, and '%s' was given", option->name, option->wants, option->value);
         return false;

@@ -27,7 +27,7 @@ static const char help[] =
     "\n"
     "  --interest-only K  pay interest alone in the first K months, and a level payment, or that of --payment, in those after them\n"
     "  --balloon M        pay as over all MONTHS, and the whole balance in month M; no rows come after it\n"
-    "  --adjustable INITIAL,CAP,LIFETIME\n"
+    "  --adjustable INITIAL CAP LIFETIME\n"
     "                     pay at the rate INITIAL in year 1; not with --payment. A later year has its index rate, held within CAP of\n"
     "                     the last year's rate, then not above INITIAL plus LIFETIME, and a payment worked out for the balance and\n"
     "                     the months left. A table has each year's rate behind its line. RATE is not read, and 0 may stand there;\n"
@@ -35,7 +35,8 @@ static const char help[] =
     "  --index LIST       take the index rates of year 2, 3, .. from LIST, with commas between them, as in 0.05,0.055,0.06. It is\n"
     "                     wanted with --adjustable: a rate for each later year of the term, or '' for none; more are not read\n"
     "\n"
-    "A value may stand behind its option or in it, as in --records=FILE. A minus in front of a number makes no option of it.\n"
+    "A value may stand behind its option or in it, as in --records=FILE or --adjustable=0.05,0.02,0.06. A minus in front of a\n"
+    "number makes no option of it.\n"
     "\n"
     "Amounts are rounded for print alone, to the nearest cent and an exact half to the even one. A total, and a year's line, add\n"
     "the unrounded amounts from the top down, so that they can differ by some cents from the sum of what is printed above them; a\n"
@@ -60,7 +61,7 @@ enum {
 
 static struct option options[OPTIONS + 1] = {
     [ALL] = {"--all", NULL, NULL},
-    [AS_ADJUSTABLE] = {"--adjustable", "an initial rate, a cap and a lifetime cap, as in 0.05,0.02,0.06", NULL},
+    [AS_ADJUSTABLE] = {"--adjustable", "an initial rate, a cap and a lifetime cap, as in 0.05 0.02 0.06", NULL, .is_three = true},
     [AS_BALLOON] = {"--balloon", "a month", NULL},
     [AS_BITS] = {"--bits", NULL, NULL},
     [AS_CSV] = {"--csv", NULL, NULL},

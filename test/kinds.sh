@@ -158,7 +158,7 @@ for rate in 0.12 -0 6 nan inf; do
     writes <"$room/want"
 done
 
-stated --adjustable 0,0.12,0.12 --index 0,0.12 --years 2500 0 25
+stated --adjustable 0 0.12 0.12 --index 0,0.12 --years 2500 0 25
 writes <<END
 Loan 1: principal 2500.00, initial rate 0, months 25, adjustable with cap 0.12 and lifetime cap 0.12
  year  months  interest  principal  balance
@@ -500,10 +500,17 @@ for months in 3.5 -1 +3 "" " 3" 0x3 4294967296 nan --csv; do
 done
 amiss "--interest-only wants a number of months" 1200 0 12 --interest-only
 amiss "--balloon wants a month" 1200 0 12 --balloon
-amiss "--adjustable wants an initial rate, a cap and a lifetime cap, as in 0.05,0.02,0.06" 1200 0 12 --adjustable
+amiss "--adjustable wants an initial rate, a cap and a lifetime cap, as in 0.05 0.02 0.06" 1200 0 12 --adjustable
 amiss "--index wants index rates, as in 0.05,0.055,0.06" --adjustable 0.05,0.02,0.06 1200 0 12 --index
+for words in 0.05 "0.05 0.02"; do
+    amiss "--adjustable wants an initial rate, a cap and a lifetime cap, as in 0.05 0.02 0.06" 1200 0 12 --index 0.05 --adjustable $words
+done
 for numbers in "" 0.05 0.05,0.02 0.05,0.02,0.06,0.07; do
-    amiss "--adjustable wants an initial rate, a cap and a lifetime cap, as in 0.05,0.02,0.06, and '$numbers' was given" \
+    amiss "--adjustable wants an initial rate, a cap and a lifetime cap, as in 0.05 0.02 0.06, and '$numbers' was given" \
+        --adjustable="$numbers" --index 0.05 1200 0 13
+done
+for numbers in 0.05,0.02 0.05,0.02,0.06,0.07; do
+    amiss "--adjustable wants an initial rate, a cap and a lifetime cap, as in 0.05 0.02 0.06, and '$numbers' was given" \
         --adjustable "$numbers" --index 0.05 1200 0 13
 done
 decimal="is no decimal number, such as 250000 or 0.06"
@@ -511,6 +518,8 @@ amiss "entry 1 of --adjustable, '5%', $decimal" --adjustable 5%,0.02,0.06 --inde
 amiss "entry 3 of --adjustable, '', $decimal" --adjustable 0.05,0.02, --index 0.05 1200 0 13
 amiss "entry 2 of --adjustable, '0x1', $decimal" --adjustable 0.05,0x1,0.06 --index 0.05 1200 0 13
 amiss "entry 1 of --adjustable, '--index', $decimal" --adjustable --index 0.05 1200 0 13
+amiss "entry 2 of --adjustable, '--index', $decimal" --adjustable 0.05 --index 0.05 1200 0 13
+amiss "entry 3 of --adjustable, '0.06,', $decimal" --adjustable 0.05 0.02 0.06, --index 0.05 1200 0 13
 amiss "entry 1 of --index, 'rates.txt', $decimal" --adjustable 0.05,0.02,0.06 --index rates.txt 1200 0 13
 amiss "entry 1 of --index, '', $decimal" --adjustable 0.05,0.02,0.06 --index ,0.05 1200 0 13
 amiss "entry 2 of --index, '', $decimal" --adjustable 0.05,0.02,0.06 --index 0.05,,0.06 1200 0 13
@@ -526,7 +535,13 @@ wrong "'12' is a word too many" --interest-only 3 1200 0 12 12
 wrong "rate 'x' is no decimal number" --adjustable 0.05,0.02,0.06 --index 0.05 1200 x 13
 wrong "from --records or from the command line, not from both" --balloon 3 --records "$room/a" 1200 0 12
 
-# given twice, the last counts
+# given twice, the last counts, whatever its form
+stated --adjustable 0,0.12,0.12 --index 0.12 1300 0 13
+cp "$room/wrote" "$room/want"
+for words in "--adjustable 1 2 3 --adjustable=0,0.12,0.12" "--adjustable=1,2,3 --adjustable 0 0.12 0.12" "--adjustable 0 0.12 0.12"; do
+    stated $words --index 0.12 1300 0 13
+    writes <"$room/want"
+done
 stated --balloon 3 1200 0 12
 cp "$room/wrote" "$room/want"
 stated --balloon 5 1200 --balloon=3 0 12
