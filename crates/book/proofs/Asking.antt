@@ -28,7 +28,7 @@ use Rattle.mortgage.specs.Payment.{payment, loanOf, openedWith, opened}
 use Rattle.mortgage.specs.Month as any-month
 use Rattle.mortgage.specs.Level.{endMonth, due, rows}
 use Rattle.steps.specs.Steps.{pieces}
-use Rattle.mortgage.proofs.DrawLaws.{length-rows}
+use Rattle.mortgage.proofs.LevelLaws.{length-rows}
 use Rattle.book.specs.Book.{loanAt, answer, asked, firstRows}
 
 -- ---- by its terms

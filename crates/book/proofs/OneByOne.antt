@@ -18,8 +18,8 @@ use Rattle.mortgage.specs.Draws as any-draws
 use Rattle.mortgage.specs.Level.{due, rows, count, portion, drawn, filledBy, filled}
 use Rattle.steps.specs.Steps.{pieces, laid}
 use Rattle.mortgage.specs.Demand3.{rowsIn}
-use Rattle.mortgage.proofs.DrawCases.{drawn-short, drawn-rows}
-use Rattle.mortgage.proofs.DrawLaws.{length-rows, rows-drawn}
+use Rattle.mortgage.proofs.LevelLaws.{drawn-short, drawn-rows}
+use Rattle.mortgage.proofs.LevelLaws.{length-rows, rows-drawn}
 use Rattle.book.specs.Book.{loanCount, loanAt, asked, firstRows, allRows, askedBy, finishing, held, finished, cutShort, rowsUpTo, roomAfter}
 use Rattle.book.specs.OneByOne.{stops, behind, singly, counted, finishedSingly}
 use Rattle.book.proofs.Asking.{Fresh, fresh, some-due, none-first}

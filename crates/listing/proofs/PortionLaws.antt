@@ -20,9 +20,9 @@ use Rattle.mortgage.specs.Level.{endMonth, due, rowOf, nextOf, after, drawn, fi
 use Rattle.steps.specs.Steps.{pieces, stepped}
 use Rattle.mortgage.specs.Demand3.{rowsIn}
 use Rattle.steps.proofs.Portions.{stepped-sum, written-sum}
-use Rattle.mortgage.proofs.RowLaws.{term-after, end-after, done-after, due-after}
-use Rattle.mortgage.proofs.DrawCases.{drawn-finished, drawn-rows}
-use Rattle.mortgage.proofs.DrawLaws.{rows-drawn, written-plus-owed, hands-on}
+use Rattle.mortgage.proofs.LevelLaws.{term-after, end-after, done-after, due-after}
+use Rattle.mortgage.proofs.LevelLaws.{drawn-finished, drawn-rows}
+use Rattle.mortgage.proofs.LevelLaws.{rows-drawn, written-plus-owed, hands-on}
 use Rattle.listing.specs.declared.portions.Listed.{Listed}
 use Rattle.listing.specs.Listing.{rowLine, rowLines}
 use Rattle.listing.specs.inner.Putting.{Put}

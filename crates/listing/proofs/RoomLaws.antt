@@ -15,8 +15,8 @@ use Rattle.mortgage.specs.Level.{rowOf, after, rows}
 use Rattle.steps.specs.Steps.{pieces, laid}
 use Rattle.steps.proofs.Portions.{pieces-same}
 use Rattle.steps.proofs.Columns.{column-in-room}
-use Rattle.mortgage.proofs.RowLaws.{done-after}
-use Rattle.mortgage.proofs.DrawCases.{rowPlaces, wide}
+use Rattle.mortgage.proofs.LevelLaws.{done-after}
+use Rattle.mortgage.proofs.LevelLaws.{rowPlaces, wide}
 use Rattle.listing.specs.Listing.{rowLine, rowLines}
 use Rattle.listing.specs.inner.Putting.{Put}
 use Rattle.listing.specs.inner.Portions.{rowAt, roomLines}

@@ -8,6 +8,7 @@ pub mod YearByYear
 pub mod DrawOrder
 pub mod PlaceLaws
 pub mod DrawLaws
+pub mod LevelLaws
 pub mod Sequences
 pub mod RowsRepay
 pub mod Demand3
@@ -18,6 +19,7 @@ pub mod YearDrawLaws
 pub mod Summing
 pub mod Worked
 pub mod YearsWorked
+pub mod InterestOnly
 pub mod RowColumns
 pub mod PayingDown
 pub mod BreakEvens

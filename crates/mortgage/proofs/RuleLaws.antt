@@ -1,16 +1,23 @@
 -- Laws of the row rule over plain numbers, whatever loan they are of: what a month's principal and what is left are in the last month, in any other, and in an ordinary month, whose
--- principal neither bound changes; and that a month's principal, or none, is a part of the balance. Assumes nothing.
+-- principal neither bound changes; that a month's principal, or none, is a part of the balance; and that
+-- none leaves the balance to the bit. Assumes nothing.
 use mathlib.Core.Path.{_≡_, refl, sym, ap, _∙_}
 use mathlib.Core.Bool.{Bool, true, false}
+use Prim.Native.Nat.{ℕ, _*_}
+use native.Mathlib.Nat.{mul-pos, zero-lt-suc}
 use native.Mathlib.Omega.{arith}
 use lib.Dec.{T}
-use lib.Ieee.{Float, binary64, sub, lt, fits}
-use lib.Ieee.Fits.{sub-fits}
+use lib.IntN.{pos}
+use lib.Ieee.{Float, nan, inf, fin, Format, binary64, up, down, round, sum, add, sub, neg, lt, fits}
+use lib.Ieee.Fits.{sub-fits, down-pos}
+use borrow.Author.Tests.{le-ltb}
 use Rattle.numbers.specs.Clamps.{plusZero, raised, lowered}
 use Rattle.numbers.proofs.Amounts.{amount}
 use Rattle.numbers.proofs.Order.{zero-amount, zero-count}
 use Rattle.numbers.proofs.Clamping.{PartOf, whole-part, clamped-part}
 use Rattle.numbers.proofs.Differences.{left-above}
+use Rattle.numbers.proofs.Values.{round-itself}
+use Rattle.numbers.proofs.Zeros.{plus-zero}
 use Rattle.mortgage.specs.RowRule.{interestOf, principalOf, leftOf}
 
 -- neither bound changes a principal between 0 and the balance
@@ -24,6 +31,30 @@ left-as-it-is b p fb fp h g = rw (left-above binary64 b p fb fp h g)
 -- no principal is a part of any balance
 pub nothing-part : (b : Float) → PartOf binary64 plusZero b
 nothing-part b = (zero-amount binary64, rw (zero-count binary64) (omega arith))
+
+-- and leaves it as it is
+nothing-off : (f : Format) (s : Bool) (A c : ℕ) → sum f s A true 0 c ≡ round f s A c
+unfolding sum
+nothing-off f true A c = ap (λ (n : ℕ). round f true n c) (omega arith)
+nothing-off f false A c = rw (le-ltb A 0 (omega arith)) (ap (λ (n : ℕ). round f false n c) (omega arith))
+
+less-nothing : (f : Format) (x : Float) → T (fits f x) → sub f x (fin false 0 (pos 0)) ≡ x
+unfolding sub neg add
+less-nothing f nan t = refl
+less-nothing f (inf s) t = refl
+less-nothing f (fin s m e) t =
+    ap (λ (b : ℕ). sum f s (m * up e * 1) true b (down e * 1)) (none (down e))
+    ∙ nothing-off f s (m * up e * 1) (down e * 1)
+    ∙ round-itself f s m e (m * up e * 1) (down e * 1) t (mul-pos (down-pos e) (zero-lt-suc 0)) (turn (m * up e) (down e))
+  where
+    none : (d : ℕ) → 0 * 1 * d ≡ 0
+    none d = omega arith
+
+    turn : (M d : ℕ) → M * 1 * d ≡ M * (d * 1)
+    turn M d = omega arith
+
+pub nothing-taken : (b : Float) → T (fits binary64 b) → sub binary64 b plusZero ≡ b
+nothing-taken b t = ap (sub binary64 b) plus-zero ∙ less-nothing binary64 b t
 
 module _ (pay r b : Float) where
   pub last-principal : principalOf true pay r b ≡ b

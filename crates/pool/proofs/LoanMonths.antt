@@ -20,7 +20,7 @@ use Rattle.mortgage.specs.Month.{last}
 use Rattle.mortgage.specs.RowRule.{interestOf, principalOf, leftOf}
 use Rattle.steps.specs.Steps.{stepped}
 use Rattle.mortgage.specs.Totals.{balanceAfter}
-use Rattle.mortgage.proofs.RowLaws.{end-after, rate-after, payment-after, done-after}
+use Rattle.mortgage.proofs.LevelLaws.{end-after, rate-after, payment-after, done-after}
 use Rattle.mortgage.proofs.RuleLaws.{other-principal, ordinary-principal, left-is}
 use Rattle.pool.specs.declared.months.Month.{Month}
 use Rattle.pool.specs.Months.{loanMonth, plus, balanceBefore, withLoan}
