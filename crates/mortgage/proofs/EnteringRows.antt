@@ -15,12 +15,14 @@ use Rattle.mortgage.specs.declared.Loan.{Loan}
 use Rattle.mortgage.specs.declared.years.Year.{Year}
 use lib.Seq.{sets}
 use Rattle.mortgage.specs.Row.{width, principalPlace, interestPlace, balancePlace}
-use Rattle.mortgage.specs.Month.{rowOf}
+use Rattle.mortgage.specs.Kinds.{Way}
+use Rattle.mortgage.specs.Rates.{inForce}
+use Rattle.mortgage.specs.Month.{rowOn, rowOf}
 use Rattle.mortgage.specs.Rows.{after, rows}
 use Rattle.mortgage.specs.Years.{startedYears, yearWidth, yearPlaces, unbegun, withRow, lineBehind, goesOnFrom, enteredUpTo}
 use Rattle.mortgage.specs.YearDraws.{yearsAfter}
 use Rattle.mortgage.specs.inner.RoomRows.{rowsFrom, withRows}
-use Rattle.mortgage.proofs.RowLaws.{done-after}
+use Rattle.mortgage.proofs.RowLaws.{in-force-done, done-after}
 use Rattle.mortgage.proofs.DrawCases.{rowPlaces, wide}
 use Rattle.mortgage.proofs.YearLaws.{begins, entered-sum, entered-same, year-at-once}
 
@@ -63,22 +65,22 @@ rows-from-there numbers d k i =
     rw (m, a 1, a 2, a 3, a 4)
 
 -- the rows that stand at the start of a room are the loan's
-pub rows-of-the-loan : (l : Loan) (n : ℕ) (room : List Float) (i : ℕ) → i < n → rowsFrom (laid width n (rows n l) room) 0 (l .done) i ≡ rowOf (after i l)
-unfolding rowOf
-rows-of-the-loan l n room i h =
-    let m : l .done + i + 1 ≡ after i l .done + 1 = omega (arith, done-after i l) in
+pub rows-of-the-loan : (way : Way) (l : Loan) (n : ℕ) (room : List Float) (i : ℕ) → i < n → rowsFrom (laid width n (rows way n l) room) 0 (l .done) i ≡ rowOf way (after way i l)
+unfolding rowOf rowOn
+rows-of-the-loan way l n room i h =
+    let m : l .done + i + 1 ≡ inForce way (after way i l) .done + 1 = omega (arith, done-after way i l, in-force-done way (after way i l)) in
     rw (m, at 1 (omega arith), at 2 (omega arith), at 3 (omega arith), at 4 (omega arith))
   where
     numbers : List Float
-    numbers = laid width n (rows n l) room
+    numbers = laid width n (rows way n l) room
 
-    at : (j : ℕ) → j < width → getD numbers (0 + i * width + j) nan ≡ getD (rowPlaces (after i l)) j nan
+    at : (j : ℕ) → j < width → getD numbers (0 + i * width + j) nan ≡ getD (rowPlaces way (after way i l)) j nan
     at j k =
         ap (λ (p : ℕ). getD numbers (p + j) nan) (zero-add (i * width))
-        ∙ column-in-room (λ (a : ℕ). rowPlaces (after a l)) width (λ (a : ℕ). wide (after a l)) n i j nan (drop (n * width) room) h k
+        ∙ column-in-room (λ (a : ℕ). rowPlaces way (after way a l)) width (λ (a : ℕ). wide way (after way a l)) n i j nan (drop (n * width) room) h k
 
-pub entered-from-room : (l : Loan) (n : ℕ) (room years : List Float) → enteredUpTo (rowsFrom (laid width n (rows n l) room) 0 (l .done)) n years ≡ yearsAfter n l years
-entered-from-room l n room years = entered-same (rowsFrom (laid width n (rows n l) room) 0 (l .done)) (λ (i : ℕ). rowOf (after i l)) n years (λ i h. rows-of-the-loan l n room i h)
+pub entered-from-room : (way : Way) (l : Loan) (n : ℕ) (room years : List Float) → enteredUpTo (rowsFrom (laid width n (rows way n l) room) 0 (l .done)) n years ≡ yearsAfter way n l years
+entered-from-room way l n room years = entered-same (rowsFrom (laid width n (rows way n l) room) 0 (l .done)) (λ (i : ℕ). rowOf way (after way i l)) n years (λ i h. rows-of-the-loan way l n room i h)
 
 -- ---- n rows more behind k that are entered
 pub rows-more : (room : List Float) (d k n : ℕ) (years₀ years years′ : List Float) → years ≡ enteredUpTo (rowsFrom room 0 d) k years₀

@@ -150,7 +150,7 @@ module _ (way : Way) where
       line-of-year = of-its-rows ∙ definition-is
 
     -- and a lookup gives it, or is refused
-    module _ (good : badTerm (l .term) ≡ false) (most : n ≤ endMonth way l) (enough : startedYears (l .term) * yearWidth ≤ length years) where
+    module _ (good : badTerm (l .term) ≡ false) (most : n ≤ endMonth way l) (in-term : n ≤ l .term) (enough : startedYears (l .term) * yearWidth ≤ length years) where
       abbrev m : Loan
       m = after way n l
 
@@ -177,7 +177,7 @@ module _ (way : Way) where
         looked-up = λ year some begun. found year some (as-begun year begun);
         no-row-drawn = λ year other. elim other [
           | inl z ↦ sym (lookup-year-0 way m lines year good-still enough-still not-past z)
-          | inr h ↦ sym (lookup-no-row way m lines year good-still enough-still not-past (λ z. omega arith) (rw done-is (as-not-begun year h)))
+          | inr h ↦ sym (lookup-no-row way m lines year good-still enough-still not-past (λ z. omega arith) (omega (arith, as-not-begun year h, done-is)))
         ];
       }
         where
@@ -189,7 +189,7 @@ module _ (way : Way) where
 
           found : (year : ℕ) → 0 < year → year ≤ startedYears n → lookedUp way m lines year ≡ accepted (yearLine numbers year)
           found year some begun =
-              sym (lookup-found way m lines year good-still enough-still not-past (λ z. omega arith) (rw done-is begun)) ∙ ap accepted (line-of-year year some begun)
+              sym (lookup-found way m lines year good-still enough-still not-past (λ z. omega arith) (omega (arith, begun, done-is, in-term, term-after way n l))) ∙ ap accepted (line-of-year year some begun)
 
   -- ---- from an opening, whatever the rooms
   module _ (t : Terms) (pay : Float) (l : Loan) (e : kindOpenedWith way t pay ≡ accepted l) (years : List Float) where
@@ -215,7 +215,7 @@ module _ (way : Way) where
         let most : n ≤ endMonth way l = omega (arith, f .within) in
         let lent : startedYears (l .term) * yearWidth ≤ length years = rw term enough in
         let good : badTerm (l .term) ≡ false = ap badTerm term ∙ lines .1 in
-        rw (f .state, stepped-is n (l, years), f .by-the-rule, written-are n (l, years)) (sums-up l none years n (omega arith) good most lent)
+        rw (f .state, stepped-is n (l, years), f .by-the-rule, written-are n (l, years)) (sums-up l none years n (omega arith) good most (omega (arith, most, ends)) lent)
 
   pub summed-up-of-any-kind-worked-out : (t : Terms) (l : Loan) → kindOpened way t ≡ accepted l → (years : List Float) → startedYears (t .term) * yearWidth ≤ length years
       → (rooms : List (List Float)) → SumsUp way (kept way (l, years) rooms) (filedWithYears way (l, years) rooms)
