@@ -189,7 +189,7 @@ module _ (way : Way) (l : Loan) (c : Course) (on : c ≡ courseOf way (l .term))
   -- the rows that are due
   pub past-no-rows : c .end < l .done → 0 ≡ due way l
   unfolding due endMonth
-  past-no-rows h = rw on at h
+  past-no-rows h = let g : courseOf way (l .term) .end < l .done = rw on at h in omega arith
 
   pub rows-left : c .end - l .done ≡ due way l
   unfolding due endMonth
@@ -202,7 +202,7 @@ module _ (way : Way) (l : Loan) (c : Course) (on : c ≡ courseOf way (l .term))
 
     past-is : (t : Bool) → ltb (c .end) (l .done) ≡ t → pastEnd (endMonth way l) (l .done) ≡ t
     unfolding pastEnd endMonth
-    past-is t e = rw (← on) e
+    past-is t e = ap (λ (d : Course). ltb (d .end) (l .done)) (sym on) ∙ e
 
     pub state-past : b ≡ false → c .end < l .done → refused 10 0 ≡ verdict (stateLines way l)
     state-past e h =
@@ -231,15 +231,17 @@ module _ (way : Way) (l : Loan) (n : ℕ) (many : n ≡ due way l) where
   still-due h = omega (arith, h)
 
   module _ (x : Verdict) (e : verdictOutcome x ≡ verdict (stateLines way l)) (h : x ≡ verdict-is.Accepted) where
-    pub none-next : n ≡ 0 → accepted finished ≡ nextRow way l
+    judged-next : (t : Bool) → eqb (due way l) 0 ≡ t → accepted (cond t finished (next (rowOf way l) (nextOf way l))) ≡ nextRow way l
     unfolding nextRow
-    none-next z = let d : eqb (due way l) 0 ≡ true = eq-eqb (due way l) 0 (sym many ∙ z) in rw d at (accepted-by (stateLines way l) (cond (eqb (due way l) 0) finished (next (rowOf way l) (nextOf way l))) x h e)
+    judged-next t d =
+        ap (λ (b : Bool). accepted (cond b finished (next (rowOf way l) (nextOf way l)))) (sym d)
+        ∙ accepted-by (stateLines way l) (cond (eqb (due way l) 0) finished (next (rowOf way l) (nextOf way l))) x h e
+
+    pub none-next : n ≡ 0 → accepted finished ≡ nextRow way l
+    none-next z = judged-next true (eq-eqb (due way l) 0 (sym many ∙ z))
 
     pub row-next : (n ≡ 0 → ⊥) → (row : Row) (after : Loan) → (row ≡ rowOf way l) × (after ≡ nextOf way l) → accepted (next row after) ≡ nextRow way l
-    unfolding nextRow
-    row-next z row after is =
-        let d : eqb (due way l) 0 ≡ false = ne-eqb (due way l) 0 (λ w. z (many ∙ w)) in
-        rw (is .0, is .1) (rw d at (accepted-by (stateLines way l) (cond (eqb (due way l) 0) finished (next (rowOf way l) (nextOf way l))) x h e))
+    row-next z row after is = rw (is .0, is .1) (judged-next false (ne-eqb (due way l) 0 (λ w. z (many ∙ w))))
 
 -- ---- an opening: the lines of the terms, and then the kind's
 module _ (way : Way) (t : Terms) (pay : Float) (x : Verdict) (e : verdictOutcome x ≡ verdict (termsLines t)) where

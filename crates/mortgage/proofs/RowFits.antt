@@ -1,4 +1,4 @@
--- Every amount of a month by the row rule, and the balance after any number of rows, is a number that the machine holds, where the payment and the balance before are. Assumes nothing.
+-- Every amount of a month by the row rule, and the balance after any number of rows of a level loan, is a number that the machine holds, where the payment and the balance before are. Assumes nothing.
 use mathlib.Core.Bool.{Bool}
 use Prim.Native.Nat.{ℕ, zero, suc}
 use lib.Dec.{T}
@@ -9,10 +9,10 @@ use Rattle.numbers.specs.Clamps.{plusZero, raised, lowered}
 use Rattle.records.specs.declared.Terms.{Terms}
 use Rattle.mortgage.specs.declared.Loan.{Loan}
 use Rattle.mortgage.specs.Payment.{monthlyRate, growth, payment, levelPayment}
-use Rattle.mortgage.specs.Month.{nextOf}
+use Rattle.mortgage.specs.Month.{remaining, nextOn, nextOf}
 use Rattle.mortgage.specs.RowRule.{interestOf, principalOf, paymentOf, leftOf}
 use Rattle.steps.specs.Steps.{stepped}
-use Rattle.mortgage.specs.Rows.{after}
+use Rattle.mortgage.specs.Level.{after}
 
 pub raised-held : (x : Float) → T (fits binary64 x) → T (fits binary64 (raised x))
 unfolding fits ofBits
@@ -49,8 +49,8 @@ module _ (last : Bool) (pay r balance : Float) (pays : T (fits binary64 pay)) (o
   pub balance-column-held : T (fits binary64 (raised (leftOf last pay r balance)))
   balance-column-held = raised-held (leftOf last pay r balance) left-held
 
--- ---- the balance after so many rows
+-- ---- the balance after so many rows of a level loan
 pub balance-after-held : (k : ℕ) (l : Loan) → T (fits binary64 (l .balance)) → T (fits binary64 (after k l .balance))
-unfolding stepped nextOf leftOf
+unfolding stepped nextOf nextOn remaining
 balance-after-held zero l owes = owes
 balance-after-held (suc k) l owes = sub-fits binary64 _ _

@@ -12,7 +12,7 @@ returns c = simp (eq-eqb _ _ (c .if1 .taken))
 
 returns-2 : tie.Need-returns-2
 unfolding badPeriod
-returns-2 c = at-least _ _ ∙ simp (ne-eqb _ _ (c .if1 .left))
+returns-2 c = at-least (c .before .args .term) (c .before .args .months) ∙ simp (ne-eqb _ _ (c .if1 .left))
 
 pub bad-period-spec : {M : Type 1} → statement M
 bad-period-spec = tie.close (tie.spec returns returns-2)

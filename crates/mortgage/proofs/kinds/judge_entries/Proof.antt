@@ -17,7 +17,7 @@ abbrev μ-loop : tie.MeasureT-loop
 μ-loop index read k₀ k = read - k
 
 loop-holds : tie.Need-loop-holds Inv-loop μ-loop
-loop-holds c = (omega arith, entries-begun _ _)
+loop-holds c = (omega arith, entries-begun (c .before .args .index .now) (c .before .args .read))
 
 cast-bad-number : tie.Need-cast-bad-number Inv-loop μ-loop
 cast-bad-number c = omega arith

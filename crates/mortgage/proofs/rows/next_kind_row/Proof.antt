@@ -3,6 +3,7 @@ use mathlib.Core.Path.{sym, ap, _∙_}
 use borrow.Author.Needs.{needs}
 use Rattle.refusals.specs.Answers.{verdictOutcome}
 use Rattle.refusals.proofs.Verdicts.{refused-by}
+use Rattle.mortgage.specs.Kinds.{wayOf}
 use Rattle.mortgage.specs.Rows.{nextRow}
 use Rattle.mortgage.proofs.DrawCases.{state-clear, fits-listed, fits-ends}
 use Rattle.mortgage.proofs.KindLaws.{still-due, none-next, row-next}
@@ -36,7 +37,7 @@ month-due-requires c κs =
     let judge = told .before .before in
     let a = judge .before .before .args in
     let fits = state-clear _ (a .loan) (sym (ap verdictOutcome (told .enum-told .given .1)) ∙ judge .judge-state .ensures) .kind-fits in
-    ((still-due _ (a .loan) _ (rows .kind-rows-due .ensures (a .index .now)) (c .if1 .left), fits-ends _ (a .loan) fits), fits-listed _ _ fits)
+    ((still-due _ (a .loan) _ (rows .kind-rows-due .ensures (a .index .now)) (c .if1 .left), fits-ends _ (a .loan) fits), fits-listed (wayOf (a .kind) (a .index .now)) (a .loan .term) fits)
 
 returns-2 : tie.Need-returns-2
 unfolding nextRow
