@@ -47,11 +47,11 @@ at-least a b = go (ltb b a) (ltb-true b a) (ltb-false b a)
 
 -- ---- line 16
 -- the tests of lines 1 and 9 are those of a cap, of an initial rate and of an entry
-pub cap-cause : (x : Float) → badAmount x ≡ badCap x
+cap-cause : (x : Float) → badAmount x ≡ badCap x
 unfolding badAmount badCap
 cap-cause x = refl
 
-pub initial-cause : (x : Float) → badNumber x ≡ badInitial x
+initial-cause : (x : Float) → badNumber x ≡ badInitial x
 unfolding badNumber badInitial
 initial-cause x = refl
 
@@ -197,9 +197,6 @@ module _ (way : Way) (l : Loan) (c : Course) (on : c ≡ courseOf way (l .term))
 
   -- lines 2, 10 and 16 of a loan in hand
   module _ (b : Bool) (asked : b ≡ badTerm (l .term)) where
-    pub state-bad-term : b ≡ true → refused 2 0 ≡ verdict (stateLines way l)
-    state-bad-term e = caused tt 2 (badTerm (l .term)) _ (sym asked ∙ e)
-
     past-is : (t : Bool) → ltb (c .end) (l .done) ≡ t → pastEnd (endMonth way l) (l .done) ≡ t
     unfolding pastEnd endMonth
     past-is t e = ap (λ (d : Course). ltb (d .end) (l .done)) (sym on) ∙ e

@@ -1,6 +1,5 @@
 -- `mortgage::kinds::judge_adjustment` meets its contract: what it names alone, then the length of the list, then its entries. Assumes nothing.
 use mathlib.Core.Path.{_∙_}
-use native.Mathlib.Omega.{arith}
 use borrow.Author.Needs.{needs}
 use Rattle.refusals.proofs.Verdicts.{refused-as}
 use Rattle.mortgage.proofs.KindLaws.{named-bad, too-few-entries, entries-decide}

@@ -1,5 +1,4 @@
 -- `mortgage::payment::growth` meets its contract. Assumes nothing.
-use mathlib.Core.Path.{refl}
 use borrow.Author.Needs.{needs}
 use Rattle.mortgage.specs.Payment.{growth}
 use Rattle.mortgage.proofs.payment.growth.Statement.{statement}

@@ -1,10 +1,9 @@
 -- `mortgage::rows::judge_state` meets its contract: the term, then the months done, then the kind. Assumes nothing.
-use mathlib.Core.Path.{_∙_}
+use mathlib.Core.Path.{sym, _∙_}
 use borrow.Author.Needs.{needs}
 use Rattle.refusals.proofs.Verdicts.{refused-as}
 use Rattle.refusals.proofs.OneCause.{caused}
 use Rattle.mortgage.proofs.KindLaws.{state-past, state-of-kind}
-use mathlib.Core.Path.{sym}
 use Rattle.mortgage.proofs.rows.judge_state.Statement.{statement}
 use Rattle.mortgage.proofs.rows.judge_state.Tie as tie
 

@@ -1,7 +1,5 @@
 -- `mortgage::rows::kind_rows_due` meets its contract. Assumes nothing.
-use native.Mathlib.Omega.{arith}
 use borrow.Author.Needs.{needs}
-use Rattle.mortgage.specs.Month.{endMonth, due}
 use Rattle.mortgage.proofs.KindLaws.{past-no-rows, rows-left}
 use Rattle.mortgage.proofs.rows.kind_rows_due.Statement.{statement}
 use Rattle.mortgage.proofs.rows.kind_rows_due.Tie as tie
