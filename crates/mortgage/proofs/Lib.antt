@@ -1,5 +1,6 @@
 pub mod RuleLaws
 pub mod RowLaws
+pub mod KindLaws
 pub mod RowFits
 pub mod RowsLaid
 pub mod SteadyKinds
