@@ -25,10 +25,10 @@ use Rattle.mortgage.specs.declared.Loan.{Loan}
 use Rattle.mortgage.specs.Row.{width}
 use Rattle.mortgage.specs.Terms.{termsLines}
 use Rattle.mortgage.specs.Payment.{payment, loanOf, openedWith, opened}
-use Rattle.mortgage.specs.Month.{endMonth, due}
-use Rattle.mortgage.specs.Rows.{rows}
+use Rattle.mortgage.specs.Month as any-month
+use Rattle.mortgage.specs.Level.{endMonth, due, rows}
 use Rattle.steps.specs.Steps.{pieces}
-use Rattle.mortgage.proofs.DrawLaws.{length-rows}
+use Rattle.mortgage.proofs.LevelLaws.{length-rows}
 use Rattle.book.specs.Book.{loanAt, answer, asked, firstRows}
 
 -- ---- by its terms
@@ -38,7 +38,7 @@ module _ (t : Terms) (x : Verdict) (e : verdictOutcome x ≡ judged (termsLines 
   refused-terms r h = refused-by (termsLines t) (loanOf t (payment t)) x r h e
 
   pub accepted-terms : x ≡ verdict-is.Accepted → (0 ≡ answer (opened t)) × (t .term ≡ asked (opened t))
-  unfolding opened openedWith loanOf due endMonth
+  unfolding opened openedWith loanOf any-month.due any-month.endMonth
   accepted-terms h =
       let same : accepted (loanOf t (payment t)) ≡ opened t = accepted-by (termsLines t) (loanOf t (payment t)) x h e in
       let d : t .term ≡ due (loanOf t (payment t)) = omega arith in
@@ -84,7 +84,7 @@ unfolding badTerm
 some-term n e = let h : n ≡ 0 → ⊥ = eqb-false n 0 (neither (eqb n 0) (ltb 1200 n) e .0) in omega (arith, h)
 
 pub some-due : (l : Loan) → Fresh l → l .done < endMonth l
-unfolding endMonth
+unfolding any-month.endMonth
 some-due l new = omega (arith, some-term (l .term) (new .good), new .unstarted)
 
 -- ---- so many rows are so many times their places

@@ -13,13 +13,13 @@ use Rattle.refusals.specs.Outcome.{Outcome, refused, accepted}
 use Rattle.mortgage.specs.declared.Loan.{Loan}
 use Rattle.mortgage.specs.declared.draws.Portion.{Portion}
 use Rattle.mortgage.specs.Row.{width}
-use Rattle.mortgage.specs.Month.{due}
+use Rattle.mortgage.specs.Month as any-month
+use Rattle.mortgage.specs.Draws as any-draws
+use Rattle.mortgage.specs.Level.{due, rows, count, portion, drawn, filledBy, filled}
 use Rattle.steps.specs.Steps.{pieces, laid}
-use Rattle.mortgage.specs.Rows.{rows}
-use Rattle.mortgage.specs.Draws.{count, portion, drawn, filledBy, filled}
 use Rattle.mortgage.specs.Demand3.{rowsIn}
-use Rattle.mortgage.proofs.DrawCases.{drawn-short, drawn-rows}
-use Rattle.mortgage.proofs.DrawLaws.{length-rows, rows-drawn}
+use Rattle.mortgage.proofs.LevelLaws.{drawn-short, drawn-rows}
+use Rattle.mortgage.proofs.LevelLaws.{length-rows, rows-drawn}
 use Rattle.book.specs.Book.{loanCount, loanAt, asked, firstRows, allRows, askedBy, finishing, held, finished, cutShort, rowsUpTo, roomAfter}
 use Rattle.book.specs.OneByOne.{stops, behind, singly, counted, finishedSingly}
 use Rattle.book.proofs.Asking.{Fresh, fresh, some-due, none-first}
@@ -35,7 +35,7 @@ same-test a b c d f g = go (ltb c d) (ltb-true c d) (ltb-false c d)
 
 module _ (l : Loan) (new : Fresh l) (room : List Float) where
   stops-when : stops (drawn l room) ≡ ltb (held (length room)) (due l)
-  unfolding portion due
+  unfolding any-draws.portion any-month.due
   stops-when = go (ltb (length room) width) (ltb-true (length room) width) (ltb-false (length room) width)
     where
       go : (small : Bool) → (small ≡ true → length room < width) → (small ≡ false → width ≤ length room) → stops (drawn l room) ≡ ltb (held (length room)) (due l)
@@ -48,7 +48,7 @@ module _ (l : Loan) (new : Fresh l) (room : List Float) where
           ∙ same-test 0 (due l - count l (length room)) (held (length room)) (due l) (λ h. omega arith) (λ h. omega arith)
 
   filled-rows : filled l room ≡ laid width (count l (length room)) (rows (count l (length room)) l) room
-  unfolding filled pieces
+  unfolding any-draws.filled pieces
   filled-rows = go (drawn l room) ∙ ap (λ (k : ℕ). laid width k (rows k l) room) (rows-drawn l room (new .good))
     where
       go : (o : Outcome Portion) → filledBy o l room ≡ laid width (rowsIn o) (rows (rowsIn o) l) room

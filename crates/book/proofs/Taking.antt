@@ -13,14 +13,13 @@ use mir.Val.{Fits}
 use Rattle.refusals.specs.Outcome.{Outcome, refused, accepted}
 use Rattle.mortgage.specs.declared.Loan.{Loan}
 use Rattle.mortgage.specs.Row.{width}
-use Rattle.mortgage.specs.Month.{due, nextOf}
+use Rattle.mortgage.specs.Level.{due, nextOf, after, rows}
 use Rattle.steps.specs.Steps.{pieces, laid}
-use Rattle.mortgage.specs.Rows.{after, rows}
 use Rattle.mortgage.specs.Places.{countAt, countAtBoth}
-use Rattle.mortgage.proofs.RowLaws.{due-after}
-use Rattle.mortgage.proofs.DrawCases.{rowPlaces}
+use Rattle.mortgage.proofs.LevelLaws.{due-after}
+use Rattle.mortgage.proofs.LevelLaws.{rowPlaces}
 use Rattle.mortgage.proofs.PlaceLaws.{all-at, all-at-both}
-use Rattle.mortgage.proofs.DrawLaws.{length-rows}
+use Rattle.mortgage.proofs.LevelLaws.{length-rows}
 use Rattle.steps.proofs.Rooms.{behind, sets-append, sets-apart}
 use Rattle.steps.proofs.Portions.{written-rest}
 use Rattle.book.specs.Book.{loanCount, loanAt, asked, firstRows, allRows, askedBy, rowsUpTo}

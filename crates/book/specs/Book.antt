@@ -16,8 +16,7 @@ use Rattle.book.specs.declared.BookDrawing.{BookDrawing}
 use Rattle.book.specs.declared.BookDrawing.the-variants as drawing-is
 use Rattle.mortgage.specs.Payment.{opened}
 use Rattle.mortgage.specs.Row.{width}
-use Rattle.mortgage.specs.Month.{due}
-use Rattle.mortgage.specs.Rows.{rows}
+use Rattle.mortgage.specs.Level.{due, rows}
 
 -- ---- the loans
 

@@ -9,8 +9,7 @@ use Rattle.refusals.specs.Outcome.{Outcome, refused, accepted}
 use Rattle.mortgage.specs.declared.Loan.{Loan}
 use Rattle.mortgage.specs.declared.draws.Portion.{Portion}
 use Rattle.mortgage.specs.Row.{width}
-use Rattle.mortgage.specs.Month.{due}
-use Rattle.mortgage.specs.Draws.{drawn, filled}
+use Rattle.mortgage.specs.Level.{due, drawn, filled}
 use Rattle.book.specs.Book.{loanAt}
 
 -- the calls stop at a draw that is refused for want of room, or that leaves rows owed

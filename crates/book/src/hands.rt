@@ -4,7 +4,7 @@ ghost use Prim.Native.Nat.{_+_, _*_, _≤_, _<_, min};
 ghost use lib.ListN.{length};
 ghost use lib.Seq.{sets};
 ghost use Rattle.mortgage.specs.Row.{width};
-ghost use Rattle.mortgage.specs.Month.{due};
+ghost use Rattle.mortgage.specs.Level.{due};
 ghost use Rattle.steps.specs.Steps.{laid};
 ghost use Rattle.book.specs.Book.{loanCount, loanAt, asked, firstRows, allRows, askedBy, rowsUpTo};
 ghost use Rattle.book.specs.inner.Hands.{drawnOut};

@@ -7,8 +7,7 @@ use lib.ListN.{length, length-append}
 use Rattle.records.specs.declared.Row.{Row}
 use Rattle.mortgage.specs.declared.Loan.{Loan}
 use Rattle.mortgage.specs.Row.{width}
-use Rattle.mortgage.specs.Month.{rowOf}
-use Rattle.mortgage.specs.Rows.{after}
+use Rattle.mortgage.specs.Level.{rowOf, after}
 use Rattle.steps.proofs.Portions.{length-at-most}
 use Rattle.listing.specs.Digits.{decimal}
 use Rattle.listing.specs.Listing.{lineEnd, spaced, rowLine, rowLines, footer, refusedLine}

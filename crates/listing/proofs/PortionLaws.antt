@@ -14,15 +14,15 @@ use Rattle.refusals.proofs.Causes.{term-within}
 use Rattle.mortgage.specs.declared.Loan.{Loan}
 use Rattle.mortgage.specs.declared.draws.Portion.{Portion}
 use Rattle.mortgage.specs.Row.{width}
-use Rattle.mortgage.specs.Month.{endMonth, due, rowOf, nextOf}
+use Rattle.mortgage.specs.Month as any-month
+use Rattle.mortgage.specs.Draws as any-draws
+use Rattle.mortgage.specs.Level.{endMonth, due, rowOf, nextOf, after, drawn, filled}
 use Rattle.steps.specs.Steps.{pieces, stepped}
-use Rattle.mortgage.specs.Rows.{after}
-use Rattle.mortgage.specs.Draws.{drawn, filled}
 use Rattle.mortgage.specs.Demand3.{rowsIn}
 use Rattle.steps.proofs.Portions.{stepped-sum, written-sum}
-use Rattle.mortgage.proofs.RowLaws.{term-after, end-after, done-after, due-after}
-use Rattle.mortgage.proofs.DrawCases.{drawn-finished, drawn-rows}
-use Rattle.mortgage.proofs.DrawLaws.{rows-drawn, written-plus-owed, hands-on}
+use Rattle.mortgage.proofs.LevelLaws.{term-after, end-after, done-after, due-after}
+use Rattle.mortgage.proofs.LevelLaws.{drawn-finished, drawn-rows}
+use Rattle.mortgage.proofs.LevelLaws.{rows-drawn, written-plus-owed, hands-on}
 use Rattle.listing.specs.declared.portions.Listed.{Listed}
 use Rattle.listing.specs.Listing.{rowLine, rowLines}
 use Rattle.listing.specs.inner.Putting.{Put}
@@ -44,16 +44,16 @@ module _ (l : Loan) (room : List Float) (good : badTerm (l .term) ≡ false) (d 
   as-many = sym (ap rowsIn e) ∙ rows-drawn l room good
 
   pub still-owed : d .owed ≡ due (d .loan)
-  unfolding due
+  unfolding any-month.due
   still-owed = omega (arith, written-plus-owed l room d e, ap due (hands-on l room d e) ∙ due-after (d .written) l)
 
   pub its-lines : roomLines (l .done) (filled l room) (d .written) ≡ rowLines (d .written) l
-  unfolding filled
+  unfolding any-draws.filled
   its-lines = rw e (laid-lines l (d .written) room)
 
 -- ---- a loan that is listed is as short as its term
 pub short : (l : Loan) → badTerm (l .term) ≡ false → endMonth l ≤ 1200
-unfolding endMonth
+unfolding any-month.endMonth
 short l = term-within (l .term)
 
 -- ---- the portion that is drawn into its room and put as lines
@@ -63,7 +63,7 @@ module _ (s : Listed) (space : ℕ) (ok : Listable s space) (room : List Float) 
 
   pub portion-fits : (room′ : List Float) → length room′ ≡ length room
       → (d .written * width ≤ length room′) × (s .loan .done + d .written < 2 ^ 32) × (s .at + d .written * lineRoom ≤ space)
-  unfolding due
+  unfolding any-month.due
   portion-fits room′ n =
       let b : endMonth (s .loan) ≤ 1200 = short (s .loan) (ok .drawable .term) in
       (omega (arith, many), omega (arith, many, ok .drawable .done), omega (arith, many, ok .lines))
@@ -99,7 +99,7 @@ follows {j} {k} {s} {t} {u} {o} {p} {q} a b = record {
 
 -- what is left can be listed too
 pub still-listable : {k : ℕ} {s t : Listed} {o p : List ℕ} → Listable s (length o) → Lists k s o t p → k ≤ due (s .loan) → Listable t (length p)
-unfolding due
+unfolding any-month.due
 still-listable {k} {s} {t} {o} {p} ok a h =
     let l = ap due (a .loan) ∙ due-after k (s .loan) in
     record {

@@ -9,13 +9,14 @@ use lib.Ieee.{Float, nan}
 use Rattle.records.specs.declared.Row.{Row}
 use Rattle.mortgage.specs.declared.Loan.{Loan}
 use Rattle.mortgage.specs.Row.{width, paymentPlace, principalPlace, interestPlace, balancePlace, places}
-use Rattle.mortgage.specs.Month.{rowOf}
+use Rattle.mortgage.specs.Rates as any-rates
+use Rattle.mortgage.specs.Month as any-month
+use Rattle.mortgage.specs.Level.{rowOf, after, rows}
 use Rattle.steps.specs.Steps.{pieces, laid}
-use Rattle.mortgage.specs.Rows.{after, rows}
 use Rattle.steps.proofs.Portions.{pieces-same}
 use Rattle.steps.proofs.Columns.{column-in-room}
-use Rattle.mortgage.proofs.RowLaws.{done-after}
-use Rattle.mortgage.proofs.DrawCases.{rowPlaces, wide}
+use Rattle.mortgage.proofs.LevelLaws.{done-after}
+use Rattle.mortgage.proofs.LevelLaws.{rowPlaces, wide}
 use Rattle.listing.specs.Listing.{rowLine, rowLines}
 use Rattle.listing.specs.inner.Putting.{Put}
 use Rattle.listing.specs.inner.Portions.{rowAt, roomLines}
@@ -38,7 +39,7 @@ module _ (l : Loan) (n : ℕ) (rest : List Float) where
   at-place i j = column-in-room (λ (k : ℕ). rowPlaces (after k l)) width (λ (k : ℕ). wide (after k l)) n i j nan rest
 
   row-is : (i : ℕ) → i < n → rowAt (l .done + i + 1) (rows n l ++ rest) (i * width) ≡ rowOf (after i l)
-  unfolding rowAt rowOf
+  unfolding rowAt any-month.rowOf any-month.rowOn any-month.paid any-month.principal any-month.remaining any-month.interestAlone any-rates.inForce
   row-is i h =
       rw (at-place i paymentPlace h (omega arith), at-place i principalPlace h (omega arith), at-place i interestPlace h (omega arith), at-place i balancePlace h (omega arith), ← done-after i l)
 

@@ -14,8 +14,8 @@ use Rattle.records.specs.Kinds.{readTerms}
 use Rattle.mortgage.specs.declared.Loan.{Loan}
 use Rattle.mortgage.specs.Terms.{termsLines as loanTermsLines}
 use Rattle.mortgage.specs.Payment.{payment, loanOf, openedWith, opened}
-use Rattle.mortgage.specs.Month.{due}
-use Rattle.mortgage.specs.Rows.{after}
+use Rattle.mortgage.specs.Month as any-month
+use Rattle.mortgage.specs.Level.{due, after}
 use Rattle.refusals.proofs.Verdicts.{accepted-value}
 use Rattle.listing.specs.declared.portions.Listed.{Listed}
 use Rattle.listing.specs.Listing.{header, rowLines, footer, refusedLine, loanLines, listed, listedSize, linesOver, saying, listing}
@@ -42,7 +42,7 @@ opened-in-hand t l e =
     }
 
 few-due : (l : Loan) → InHand l → due l ≤ 1200
-unfolding due
+unfolding any-month.due
 few-due l h = omega (arith, short l (h .term))
 
 -- ---- a loan's listing, part by part

@@ -10,9 +10,8 @@ use Rattle.records.specs.declared.Row.{Row}
 use Rattle.records.specs.Kinds.{readTerms}
 use Rattle.mortgage.specs.declared.Loan.{Loan}
 use Rattle.mortgage.specs.Payment.{opened}
-use Rattle.mortgage.specs.Month.{due, rowOf, nextOf}
+use Rattle.mortgage.specs.Level.{due, rowOf, nextOf, after}
 use Rattle.steps.specs.Steps.{written}
-use Rattle.mortgage.specs.Rows.{after}
 use Rattle.listing.specs.Digits.{hexDigits, decimal}
 
 -- "month payment principal interest balance", and a line's end

@@ -3,7 +3,7 @@ ghost use mathlib.Core.Path.{_≡_};
 ghost use Prim.Native.Nat.{_+_, _*_, _^_, _<_, _≤_, min};
 ghost use lib.ListN.{length};
 ghost use Rattle.mortgage.specs.Row.{width};
-ghost use Rattle.mortgage.specs.Month.{due};
+ghost use Rattle.mortgage.specs.Level.{due};
 ghost use Rattle.listing.specs.Listing.{loanLines};
 ghost use Rattle.listing.specs.inner.Putting.{Put};
 ghost use Rattle.listing.specs.inner.Portions.{rowAt, roomLines, lineRoom, listingRoom, portionRows, InHand, Listable, Lists};

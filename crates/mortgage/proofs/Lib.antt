@@ -1,9 +1,13 @@
 pub mod RuleLaws
 pub mod RowLaws
 pub mod RowFits
+pub mod RowsLaid
+pub mod SteadyKinds
 pub mod DrawCases
+pub mod YearByYear
 pub mod PlaceLaws
 pub mod DrawLaws
+pub mod LevelLaws
 pub mod Sequences
 pub mod RowsRepay
 pub mod Demand3

@@ -1,56 +1,108 @@
--- Every amount of a month by the row rule, and the balance after any number of rows, is a number that the machine holds, where the payment and the balance before are. Assumes nothing.
-use mathlib.Core.Bool.{Bool}
+-- Every amount of a month of a loan of any kind, and the payment and the balance after any number of rows, is a number that the machine holds, where the payment and the balance before
+-- are. Assumes nothing.
+use mathlib.Core.Bool.{Bool, true, false, cond}
 use Prim.Native.Nat.{ℕ, zero, suc}
 use lib.Dec.{T}
 use lib.IntN.{pos}
 use lib.Ieee.{Float, binary64, sub, div, eq, fits, lt, ofInt, ofBits}
 use lib.Ieee.Fits.{cond-fits, add-fits, sub-fits, mul-fits, div-fits}
 use Rattle.numbers.specs.Clamps.{plusZero, raised, lowered}
+use Rattle.records.specs.declared.Row.{Row}
 use Rattle.records.specs.declared.Terms.{Terms}
 use Rattle.mortgage.specs.declared.Loan.{Loan}
+use Rattle.mortgage.specs.declared.kinds.Course.{Course}
 use Rattle.mortgage.specs.Payment.{monthlyRate, growth, payment, levelPayment}
-use Rattle.mortgage.specs.Month.{nextOf}
-use Rattle.mortgage.specs.RowRule.{interestOf, principalOf, paymentOf, leftOf}
+use Rattle.mortgage.specs.RowRule.{interestOf, principalOf, paymentOf}
+use Rattle.mortgage.specs.Kinds.{Way, level, interestOnly, balloon, adjustable}
+use Rattle.mortgage.specs.Rates.{nextRate, entryBehind, beginsLaterYear, adjustedTo, inForce}
+use Rattle.mortgage.specs.Month.{interestAlone, last, byTheRule, interest, principal, paid, remaining, rowOn, nextOn, course, rowOf, nextOf}
 use Rattle.steps.specs.Steps.{stepped}
 use Rattle.mortgage.specs.Rows.{after}
 
-pub raised-held : (x : Float) → T (fits binary64 x) → T (fits binary64 (raised x))
-unfolding fits ofBits
-raised-held x h = cond-fits binary64 (lt plusZero x) x plusZero h tt
+-- the machine holds it
+abbrev pub Held : Float → Type 0
+Held x = T (fits binary64 x)
 
-pub lowered-held : (p b : Float) → T (fits binary64 p) → T (fits binary64 b) → T (fits binary64 (lowered p b))
+nothing-held : Held plusZero
+unfolding fits ofBits
+nothing-held = tt
+
+raised-held : (x : Float) → Held x → Held (raised x)
+raised-held x h = cond-fits binary64 (lt plusZero x) x plusZero h nothing-held
+
+lowered-held : (p b : Float) → Held p → Held b → Held (lowered p b)
 lowered-held p b h g = cond-fits binary64 (lt p b) p b h g
 
 -- ---- the payment that is worked out
-pub payment-held : (t : Terms) → T (fits binary64 (payment t))
+pub payment-held : (t : Terms) → Held (payment t)
 unfolding payment levelPayment
 payment-held t =
     cond-fits binary64 (eq (monthlyRate (t .rate)) plusZero) (div binary64 (t .principal) (ofInt binary64 (pos (t .term))))
     (levelPayment (t .principal) (monthlyRate (t .rate)) (growth (monthlyRate (t .rate)) (t .term))) (div-fits binary64 _ _) (div-fits binary64 _ _)
 
--- ---- a month's amounts
-module _ (last : Bool) (pay r balance : Float) (pays : T (fits binary64 pay)) (owes : T (fits binary64 balance)) where
-  pub interest-held : T (fits binary64 (interestOf r balance))
+-- ---- a loan in hand, and a row
+pub record LoanHeld (l : Loan) : Type 0 where
+  pub pays : Held (l .payment)
+  pub owes : Held (l .balance)
+
+pub record RowHeld (r : Row) : Type 0 where
+  pub payment-held : Held (r .payment)
+  pub principal-held : Held (r .principal)
+  pub interest-held : Held (r .interest)
+  pub balance-held : Held (r .balance)
+
+-- ---- a month on a course
+module _ (c : Course) (l : Loan) (h : LoanHeld l) where
+  interest-fits : Held (interest c l)
   unfolding interestOf
-  interest-held = mul-fits binary64 _ _
+  interest-fits = mul-fits binary64 _ _
 
-  pub principal-held : T (fits binary64 (principalOf last pay r balance))
-  unfolding principalOf
-  principal-held = cond-fits binary64 last balance _ owes (lowered-held (raised (sub binary64 pay (interestOf r balance))) balance (raised-held _ (sub-fits binary64 _ _)) owes)
+  by-the-rule-fits : (end : Bool) → Held (principalOf end (l .payment) (monthlyRate (l .rate)) (l .balance)) × Held (paymentOf end (l .payment) (monthlyRate (l .rate)) (l .balance))
+  unfolding principalOf paymentOf
+  by-the-rule-fits true = (h .owes, add-fits binary64 _ _)
+  by-the-rule-fits false = (lowered-held (raised _) (l .balance) (raised-held _ (sub-fits binary64 _ _)) (h .owes), h .pays)
 
-  pub payment-column-held : T (fits binary64 (paymentOf last pay r balance))
-  unfolding paymentOf
-  payment-column-held = cond-fits binary64 last _ pay (add-fits binary64 _ _) pays
+  principal-fits : Held (principal c l)
+  unfolding principal
+  principal-fits = cond-fits binary64 (interestAlone c l) plusZero (byTheRule c principalOf l) nothing-held (by-the-rule-fits (last c l) .0)
 
-  pub left-held : T (fits binary64 (leftOf last pay r balance))
-  unfolding leftOf
-  left-held = sub-fits binary64 _ _
+  paid-fits : Held (paid c l)
+  unfolding paid
+  paid-fits = cond-fits binary64 (interestAlone c l) (interest c l) (byTheRule c paymentOf l) interest-fits (by-the-rule-fits (last c l) .1)
 
-  pub balance-column-held : T (fits binary64 (raised (leftOf last pay r balance)))
-  balance-column-held = raised-held (leftOf last pay r balance) left-held
+  remaining-fits : Held (remaining c l)
+  unfolding remaining
+  remaining-fits = sub-fits binary64 _ _
 
--- ---- the balance after so many rows
-pub balance-after-held : (k : ℕ) (l : Loan) → T (fits binary64 (l .balance)) → T (fits binary64 (after k l .balance))
-unfolding stepped nextOf leftOf
-balance-after-held zero l owes = owes
-balance-after-held (suc k) l owes = sub-fits binary64 _ _
+  row-on-held : RowHeld (rowOn c l)
+  unfolding rowOn
+  row-on-held = record { payment-held = paid-fits; principal-held = principal-fits; interest-held = interest-fits; balance-held = raised-held (remaining c l) remaining-fits }
+
+  next-on-held : LoanHeld (nextOn c l)
+  unfolding nextOn
+  next-on-held = record { pays = h .pays; owes = remaining-fits }
+
+-- ---- of any kind
+adjusted-held : (rate : Float) (l : Loan) → LoanHeld l → LoanHeld (adjustedTo rate l)
+unfolding adjustedTo
+adjusted-held rate l h = record { pays = payment-held _; owes = h .owes }
+
+in-force-held : (way : Way) (l : Loan) → LoanHeld l → LoanHeld (inForce way l)
+unfolding inForce
+in-force-held level l h = h
+in-force-held (interestOnly months) l h = h
+in-force-held (balloon month) l h = h
+in-force-held (adjustable a index) l h = either (beginsLaterYear (l .done)) _ (adjusted-held (nextRate a (l .rate) (entryBehind index (l .done))) l h)
+  where
+    either : (b : Bool) (m : Loan) → LoanHeld m → LoanHeld (cond b m l)
+    either true m g = g
+    either false m g = h
+
+pub row-held : (way : Way) (l : Loan) → LoanHeld l → RowHeld (rowOf way l)
+unfolding rowOf
+row-held way l h = row-on-held (course way l) (inForce way l) (in-force-held way l h)
+
+pub after-held : (way : Way) (k : ℕ) (l : Loan) → LoanHeld l → LoanHeld (after way k l)
+unfolding stepped nextOf
+after-held way zero l h = h
+after-held way (suc k) l h = next-on-held (course way (after way k l)) (inForce way (after way k l)) (in-force-held way (after way k l) (after-held way k l h))

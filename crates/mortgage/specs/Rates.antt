@@ -1,10 +1,11 @@
 -- The rate and the payment of an adjustable loan, year by year, and what any kind gives for the next month. Definitions only. Assumes nothing.
-use Prim.Native.Nat.{ℕ, zero, suc, _-_, _*_, _/_, _%_}
-use mathlib.Core.Bool.{Bool, true, false, cond, _&&_}
+use Prim.Native.Nat.{ℕ, zero, suc, _-_, _/_, _%_}
+use mathlib.Core.Bool.{Bool, cond, _&&_}
 use mathlib.Core.List.{List}
-use lib.Dec.{eqb, ltb}
+use lib.Dec.{T, eqb, ltb}
 use lib.ListN.{getD}
-use lib.Ieee.{Float, nan, binary64, add, sub, lt}
+use lib.Ieee.{Float, nan, binary64, add, sub, lt, le}
+use lib.Ieee.Scale.{finite}
 use Rattle.mortgage.specs.declared.Loan.{Loan}
 use Rattle.mortgage.specs.declared.kinds.Adjustment.{Adjustment}
 use Rattle.mortgage.specs.Payment.{payment}
@@ -40,6 +41,14 @@ entryBehind index done = getD index (done / 12 - 1) nan
 unfoldable pub rateOfYear : Adjustment → List Float → ℕ → Float
 rateOfYear a index zero = a .initial
 rateOfYear a index (suc y) = nextRate a (rateOfYear a index y) (getD index y nan)
+
+-- what the caps leave of a year's rate beside the last year's, each bound rounded once. The difference of the two may be more than the cap: 0.05 + 0.02, rounded, less 0.05, rounded, is
+-- above 0.02
+pub record HeldByCaps (a : Adjustment) (last rate : Float) : Type 0 where
+  pub at-least : T (le (lowest a last) rate)
+  pub at-most : T (le rate (highest a last))
+  pub under-top : T (le rate (top a))
+  pub is-finite : T (finite rate)
 
 -- ---- the loan with what is given for its next month
 -- whether the month behind so many begins a year after the first

@@ -13,12 +13,14 @@ use Rattle.refusals.specs.Table.{badAmount}
 use Rattle.records.specs.declared.Terms.{Terms}
 use Rattle.mortgage.specs.declared.Loan.{Loan}
 use Rattle.mortgage.specs.Payment.{monthlyRate, payment, loanOf}
-use Rattle.mortgage.specs.Month.{endMonth, last, rowOf, nextOf}
+use Rattle.mortgage.specs.Rates as any-rates
+use Rattle.mortgage.specs.Month as of-month
+use Rattle.mortgage.specs.Level.{endMonth, rowOf, nextOf, after}
+use Rattle.mortgage.specs.Month.{last}
 use Rattle.mortgage.specs.RowRule.{interestOf, principalOf, leftOf}
 use Rattle.steps.specs.Steps.{stepped}
-use Rattle.mortgage.specs.Rows.{after}
 use Rattle.mortgage.specs.Totals.{balanceAfter}
-use Rattle.mortgage.proofs.RowLaws.{end-after, rate-after, payment-after, done-after}
+use Rattle.mortgage.proofs.LevelLaws.{end-after, rate-after, payment-after, done-after}
 use Rattle.mortgage.proofs.RuleLaws.{other-principal, ordinary-principal, left-is}
 use Rattle.pool.specs.declared.months.Month.{Month}
 use Rattle.pool.specs.Months.{loanMonth, plus, balanceBefore, withLoan}
@@ -27,12 +29,12 @@ use Rattle.pool.proofs.Signs.{above-not-at-most, at-most, zero-at-most}
 
 -- ---- the balance that the schedule shows after k rows, from the one in hand
 shown-above : (l : Loan) (k : ℕ) → lt plusZero (after k l .balance) ≡ true → balanceAfter l k ≡ after k l .balance
-unfolding stepped balanceAfter rowOf nextOf
+unfolding stepped balanceAfter of-month.rowOf of-month.rowOn of-month.paid of-month.principal of-month.remaining of-month.interestAlone any-rates.inForce of-month.nextOf of-month.nextOn
 shown-above l zero h = refl
 shown-above l (suc k) h = rw h
 
 shown-at-most : (l : Loan) (k : ℕ) → finite (l .balance) ≡ true → lt plusZero (after k l .balance) ≡ false → le (balanceAfter l k) plusZero ≡ true
-unfolding stepped balanceAfter rowOf nextOf
+unfolding stepped balanceAfter of-month.rowOf of-month.rowOn of-month.paid of-month.principal of-month.remaining of-month.interestAlone any-rates.inForce of-month.nextOf of-month.nextOn
 shown-at-most l zero f h = at-most (l .balance) f h
 shown-at-most l (suc k) f h = rw h zero-at-most
 
@@ -64,13 +66,13 @@ module _ (t : Terms) (k : ℕ) (b : Float) (due : k < t .term) (carried : b ≡ 
       rw (in-term, shown-at-most (loanOf t (payment t)) k (amount-finite (t .principal) a) g)
 
   not-last : suc k < t .term → last (after k (loanOf t (payment t))) ≡ false
-  unfolding last endMonth loanOf
+  unfolding last of-month.endMonth loanOf
   not-last h =
       let l = after k (loanOf t (payment t)) in
       ne-eqb (l .done + 1) (endMonth l) (λ e. omega (arith, done-after k (loanOf t (payment t)), end-after k (loanOf t (payment t))))
 
   pub next-balance : (p : Float) → p ≡ principalOf false (payment t) (monthlyRate (t .rate)) b → k + 1 < t .term → sub binary64 b p ≡ after (k + 1) (loanOf t (payment t)) .balance
-  unfolding stepped nextOf leftOf
+  unfolding stepped of-month.nextOf of-month.nextOn of-month.remaining of-month.principal of-month.interestAlone any-rates.inForce leftOf
   next-balance p ep h = rw (add-one k, not-last (omega arith), rate-loan, payment-loan, sym carried, ep)
     where
       rate-loan : after k (loanOf t (payment t)) .rate ≡ t .rate

@@ -5,7 +5,7 @@ ghost use Prim.Native.Nat.{_-_, _*_, _<_, _≤_};
 ghost use lib.ListN.{length};
 ghost use Rattle.refusals.specs.Table.{badAmount, badTerm};
 ghost use Rattle.mortgage.specs.Payment.{payment, loanOf};
-ghost use Rattle.mortgage.specs.Rows.{after};
+ghost use Rattle.mortgage.specs.Level.{after};
 ghost use Rattle.pool.specs.Flows.{monthWidth};
 ghost use Rattle.pool.specs.inner.Walk.{loanAdded, walked};
 use crate::months::WIDTH;

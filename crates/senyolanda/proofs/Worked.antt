@@ -10,13 +10,16 @@ use Rattle.refusals.specs.Table.{badAmount, badTerm, noRoom, pastEnd, badRecord
 use Rattle.records.specs.Bytes.{valueOf, bytesOf, wholeAt, floatAt, wholeBytes, floatBytes}
 use Rattle.records.specs.Kinds.{termsIn, readTerms, rowSize, rowBytes, rowIn}
 use Rattle.mortgage.specs.Payment.{monthlyRate, payment, loanOf, openedWith, opened}
-use Rattle.mortgage.specs.Month.{endMonth, due, last, rowOf, nextOf}
+use Rattle.mortgage.specs.Rates as any-rates
+use Rattle.mortgage.specs.Month as any-month
+use Rattle.mortgage.specs.Rows as any-rows
+use Rattle.mortgage.specs.Draws as any-draws
+use Rattle.mortgage.specs.Level.{endMonth, due, rowOf, nextOf, nextRow, portion, drawn, filled}
+use Rattle.mortgage.specs.Month.{last}
 use Rattle.mortgage.specs.RowRule.{interestOf, principalOf, paymentOf, leftOf}
 use Rattle.steps.specs.Steps.{pieces, stepped}
 use Rattle.steps.specs.Calls.{filed as all-filed, left}
 use Rattle.mortgage.specs.Row.{width}
-use Rattle.mortgage.specs.Rows.{nextRow}
-use Rattle.mortgage.specs.Draws.{portion, drawn, filled}
 use Rattle.mortgage.specs.Demand3.{Repaid}
 use Rattle.listing.specs.Digits.{hexDigits, decimalDigits, decimal}
 use Rattle.listing.specs.Listing.{header, spaced as spacedOf, rowLine, footer, loanLines, listed, listedSize, linesOver}
@@ -47,7 +50,7 @@ unfolding told readTerms badRecord termsIn floatAt wholeAt valueOf judged firstO
 opens = refl
 
 pub to-the-end : due (inHand (kept loan calls)) ≡ 0
-unfolding left keptAfter told nextRow drawn judged firstOr badTerm noRoom pastEnd portion due endMonth stepped nextOf
+unfolding left keptAfter told any-rows.nextRow any-draws.drawn judged firstOr badTerm noRoom pastEnd any-draws.portion any-month.due any-month.endMonth stepped any-month.nextOf any-month.nextOn any-month.remaining any-month.principal any-month.interestAlone any-rates.inForce
 to-the-end = refl
 
 -- "1 4079000000000000 4079000000000000 0000000000000000 4089000000000000", and so on, with the month as a number
@@ -55,7 +58,7 @@ pub listing : filed loan calls ≡ map number
     (0x3ff0_0000_0000_0000 ∷ 0x4079_0000_0000_0000 ∷ 0x4079_0000_0000_0000 ∷ 0 ∷ 0x4089_0000_0000_0000
     ∷ 0x4000_0000_0000_0000 ∷ 0x4079_0000_0000_0000 ∷ 0x4079_0000_0000_0000 ∷ 0 ∷ 0x4079_0000_0000_0000
     ∷ 0x4008_0000_0000_0000 ∷ 0x4079_0000_0000_0000 ∷ 0x4079_0000_0000_0000 ∷ 0 ∷ 0 ∷ [])
-unfolding all-filed files keptAfter told nextRow rowBytes rowIn wholeBytes floatBytes bytesOf wholeAt floatAt valueOf toBits filled drawn judged firstOr badTerm noRoom pastEnd portion due endMonth stepped pieces rowOf nextOf leftOf paymentOf principalOf interestOf last monthlyRate add sub mul div lt ofInt ofBits
+unfolding all-filed files keptAfter told any-rows.nextRow rowBytes rowIn wholeBytes floatBytes bytesOf wholeAt floatAt valueOf toBits any-draws.filled any-draws.drawn judged firstOr badTerm noRoom pastEnd any-draws.portion any-month.due any-month.endMonth stepped pieces any-month.rowOf any-month.rowOn any-month.paid any-month.principal any-month.remaining any-month.interestAlone any-rates.inForce any-month.nextOf any-month.nextOn leftOf paymentOf principalOf interestOf last monthlyRate add sub mul div lt ofInt ofBits
 listing = refl
 
 -- ---- the same as text
@@ -77,7 +80,7 @@ text = header
     ++ 114 ∷ 111 ∷ 119 ∷ 115 ∷ 32 ∷ 51 ∷ 32 ∷ 108 ∷ 101 ∷ 102 ∷ 116 ∷ 32 ∷ 48 ∷ 10 ∷ []
 
 listed-text : listed bytes ≡ accepted text
-unfolding listed loanLines rowLine footer spacedOf decimal decimalDigits hexDigits toBits readTerms badRecord termsIn floatAt wholeAt valueOf judged firstOr opened openedWith badAmount badTerm loanOf payment monthlyRate due endMonth stepped pieces rowOf nextOf leftOf paymentOf principalOf interestOf last add sub mul div lt eq ofInt ofBits
+unfolding listed loanLines rowLine footer spacedOf decimal decimalDigits hexDigits toBits readTerms badRecord termsIn floatAt wholeAt valueOf judged firstOr opened openedWith badAmount badTerm loanOf payment monthlyRate any-month.due any-month.endMonth stepped pieces any-month.rowOf any-month.rowOn any-month.paid any-month.principal any-month.remaining any-month.interestAlone any-rates.inForce any-month.nextOf any-month.nextOn leftOf paymentOf principalOf interestOf last add sub mul div lt eq ofInt ofBits
 listed-text = refl
 
 -- 265 bytes at the start of what was lent, and the bytes behind them as they were

@@ -14,10 +14,13 @@ use Rattle.steps.specs.Steps.{pieces, stepped}
 use Rattle.mortgage.specs.Payment.{monthlyRate, loanOf, openedWith}
 use Rattle.mortgage.specs.Row.{width}
 use Rattle.mortgage.specs.RowRule.{interestOf, principalOf, paymentOf, leftOf}
-use Rattle.mortgage.specs.Month.{endMonth, due, last, rowOf, nextOf}
-use Rattle.mortgage.specs.Draws.{portion}
+use Rattle.mortgage.specs.Rates as any-rates
+use Rattle.mortgage.specs.Month as any-month
+use Rattle.mortgage.specs.Draws as any-draws
+use Rattle.mortgage.specs.YearDraws as any-years
+use Rattle.mortgage.specs.Level.{endMonth, due, rowOf, nextOf, portion, drawnWithYears, filledWithYears, summed, lookedUp}
+use Rattle.mortgage.specs.Month.{last}
 use Rattle.mortgage.specs.Years.{yearWidth, withRow, goesOnFrom, entered, enteredUpTo}
-use Rattle.mortgage.specs.YearDraws.{drawnWithYears, filledWithYears, summed, lookedUp}
 use Rattle.senyolanda.specs.Told.{told}
 use Rattle.senyolanda.specs.Calls.{Kept, inHand, openWithAnswer}
 use Rattle.senyolanda.specs.YearCalls.{yearDrawAnswer, lookupAnswer}
@@ -67,52 +70,52 @@ ended = 2 ∷ 0 ∷ 200 ∷ 0 ∷ []
 
 -- ---- room for 13 rows: 13 written, 1 owed
 pub thirteen-drawn : drawWithYearsAnswer (loanAt 0 1400) (lent (13 * width)) (lent 9) ≡ (0, handed (loanAt 13 100) 13 1)
-unfolding told drawnWithYears judged badTerm noRoom tooFewLines pastEnd portion due stepped nextOf leftOf principalOf interestOf last monthlyRate sub mul div lt ofInt ofBits
+unfolding told any-years.drawnWithYears judged badTerm noRoom tooFewLines pastEnd any-draws.portion any-month.due stepped any-month.nextOf any-month.nextOn any-month.remaining any-month.principal any-month.interestAlone any-rates.inForce leftOf principalOf interestOf last monthlyRate sub mul div lt ofInt ofBits
 thirteen-drawn = refl
 
 pub thirteen-entered : summed (inHand (loanAt 0 1400)) (lent (13 * width)) (lent 9) ≡ linesWith begun
-unfolding summed drawnWithYears judged badTerm noRoom tooFewLines pastEnd portion due stepped enteredUpTo entered goesOnFrom withRow rowOf nextOf leftOf principalOf interestOf last monthlyRate sub mul div lt ofInt ofBits
+unfolding any-years.summed any-years.drawnWithYears judged badTerm noRoom tooFewLines pastEnd any-draws.portion any-month.due stepped enteredUpTo entered goesOnFrom withRow any-month.rowOf any-month.rowOn any-month.paid any-month.principal any-month.remaining any-month.interestAlone any-rates.inForce any-month.nextOf any-month.nextOn leftOf principalOf interestOf last monthlyRate sub mul div lt ofInt ofBits
 thirteen-entered = refl
 
 pub second-year-begun : lookUpYearAnswer (loanAt 13 100) (linesWith begun) 2 ≡ (0, map number begun)
-unfolding told lookedUp judged badTerm tooFewLines pastEnd noRowDrawn endMonth
+unfolding told any-years.lookedUp judged badTerm tooFewLines pastEnd noRowDrawn any-month.endMonth
 second-year-begun = refl
 
 -- ---- room for no whole row: refusal 3, and nothing changes
 pub none-drawn : drawWithYearsAnswer (loanAt 13 100) (lent (width - 1)) (linesWith begun) ≡ (3, handed (loanAt 13 100) 9 9)
-unfolding told drawnWithYears judged badTerm noRoom due
+unfolding told any-years.drawnWithYears judged badTerm noRoom any-month.due
 none-drawn = refl
 
 pub none-laid : filledWithYears (inHand (loanAt 13 100)) (lent (width - 1)) (linesWith begun) ≡ lent (width - 1)
-unfolding filledWithYears drawnWithYears judged badTerm noRoom due
+unfolding any-years.filledWithYears any-years.drawnWithYears judged badTerm noRoom any-month.due
 none-laid = refl
 
 pub none-entered : summed (inHand (loanAt 13 100)) (lent (width - 1)) (linesWith begun) ≡ linesWith begun
-unfolding summed drawnWithYears judged badTerm noRoom due
+unfolding any-years.summed any-years.drawnWithYears judged badTerm noRoom any-month.due
 none-entered = refl
 
 -- ---- room for 5 rows: the last one written, none owed, and the place behind the lines as it was
 pub last-drawn : drawWithYearsAnswer (loanAt 13 100) (lent (5 * width)) (linesWith begun) ≡ (0, handed (loanAt 14 0) 1 0)
-unfolding told drawnWithYears judged badTerm noRoom tooFewLines pastEnd portion due stepped nextOf leftOf principalOf last sub ofInt
+unfolding told any-years.drawnWithYears judged badTerm noRoom tooFewLines pastEnd any-draws.portion any-month.due stepped any-month.nextOf any-month.nextOn any-month.remaining any-month.principal any-month.interestAlone any-rates.inForce leftOf principalOf last sub ofInt
 last-drawn = refl
 
 pub last-laid : filledWithYears (inHand (loanAt 13 100)) (lent (5 * width)) (linesWith begun) ≡ map number (14 ∷ 100 ∷ 100 ∷ 0 ∷ 0 ∷ []) ++ lent (4 * width)
-unfolding filledWithYears drawnWithYears judged badTerm noRoom tooFewLines pastEnd portion due pieces stepped rowOf leftOf paymentOf principalOf interestOf last monthlyRate sub mul div lt ofInt ofBits
+unfolding any-years.filledWithYears any-years.drawnWithYears judged badTerm noRoom tooFewLines pastEnd any-draws.portion any-month.due pieces stepped any-month.rowOf any-month.rowOn any-month.paid any-month.principal any-month.remaining any-month.interestAlone any-rates.inForce leftOf paymentOf principalOf interestOf last monthlyRate sub mul div lt ofInt ofBits
 last-laid = refl
 
 pub last-entered : summed (inHand (loanAt 13 100)) (lent (5 * width)) (linesWith begun) ≡ linesWith ended
-unfolding summed drawnWithYears judged badTerm noRoom tooFewLines pastEnd portion due stepped enteredUpTo entered goesOnFrom withRow rowOf leftOf principalOf interestOf last monthlyRate sub mul div lt ofInt ofBits
+unfolding any-years.summed any-years.drawnWithYears judged badTerm noRoom tooFewLines pastEnd any-draws.portion any-month.due stepped enteredUpTo entered goesOnFrom withRow any-month.rowOf any-month.rowOn any-month.paid any-month.principal any-month.remaining any-month.interestAlone any-rates.inForce leftOf principalOf interestOf last monthlyRate sub mul div lt ofInt ofBits
 last-entered = refl
 
 -- ---- the second year, cut short; no year after it has a row, and none is before the first
 pub second-year : lookUpYearAnswer (loanAt 14 0) (linesWith ended) 2 ≡ (0, map number ended)
-unfolding told lookedUp judged badTerm tooFewLines pastEnd noRowDrawn endMonth
+unfolding told any-years.lookedUp judged badTerm tooFewLines pastEnd noRowDrawn any-month.endMonth
 second-year = refl
 
 pub no-third-year : lookUpYearAnswer (loanAt 14 0) (linesWith ended) 3 ≡ (14, lent yearWidth)
-unfolding told lookedUp judged badTerm tooFewLines pastEnd noRowDrawn endMonth
+unfolding told any-years.lookedUp judged badTerm tooFewLines pastEnd noRowDrawn any-month.endMonth
 no-third-year = refl
 
 pub no-year-0 : lookUpYearAnswer (loanAt 14 0) (linesWith ended) 0 ≡ (14, lent yearWidth)
-unfolding told lookedUp judged badTerm tooFewLines pastEnd noRowDrawn endMonth
+unfolding told any-years.lookedUp judged badTerm tooFewLines pastEnd noRowDrawn any-month.endMonth
 no-year-0 = refl

@@ -10,6 +10,8 @@ use Rattle.records.specs.Kinds.{readTerms, rowBytes}
 use Rattle.mortgage.specs.declared.Loan.{Loan}
 use Rattle.mortgage.specs.declared.draws.Portion.{Portion}
 use Rattle.mortgage.specs.declared.savings.Savings.{Savings}
+use Rattle.mortgage.specs.declared.kinds.Adjustment.{Adjustment}
+use Rattle.mortgage.specs.Kinds.{Way, level}
 use Rattle.mortgage.specs.Month.{due}
 use Rattle.mortgage.specs.Rows.{NextRow, finished, next}
 use Rattle.mortgage.specs.BreakEven.{refinanceBreakeven}
@@ -27,14 +29,21 @@ loanIn counts amounts = record { term = getD counts 0 0; done = getD counts 1 0;
 abbrev pub loanNumbers : Loan → List ℕ × List Float
 loanNumbers l = (countsOf l, amountsOf l)
 
+-- ---- what an adjustable loan is named by: the initial rate, the cap of an adjustment and the lifetime cap
+abbrev pub adjustmentOf : Float → Float → Float → Adjustment
+adjustmentOf initial cap lifetime = record { initial = initial; cap = cap; lifetime = lifetime }
+
 -- ---- what a draw hands back: the loan, rows written, rows owed
 abbrev pub portionNumbers : Portion → List ℕ × List Float × ℕ × ℕ
 portionNumbers p = (countsOf (p .loan), amountsOf (p .loan), p .written, p .owed)
 
 -- ---- the next row alone: the loan, the row's record, rows written, rows owed. A finished loan leaves the loan and the record.
+abbrev pub kindNextNumbers : Way → List ℕ → List Float → List ℕ → NextRow → List ℕ × List Float × List ℕ × ℕ × ℕ
+kindNextNumbers way counts amounts before finished = (counts, amounts, before, 0, 0)
+kindNextNumbers way counts amounts before (next row m) = (countsOf m, amountsOf m, rowBytes row, 1, due way m)
+
 abbrev pub nextNumbers : List ℕ → List Float → List ℕ → NextRow → List ℕ × List Float × List ℕ × ℕ × ℕ
-nextNumbers counts amounts before finished = (counts, amounts, before, 0, 0)
-nextNumbers counts amounts before (next row m) = (countsOf m, amountsOf m, rowBytes row, 1, due m)
+nextNumbers = kindNextNumbers level
 
 abbrev pub savingsNumbers : Savings → ℕ × Float
 savingsNumbers s = (s .months, s .interest)

@@ -4,19 +4,24 @@ ghost use Rattle.refusals.specs.Outcome.{andThen};
 ghost use Rattle.records.specs.declared.Terms.{Terms};
 ghost use Rattle.records.specs.Kinds.{readTerms};
 ghost use Rattle.mortgage.specs.Payment.{monthlyPayment, opened, openedWith, openingOutcome};
-ghost use Rattle.mortgage.specs.Draws.{drawn, filled, drawingOutcome};
-ghost use Rattle.mortgage.specs.Rows.{nextRow};
+ghost use lib.Ieee.{Float};
+ghost use mathlib.Core.List.{List};
+ghost use Rattle.mortgage.specs.Draws.{drawingOutcome};
+ghost use Rattle.mortgage.specs.Rows.{nextOutcome};
+ghost use Rattle.mortgage.specs.Kinds.{wayOf};
+ghost use Rattle.mortgage.specs.Level.{drawn, filled, nextRow};
 ghost use Rattle.mortgage.specs.Totals.{totalInterest, remainingBalance, loanToValue};
 ghost use Rattle.mortgage.specs.Savings.{prepaymentSavings, savingsOutcome};
 ghost use Rattle.listing.specs.Listing.{listed, listedSize, linesOver};
 ghost use Rattle.senyolanda.specs.Told.{told, toldNumber};
-ghost use Rattle.senyolanda.specs.Loans.{loanIn, loanNumbers, portionNumbers, nextNumbers, savingsNumbers, breakevenOf};
+ghost use Rattle.senyolanda.specs.Loans.{loanIn, loanNumbers, portionNumbers, kindNextNumbers, nextNumbers, savingsNumbers, breakevenOf};
 use crate::results::ACCEPTED;
 use crate::results::put_count;
 use crate::results::put_number;
 use crate::results::refusal_result;
 use mortgage::Loan;
 use mortgage::draws::Drawing;
+use mortgage::kinds::Kind;
 use mortgage::opening::Opening;
 use mortgage::rows::Next;
 use mortgage::savings::SavingsAnswer;
@@ -59,7 +64,7 @@ fn hand_back(loan: Loan, counts: &mut [u32; COUNTS], amounts: &mut [f64; AMOUNTS
 }
 
 // A loan that was opened.
-fn put_loan(opening: Opening, counts: &mut [u32; COUNTS], amounts: &mut [f64; AMOUNTS]) -> u64
+pub(crate) fn put_loan(opening: Opening, counts: &mut [u32; COUNTS], amounts: &mut [f64; AMOUNTS]) -> u64
     ensures { λ r. ⌜ (r, (now (counts .exit), now (amounts .exit))) ≡ told loanNumbers (openingOutcome opening) (now (counts .entry), now (amounts .entry)) ⌝ }
 {
     match opening {
@@ -142,6 +147,35 @@ pub extern "C" fn senyolanda_draw(
     put_portion(drawing, counts, amounts, written, owed)
 }
 
+// The next row of a loan of any kind, as a kind 3 record.
+pub(crate) fn put_next(
+    kind: Kind,
+    next: Next,
+    counts: &mut [u32; COUNTS],
+    amounts: &mut [f64; AMOUNTS],
+    record: &mut [u8; records::row_record::ROW_SIZE],
+    written: &mut u32,
+    owed: &mut u32,
+) -> u64
+    ensures { λ r. ⌜ ((index : List Float) → (r, (now (counts .exit), now (amounts .exit), now («record» .exit), now (written .exit), now (owed .exit))) ≡ told (kindNextNumbers (wayOf kind index) (now (counts .entry)) (now (amounts .entry)) (now («record» .entry))) (nextOutcome next) (now (counts .entry), now (amounts .entry), now («record» .entry), now (written .entry), now (owed .entry))) ⌝ }
+{
+    match next {
+        Next::Refused(refusal) => refusal_result(refusal),
+        Next::Finished => {
+            *written = 0;
+            *owed = 0;
+            ACCEPTED
+        }
+        Next::Due(row, loan) => {
+            records::row_record::write_row(row, record);
+            hand_back(loan, counts, amounts);
+            *written = 1;
+            *owed = mortgage::rows::kind_rows_due(kind, loan);
+            ACCEPTED
+        }
+    }
+}
+
 // Writes the next row alone, as a kind 3 record.
 #[no_mangle]
 pub extern "C" fn senyolanda_next_row(
@@ -153,22 +187,8 @@ pub extern "C" fn senyolanda_next_row(
 ) -> u64
     ensures { λ r. ⌜ (r, (now (counts .exit), now (amounts .exit), now («record» .exit), now (written .exit), now (owed .exit))) ≡ told (nextNumbers (now (counts .entry)) (now (amounts .entry)) (now («record» .entry))) (nextRow (loanIn (now (counts .entry)) (now (amounts .entry)))) (now (counts .entry), now (amounts .entry), now («record» .entry), now (written .entry), now (owed .entry)) ⌝ }
 {
-    let loan = loan_in(counts, amounts);
-    match mortgage::rows::next_row(loan) {
-        Next::Refused(refusal) => refusal_result(refusal),
-        Next::Finished => {
-            *written = 0;
-            *owed = 0;
-            ACCEPTED
-        }
-        Next::Due(row, next) => {
-            records::row_record::write_row(row, record);
-            hand_back(next, counts, amounts);
-            *written = 1;
-            *owed = mortgage::rows::rows_due(next);
-            ACCEPTED
-        }
-    }
+    let next = mortgage::rows::next_row(loan_in(counts, amounts));
+    put_next(Kind::Level, next, counts, amounts, record, written, owed)
 }
 
 #[no_mangle]

@@ -1,7 +1,8 @@
 // Year-end totals: the draw with lent lines beside its rows, and the lookup of a year.
 ghost use mathlib.Core.Path.{_≡_};
 ghost use Rattle.mortgage.specs.Years.{yearPlaces};
-ghost use Rattle.mortgage.specs.YearDraws.{drawnWithYears, filledWithYears, summed, lookedUp, yearOutcome};
+ghost use Rattle.mortgage.specs.YearDraws.{yearOutcome};
+ghost use Rattle.mortgage.specs.Level.{drawnWithYears, filledWithYears, summed, lookedUp};
 ghost use Rattle.senyolanda.specs.Told.{told};
 ghost use Rattle.senyolanda.specs.Loans.{loanIn, portionNumbers};
 use crate::loans::AMOUNTS;
@@ -31,7 +32,7 @@ pub extern "C" fn senyolanda_draw_with_years(
 }
 
 // A year's line that was looked up.
-fn put_year(answer: YearAnswer, line: &mut [f64; mortgage::years::YEAR_WIDTH]) -> u64
+pub(crate) fn put_year(answer: YearAnswer, line: &mut [f64; mortgage::years::YEAR_WIDTH]) -> u64
     ensures { λ r. ⌜ (r, now (line .exit)) ≡ told yearPlaces (yearOutcome answer) (now (line .entry)) ⌝ }
 {
     match answer {

@@ -10,8 +10,7 @@ use Rattle.steps.specs.Steps.{pieces}
 use Rattle.records.specs.declared.Row.{Row}
 use Rattle.mortgage.specs.declared.Loan.{Loan}
 use Rattle.mortgage.specs.Row.{width, paymentPlace, principalPlace, interestPlace, balancePlace}
-use Rattle.mortgage.specs.Month.{endMonth, due}
-use Rattle.mortgage.specs.Rows.{after}
+use Rattle.mortgage.specs.Level.{endMonth, due, after}
 use Rattle.listing.specs.declared.portions.Listed.{Listed}
 use Rattle.listing.specs.Listing.{rowLine, rowLines}
 use Rattle.listing.specs.inner.Putting.{Put}

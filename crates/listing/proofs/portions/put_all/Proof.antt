@@ -2,7 +2,7 @@
 use mathlib.Core.Path.{sym, _∙_}
 use native.Mathlib.Omega.{arith}
 use lib.ListN.{length}
-use Rattle.mortgage.specs.Month.{due}
+use Rattle.mortgage.specs.Level.{due}
 use Rattle.listing.specs.inner.Portions.{Listable}
 use Rattle.listing.proofs.Putting.{same-room}
 use Rattle.listing.proofs.PortionLaws.{still-listable, Underway, begun, one-more, fewer, all-listed}

@@ -5,23 +5,23 @@ use native.Mathlib.Omega.{arith}
 use denote.Ref.{now}
 use Rattle.steps.proofs.Laying.{Underway, begun, a-turn}
 use Rattle.mortgage.specs.Row.{width, places}
-use Rattle.mortgage.specs.Month.{nextOf}
+use Rattle.mortgage.specs.Month.{nextOn}
 use Rattle.mortgage.proofs.RowLaws.{next-due}
-use Rattle.mortgage.proofs.DrawCases.{rowPlaces, wide}
+use Rattle.mortgage.proofs.RowsLaid.{placesOn, wide-on}
 use Rattle.mortgage.proofs.draws.any_rows.Statement.{statement}
 use Rattle.mortgage.proofs.draws.any_rows.Tie as tie
 
 abbrev Inv-loop : tie.InvT-loop
-Inv-loop room₀ count l₀ at₀ k₀ room l at k = Underway nextOf rowPlaces width count room₀ l₀ room l at k
+Inv-loop course room₀ count l₀ at₀ k₀ room l at k = Underway (nextOn course) (placesOn course) width count room₀ l₀ room l at k
 
 abbrev μ-loop : tie.MeasureT-loop
-μ-loop room₀ count l₀ at₀ k₀ room l at k = count - k
+μ-loop course room₀ count l₀ at₀ k₀ room l at k = count - k
 
 loop-holds : tie.Need-loop-holds Inv-loop μ-loop
-loop-holds c = let a = c .before .args in begun nextOf rowPlaces width (a .count) (now (a .room)) (a .loan)
+loop-holds c = let a = c .before .args in begun (nextOn (a .course)) (placesOn (a .course)) width (a .count) (now (a .room)) (a .loan)
 
 any-month-requires : tie.Need-any-month-requires Inv-loop μ-loop
-any-month-requires c κs = let h = c .before in next-due (h .loop .k) (h .before .before .args .count) _ _ (h .loop .inv .1) (c .loop-test .taken) (h .before .before .pre .1)
+any-month-requires c κs = let h = c .before in let a = h .before .before .args in next-due (a .course) (h .loop .k) (a .count) _ _ (h .loop .inv .1) (c .loop-test .taken) (h .before .before .pre .1)
 
 put-row-requires : tie.Need-put-row-requires Inv-loop μ-loop
 put-row-requires c κs = omega arith
@@ -41,7 +41,7 @@ loop-again c =
     let s = h .before .before in
     let put = c .before .before .put-row in
     let m = c .before .before .before .before .before .before .any-month in
-    a-turn nextOf rowPlaces width wide (s .args .count) (now (s .args .room)) (h .loop .room) (put .last .0) (s .args .loan) (h .loop .l) (m .result .next) (h .loop .at) (h .loop .k) (places (m .result .row))
+    a-turn (nextOn (s .args .course)) (placesOn (s .args .course)) width (wide-on (s .args .course)) (s .args .count) (now (s .args .room)) (h .loop .room) (put .last .0) (s .args .loan) (h .loop .l) (m .result .next) (h .loop .at) (h .loop .k) (places (m .result .row))
     (s .pre .0) (h .loop .inv) (c .before .before .before .before .before .before .before .loop-test .taken) (ap places (m .ensures .0)) (m .ensures .1) (put .ensures) (put .kept .0)
 
 same-length : tie.Need-same-length Inv-loop μ-loop

@@ -4,10 +4,10 @@ use native.Mathlib.Omega.{arith}
 use denote.Ref.{now}
 use borrow.Author.Needs.{needs}
 use Rattle.mortgage.specs.Row.{width}
-use Rattle.mortgage.specs.Month.{nextOf}
+use Rattle.mortgage.specs.Month.{nextOn}
 use Rattle.steps.proofs.Portions.{room-left, joined}
 use Rattle.mortgage.proofs.RowLaws.{rest-due}
-use Rattle.mortgage.proofs.DrawCases.{rowPlaces, wide}
+use Rattle.mortgage.proofs.RowsLaid.{placesOn, wide-on}
 use Rattle.mortgage.proofs.draws.lay_rows.Statement.{statement}
 use Rattle.mortgage.proofs.draws.lay_rows.Tie as tie
 
@@ -41,7 +41,7 @@ any-rows-requires c κs =
     let r = c .before .before .before .before .ordinary-rows in
     let k = r .result .count in
     let h : k ≤ s .args .count = omega arith in
-    (room-left nextOf rowPlaces width wide (now (s .args .room)) (r .last .1 .0) k (s .args .count) (r .kept .1 .0) h (s .pre .0 .0), rest-due k (s .args .count) _ _ (r .ensures .0 .1) h (s .pre .0 .1))
+    (room-left (nextOn (s .args .course)) (placesOn (s .args .course)) width (wide-on (s .args .course)) (now (s .args .room)) (r .last .1 .1 .0) k (s .args .count) (r .kept .1 .1 .0) h (s .pre .0 .0), rest-due (s .args .course) k (s .args .count) _ _ (r .ensures .0 .1) h (s .pre .0 .2))
 
 same-length : tie.Need-same-length
 same-length c = search needs
@@ -51,7 +51,7 @@ returns c =
     let s = c .before .before .before .before .before .before .before .before .before .before in
     let r = c .before .before .before .before .before .before .before .ordinary-rows in
     let y = c .before .before .any-rows in
-    joined nextOf rowPlaces width wide (s .args .loan) (r .result .loan) (y .result) (now (s .args .room)) (r .last .1 .0) (y .last .1 .0) (r .result .count) (s .args .count)
+    joined (nextOn (s .args .course)) (placesOn (s .args .course)) width (wide-on (s .args .course)) (s .args .loan) (r .result .loan) (y .result) (now (s .args .room)) (r .last .1 .1 .0) (y .last .1 .1 .0) (r .result .count) (s .args .count)
     (r .ensures .0 .1) (r .ensures .1) (y .ensures .0) (y .ensures .1) (omega arith) (s .pre .0 .0)
 
 pub lay-rows-spec : {M : Type 1} → statement M

@@ -6,23 +6,23 @@ use denote.Ref.{now}
 use borrow.Author.Needs.{needs}
 use Rattle.steps.proofs.Laying.{Underway, begun, a-turn}
 use Rattle.mortgage.specs.Row.{width, places}
-use Rattle.mortgage.specs.Month.{nextOf}
-use Rattle.mortgage.proofs.RowLaws.{next-not-last, interest-after}
-use Rattle.mortgage.proofs.DrawCases.{rowPlaces, wide}
+use Rattle.mortgage.specs.Month.{nextOn}
+use Rattle.mortgage.proofs.RowLaws.{not-alone-on, next-not-last, interest-on}
+use Rattle.mortgage.proofs.RowsLaid.{placesOn, wide-on}
 use Rattle.mortgage.proofs.draws.ordinary_rows.Statement.{statement}
 use Rattle.mortgage.proofs.draws.ordinary_rows.Tie as tie
 
 abbrev Inv-loop : tie.InvT-loop
-Inv-loop room₀ most rate l₀ at₀ k₀ room l at k = Underway nextOf rowPlaces width most room₀ l₀ room l at k
+Inv-loop course room₀ most rate l₀ at₀ k₀ room l at k = Underway (nextOn course) (placesOn course) width most room₀ l₀ room l at k
 
 abbrev μ-loop : tie.MeasureT-loop
-μ-loop room₀ most rate l₀ at₀ k₀ room l at k = most - k
+μ-loop course room₀ most rate l₀ at₀ k₀ room l at k = most - k
 
 monthly-rate-requires : tie.Need-monthly-rate-requires Inv-loop μ-loop
 monthly-rate-requires c κs = search needs
 
 loop-holds : tie.Need-loop-holds Inv-loop μ-loop
-loop-holds c = let a = c .before .before .args in begun nextOf rowPlaces width (a .most) (now (a .room)) (a .loan)
+loop-holds c = let a = c .before .before .args in begun (nextOn (a .course)) (placesOn (a .course)) width (a .most) (now (a .room)) (a .loan)
 
 ordinary-month-requires : tie.Need-ordinary-month-requires Inv-loop μ-loop
 ordinary-month-requires c κs =
@@ -30,7 +30,10 @@ ordinary-month-requires c κs =
     let s = h .before .before .before in
     let i = h .loop .inv in
     let w = c .before .before .before .before .before .loop-test .taken in
-    (next-not-last (h .loop .k) (s .args .most) _ _ (i .1) w (s .pre .1), ((rw (h .before .monthly-rate .ensures) (interest-after (h .loop .k) (s .args .loan) _ (i .1)), refl), (c .before .before .if1 .taken, c .if2 .taken)))
+    (
+      (not-alone-on (s .args .course) (h .loop .k) (s .args .loan) _ (i .1) (omega (arith, s .pre .1)), next-not-last (s .args .course) (h .loop .k) (s .args .most) _ _ (i .1) w (s .pre .2)),
+      ((rw (h .before .monthly-rate .ensures) (interest-on (s .args .course) (h .loop .k) (s .args .loan) _ (i .1)), refl), (c .before .before .if1 .taken, c .if2 .taken)),
+    )
 
 put-row-requires : tie.Need-put-row-requires Inv-loop μ-loop
 put-row-requires c κs = omega arith
@@ -50,7 +53,7 @@ loop-again c =
     let s = h .before .before .before in
     let put = c .before .before .put-row in
     let m = c .before .before .before .before .before .before .ordinary-month in
-    a-turn nextOf rowPlaces width wide (s .args .most) (now (s .args .room)) (h .loop .room) (put .last .0) (s .args .loan) (h .loop .l) (m .result .next) (h .loop .at) (h .loop .k) (places (m .result .row))
+    a-turn (nextOn (s .args .course)) (placesOn (s .args .course)) width (wide-on (s .args .course)) (s .args .most) (now (s .args .room)) (h .loop .room) (put .last .0) (s .args .loan) (h .loop .l) (m .result .next) (h .loop .at) (h .loop .k) (places (m .result .row))
     (s .pre .0) (h .loop .inv) (c .before .before .before .before .before .before .before .before .before .before .before .before .loop-test .taken) (ap places (m .ensures .0)) (m .ensures .1) (put .ensures) (put .kept .0)
 
 same-length : tie.Need-same-length Inv-loop μ-loop

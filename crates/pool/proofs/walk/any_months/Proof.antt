@@ -5,7 +5,7 @@ use native.Mathlib.Omega.{arith}
 use borrow.Author.Needs.{needs}
 use lib.ListN.{length}
 use Rattle.mortgage.specs.Payment.{payment, loanOf}
-use Rattle.mortgage.specs.Rows.{after}
+use Rattle.mortgage.specs.Level.{after}
 use Rattle.pool.specs.Flows.{monthWidth}
 use Rattle.pool.specs.inner.Walk.{loanAdded, walked}
 use Rattle.pool.proofs.Walks.{turn, ends}

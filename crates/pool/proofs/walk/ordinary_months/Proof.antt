@@ -6,7 +6,7 @@ use borrow.Author.Needs.{needs}
 use lib.ListN.{length}
 use Rattle.mortgage.specs.Payment.{payment, loanOf}
 use Rattle.steps.specs.Steps.{stepped}
-use Rattle.mortgage.specs.Rows.{after}
+use Rattle.mortgage.specs.Level.{after}
 use Rattle.pool.specs.Flows.{monthWidth}
 use Rattle.pool.specs.inner.Walk.{loanAdded, walked}
 use Rattle.pool.proofs.Walks.{begins, turn}

@@ -1,6 +1,6 @@
 -- `senyolanda::loans::senyolanda_draw` meets its contract. Assumes nothing.
 use Rattle.mortgage.specs.declared.Loan.{Loan}
-use Rattle.mortgage.specs.Draws.{drawn, filled}
+use Rattle.mortgage.specs.Level.{drawn, filled}
 use Rattle.senyolanda.proofs.Handed.{of-loan, told-as}
 use borrow.Author.Needs.{needs}
 use Rattle.senyolanda.proofs.loans.senyolanda_draw.Statement.{statement}

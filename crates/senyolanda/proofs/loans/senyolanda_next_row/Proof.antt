@@ -3,7 +3,8 @@ use mathlib.Core.Path.{_≡_, refl, sym, ap, _∙_}
 use mathlib.Core.List.{List}
 use Prim.Native.Nat.{ℕ}
 use lib.Ieee.{Float}
-use Rattle.mortgage.specs.Rows.{nextRow, nextOutcome}
+use Rattle.mortgage.specs.Level.{nextRow}
+use Rattle.mortgage.specs.Rows.{nextOutcome}
 use Rattle.senyolanda.proofs.Handed.{refused-so, accepted-so}
 use borrow.Author.Needs.{needs}
 use Rattle.senyolanda.proofs.loans.senyolanda_next_row.Statement.{statement}

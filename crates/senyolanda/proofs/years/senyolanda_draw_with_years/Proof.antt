@@ -1,6 +1,6 @@
 -- `senyolanda::years::senyolanda_draw_with_years` meets its contract. Assumes nothing.
 use Rattle.mortgage.specs.declared.Loan.{Loan}
-use Rattle.mortgage.specs.YearDraws.{drawnWithYears, filledWithYears, summed}
+use Rattle.mortgage.specs.Level.{drawnWithYears, filledWithYears, summed}
 use Rattle.senyolanda.proofs.Handed.{of-loan, told-as}
 use borrow.Author.Needs.{needs}
 use Rattle.senyolanda.proofs.years.senyolanda_draw_with_years.Statement.{statement}

@@ -1,6 +1,6 @@
 -- `senyolanda::years::senyolanda_look_up_year` meets its contract. Assumes nothing.
 use Rattle.mortgage.specs.declared.Loan.{Loan}
-use Rattle.mortgage.specs.YearDraws.{lookedUp}
+use Rattle.mortgage.specs.Level.{lookedUp}
 use Rattle.senyolanda.proofs.Handed.{of-loan, told-as}
 use borrow.Author.Needs.{needs}
 use Rattle.senyolanda.proofs.years.senyolanda_look_up_year.Statement.{statement}

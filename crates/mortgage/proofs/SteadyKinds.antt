@@ -1,0 +1,61 @@
+-- A kind that gives every month the rate and the payment which the loan holds has the rows of its course, and the level kind is one: what its months, one after the other, are. Assumes nothing.
+use mathlib.Core.Path.{_≡_, refl, sym, ap, _∙_}
+use mathlib.Core.List.{List}
+use Prim.Native.Nat.{ℕ, zero, suc, _<_}
+use native.Mathlib.Omega.{arith}
+use Rattle.records.specs.declared.Row.{Row}
+use Rattle.mortgage.specs.declared.Loan.{Loan}
+use Rattle.mortgage.specs.declared.kinds.Course.{Course}
+use Rattle.mortgage.specs.Kinds.{Way, level, interestOnly, balloon, courseOf}
+use Rattle.mortgage.specs.Rates.{inForce}
+use Rattle.mortgage.specs.Month.{course, rowOn, nextOn, rowOf, nextOf}
+use Rattle.mortgage.specs.Rows.{afterOn, rowsOn, after, rows}
+use Rattle.steps.specs.Steps.{stepped}
+use Rattle.mortgage.proofs.RowLaws.{term-after, stretch-after, stretch-rows}
+
+module _ (way : Way) (steady : (l : Loan) → inForce way l ≡ l) where
+  pub steady-after : (k : ℕ) (l : Loan) → after way k l ≡ afterOn (course way l) k l
+  unfolding stepped
+  steady-after zero l = refl
+  steady-after (suc k) l =
+      stretch-after way l (suc k) (λ i h b. steady (after way i l)) (omega arith) ∙ ap (afterOn (course way l) (suc k)) (steady l)
+
+  pub steady-rows : (k : ℕ) (l : Loan) → rows way k l ≡ rowsOn (course way l) k l
+  steady-rows k l = stretch-rows way l k (λ i h b. steady (after way i l)) ∙ ap (rowsOn (course way l) k) (steady l)
+
+-- ---- which kinds
+pub level-steady : (l : Loan) → inForce level l ≡ l
+unfolding inForce
+level-steady l = refl
+
+pub interest-only-steady : (months : ℕ) (l : Loan) → inForce (interestOnly months) l ≡ l
+unfolding inForce
+interest-only-steady months l = refl
+
+pub balloon-steady : (month : ℕ) (l : Loan) → inForce (balloon month) l ≡ l
+unfolding inForce
+balloon-steady month l = refl
+
+-- ---- the level kind
+pub level-after : (k : ℕ) (l : Loan) → after level k l ≡ afterOn (courseOf level (l .term)) k l
+level-after = steady-after level level-steady
+
+pub level-rows : (k : ℕ) (l : Loan) → rows level k l ≡ rowsOn (courseOf level (l .term)) k l
+level-rows = steady-rows level level-steady
+
+-- a month on the course of the loan that k months led to it from
+module _ (c : Course) (k : ℕ) (l₀ l : Loan) (ec : c ≡ courseOf level (l₀ .term)) (e : l ≡ after level k l₀) where
+  course-kept : c ≡ course level l
+  course-kept = ec ∙ ap (courseOf level) (sym (ap (λ (m : Loan). m .term) e ∙ term-after level k l₀))
+
+  pub level-row : rowOn c l ≡ rowOf level l
+  unfolding rowOf inForce
+  level-row = ap (λ (d : Course). rowOn d l) course-kept
+
+  pub level-next : nextOn c l ≡ nextOf level l
+  unfolding nextOf inForce
+  level-next = ap (λ (d : Course). nextOn d l) course-kept
+
+  -- it is k months on along the course
+  pub along : l ≡ afterOn c k l₀
+  along = e ∙ level-after k l₀ ∙ ap (λ (d : Course). afterOn d k l₀) (sym ec)
