@@ -20,6 +20,7 @@ pub mod Summing
 pub mod Worked
 pub mod YearsWorked
 pub mod InterestOnly
+pub mod KindsWorked
 pub mod RowColumns
 pub mod PayingDown
 pub mod BreakEvens
