@@ -2,6 +2,7 @@ pub mod RuleLaws
 pub mod RowLaws
 pub mod RowFits
 pub mod DrawCases
+pub mod RatesHeld
 pub mod PlaceLaws
 pub mod DrawLaws
 pub mod Sequences
