@@ -6,6 +6,7 @@ pub mod RowsLaid
 pub mod SteadyKinds
 pub mod DrawCases
 pub mod YearByYear
+pub mod RatesHeld
 pub mod DrawOrder
 pub mod PlaceLaws
 pub mod DrawLaws
