@@ -7,6 +7,12 @@
 #include <stdlib.h>
 #include <string.h>
 
+char *put_text(char *at, const char *text) {
+    const size_t length = strlen(text);
+    memcpy(at, text, length);
+    return at + length;
+}
+
 /* ---- whole numbers ---- */
 
 static char *put_two_digits(char *at, unsigned number) {
@@ -145,6 +151,12 @@ void put_shortest(char text[SHORTEST_ROOM], double number) {
     } while (digits < 17 && strtod(text, NULL) != number);
 }
 
+char *put_decimal(char *at, double number) {
+    char text[SHORTEST_ROOM];
+    put_shortest(text, number);
+    return put_text(at, text);
+}
+
 /* ---- numbers from text ---- */
 
 /* strtod reads hexadecimal too, which no decimal is. */
@@ -153,15 +165,19 @@ static bool is_hexadecimal(const char *text) {
     return text[0] == '0' && (text[1] == 'x' || text[1] == 'X');
 }
 
-const char *read_decimal(const char *text, double *number) {
-    char *end;
+const char *read_decimal_up_to(const char *text, const char *end, double *number) {
+    char *stop;
     errno = 0;
-    *number = strtod(text, &end);
-    if (end == text || *end != '\0' || isspace((unsigned char)*text) || is_hexadecimal(text))
+    *number = strtod(text, &stop);
+    if (stop == text || stop != end || isspace((unsigned char)*text) || is_hexadecimal(text))
         return "is no decimal number, such as 250000 or 0.06";
     if (errno == ERANGE && isinf(*number)) return "is too large for a binary64";
     if (errno == ERANGE && *number == 0) return "is too small for a binary64, which would hold 0";
     return NULL;
+}
+
+const char *read_decimal(const char *text, double *number) {
+    return read_decimal_up_to(text, text + strlen(text), number);
 }
 
 bool read_whole(const char *text, uint32_t *number) {

@@ -162,6 +162,13 @@ static struct option *named_option(struct option *options, const char *word) {
     return NULL;
 }
 
+/* Takes the two words behind the first of three; gives the last word taken, or null where one is missing. */
+static char **take_behind(struct option *option, char **word) {
+    for (int k = 0; k < WORDS_BEHIND; k++)
+        if ((option->behind[k] = *++word) == NULL) return NULL;
+    return word;
+}
+
 /* Takes the option that a word names, and its value from the word or from the next one; gives the last word taken, or null where
    there is trouble, which is then said. */
 static char **take_option(struct option *options, char **word) {
@@ -175,12 +182,15 @@ static char **take_option(struct option *options, char **word) {
         fail("%s takes no value, and '%s' was given", option->name, within);
         return NULL;
     }
-    if (option->wants != NULL && within == NULL) within = *++word;
-    if (option->wants != NULL && within == NULL) {
+    const bool is_behind = option->wants != NULL && within == NULL;
+    if (is_behind) within = *++word;
+    option->value = within != NULL ? within : "";
+    option->behind[0] = NULL;
+    if (is_behind && within != NULL && option->is_three && strchr(within, ',') == NULL) word = take_behind(option, word);
+    if (option->wants != NULL && (within == NULL || word == NULL)) {
         fail("%s wants %s", option->name, option->wants);
         return NULL;
     }
-    option->value = within != NULL ? within : "";
     return word;
 }
 

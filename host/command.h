@@ -12,10 +12,14 @@
 /* Done; refused, or different where two things are compared; trouble. A comparison exits as cmp does: a refusal is trouble there. */
 enum status { DONE = 0, REFUSED = 1, FAILED = 2 };
 
+enum { WORDS_BEHIND = 2 };
+
 struct option {
     const char *name;    /* with its dashes */
     const char *wants;   /* what its value is, in words; null where it has none */
     const char *value;   /* null until the option is given; "" for one without a value */
+    bool is_three;       /* its value may be three words, or one with commas in it */
+    const char *behind[WORDS_BEHIND];   /* of three words the second and the third; null where it was one */
 };
 
 struct command {

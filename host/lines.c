@@ -6,7 +6,7 @@
 
 /* ---- lines, and their cells as text ---- */
 
-enum { COLUMNS = 5, MONTHS_OF_A_YEAR = 12 };
+enum { COLUMNS = 5 };
 
 static const char *const row_names[COLUMNS] = {"month", "payment", "principal", "interest", "balance"};
 static const char *const year_names[COLUMNS] = {"year", "months", "interest", "principal", "balance"};
@@ -17,6 +17,7 @@ struct line {
     uint32_t number;    /* behind the word; 0 where there is none */
     enum { AMOUNT, WHOLE, EMPTY } first;
     double cells[COLUMNS - 1];
+    const double *rate;   /* of an adjustable loan's year, for tables; null for every other line */
 };
 
 /* A statement that is being written, and how wide the columns of its table are. */
@@ -28,12 +29,6 @@ struct statement {
 
 static const char *const *names_of(const struct layout *layout) {
     return layout->rows ? row_names : year_names;
-}
-
-static char *put_text(char *at, const char *text) {
-    const size_t length = strlen(text);
-    memcpy(at, text, length);
-    return at + length;
 }
 
 static char *put_front(char *at, const struct line *line) {
@@ -52,26 +47,35 @@ static char *put_cell(char *at, const struct line *line, int column, enum form f
 
 static struct line row_line(const struct schedule *schedule, uint32_t index) {
     const struct senyolanda_row row = senyolanda_row_at(schedule->rows, index);
-    const struct line line = {NULL, row.month, AMOUNT, {row.payment, row.principal, row.interest, row.balance}};
+    const struct line line = {NULL, row.month, AMOUNT, {row.payment, row.principal, row.interest, row.balance}, NULL};
     return line;
+}
+
+/* Null where a year has the rate of all. */
+static const double *rate_of_year(const struct schedule *schedule, uint32_t index) {
+    return schedule->kind->name == ADJUSTABLE ? &schedule->rates[index] : NULL;
 }
 
 static struct line year_line(const struct schedule *schedule, uint32_t index) {
     const struct senyolanda_year year = senyolanda_year_at(schedule->years, index);
-    const struct line line = {NULL, index + 1, WHOLE, {year.months, year.interest, year.principal, year.balance}};
+    const double *rate = rate_of_year(schedule, index);
+    const struct line line = {NULL, index + 1, WHOLE, {year.months, year.interest, year.principal, year.balance}, rate};
     return line;
 }
 
 /* A year's line in the columns of the rows above it: what is paid in a year is not among its numbers. */
 static struct line year_line_under_rows(const struct schedule *schedule, uint32_t index) {
     const struct senyolanda_year year = senyolanda_year_at(schedule->years, index);
-    const struct line line = {"year ", index + 1, EMPTY, {0, year.principal, year.interest, year.balance}};
+    const double *rate = rate_of_year(schedule, index);
+    const struct line line = {"year ", index + 1, EMPTY, {0, year.principal, year.interest, year.balance}, rate};
     return line;
 }
 
 static struct line total_line(const struct senyolanda_row *total, const struct layout *layout) {
-    const struct line under_rows = {"total", 0, AMOUNT, {total->payment, total->principal, total->interest, total->balance}};
-    const struct line under_years = {"total", 0, WHOLE, {total->month, total->interest, total->principal, total->balance}};
+    const struct line under_rows = {
+        "total", 0, AMOUNT, {total->payment, total->principal, total->interest, total->balance}, NULL};
+    const struct line under_years = {
+        "total", 0, WHOLE, {total->month, total->interest, total->principal, total->balance}, NULL};
     return layout->rows ? under_rows : under_years;
 }
 
@@ -161,8 +165,8 @@ static void widen(size_t width[COLUMNS], const struct texts *texts) {
         if (texts->length[column] > width[column]) width[column] = texts->length[column];
 }
 
-/* Each cell stands at the right of its column, two spaces from the one before. */
-static void print_texts(const struct texts *texts, const size_t width[COLUMNS]) {
+/* Each cell stands at the right of its column, two spaces from the one before; a rate that is not null stands behind them. */
+static void print_texts(const struct texts *texts, const size_t width[COLUMNS], const double *rate) {
     char *at = start_line();
     for (int column = 0; column < COLUMNS; column++) {
         const size_t spaces = width[column] - texts->length[column] + (column == 0 ? 0 : 2);
@@ -170,6 +174,7 @@ static void print_texts(const struct texts *texts, const size_t width[COLUMNS]) 
         memcpy(at + spaces, texts->text[column], texts->length[column]);
         at += spaces + texts->length[column];
     }
+    if (rate != NULL) at = put_decimal(put_text(at, "  rate "), *rate);
     *at++ = '\n';
     end_line(at);
 }
@@ -183,71 +188,19 @@ static void widen_for_line(struct statement *statement, const struct line *line)
 static void print_line(struct statement *statement, const struct line *line) {
     struct texts texts;
     set_cells(&texts, line, statement->layout->form);
-    print_texts(&texts, statement->width);
+    print_texts(&texts, statement->width, line->rate);
 }
 
 static void print_title(const struct schedule *schedule, enum form form, bool is_first) {
-    char rate[SHORTEST_ROOM];
+    const struct kind *kind = schedule->kind;
     char *at = start_line();
-    put_shortest(rate, schedule->rate);
     at = put_whole(put_text(at, is_first ? "Loan " : "\nLoan "), schedule->number);
     at = put_amount(put_text(at, ": principal "), schedule->principal, form);
-    at = put_text(put_text(at, ", rate "), rate);
-    at = put_whole(put_text(at, ", months "), schedule->months);
+    at = put_decimal(put_text(at, kind->name == ADJUSTABLE ? ", initial rate " : ", rate "), schedule->rate);
+    at = put_whole(put_text(at, ", months "), schedule->term);
+    at = put_kind(at, kind);
     *at++ = '\n';
     end_line(at);
-}
-
-/* ---- the foot of a table ---- */
-
-/* Where a row, and a year's line, have their amounts. */
-enum { ROW_PAYMENT = 1, ROW_PRINCIPAL = 2, ROW_INTEREST = 3, YEAR_INTEREST = 1, YEAR_PRINCIPAL = 2 };
-
-/* Whether amounts that stand so far apart add up to a total, all as they are printed. They are added modulo 2^64, and differ by
-   far less: by roundings of at most 1,200 sums below 2^75. Of larger amounts nothing is said. */
-static bool add_up(const double *amounts, size_t apart, uint32_t count, double total) {
-    uint64_t sum = 0, cents;
-    for (uint32_t index = 0; index < count; index++) {
-        if (!written_cents(amounts[index * apart], &cents)) return true;
-        sum += cents;
-    }
-    return !written_cents(total, &cents) || sum == cents;
-}
-
-static bool rows_add_up(const struct schedule *schedule, uint32_t first, uint32_t count, int place, double total) {
-    const double *row = schedule->rows + (size_t)first * SENYOLANDA_ROW_PLACES;
-    return add_up(row + place, SENYOLANDA_ROW_PLACES, count, total);
-}
-
-static bool rows_add_up_to_total(const struct schedule *schedule) {
-    return rows_add_up(schedule, 0, schedule->months, ROW_PAYMENT, schedule->total.payment)
-        && rows_add_up(schedule, 0, schedule->months, ROW_PRINCIPAL, schedule->total.principal)
-        && rows_add_up(schedule, 0, schedule->months, ROW_INTEREST, schedule->total.interest);
-}
-
-static bool rows_add_up_to_year(const struct schedule *schedule, uint32_t index) {
-    const struct senyolanda_year year = senyolanda_year_at(schedule->years, index);
-    const uint32_t first = MONTHS_OF_A_YEAR * index, count = (uint32_t)year.months;
-    return rows_add_up(schedule, first, count, ROW_PRINCIPAL, year.principal)
-        && rows_add_up(schedule, first, count, ROW_INTEREST, year.interest);
-}
-
-static bool rows_add_up_to_years(const struct schedule *schedule) {
-    for (uint32_t index = 0; index < SENYOLANDA_STARTED_YEARS(schedule->months); index++)
-        if (!rows_add_up_to_year(schedule, index)) return false;
-    return true;
-}
-
-static bool years_add_up_to_total(const struct schedule *schedule) {
-    const uint32_t count = SENYOLANDA_STARTED_YEARS(schedule->months);
-    return add_up(schedule->years + YEAR_PRINCIPAL, SENYOLANDA_YEAR_PLACES, count, schedule->total.principal)
-        && add_up(schedule->years + YEAR_INTEREST, SENYOLANDA_YEAR_PLACES, count, schedule->total.interest);
-}
-
-/* Whether all that is printed adds up. Rows that add up to the years' lines and to the total make the lines add up to it too. */
-static bool all_adds_up(const struct schedule *schedule, const struct layout *layout) {
-    if (!layout->rows) return years_add_up_to_total(schedule);
-    return rows_add_up_to_total(schedule) && rows_add_up_to_years(schedule);
 }
 
 void print_table(const struct schedule *schedule, const struct layout *layout, bool is_first) {
@@ -257,8 +210,8 @@ void print_table(const struct schedule *schedule, const struct layout *layout, b
     widen(statement.width, &names);
     take_lines(&statement, widen_for_line);
     print_title(schedule, layout->form, is_first);
-    print_texts(&names, statement.width);
+    print_texts(&names, statement.width, NULL);
     take_lines(&statement, print_line);
-    if (layout->form != BITS && !all_adds_up(schedule, layout))
+    if (layout->form != BITS && !adds_up(schedule, layout))
         put_words("Totals add the unrounded amounts: they can differ by some cents from the sum of the amounts above.\n");
 }

@@ -3,17 +3,7 @@
 #define LINES_H
 
 #include "amounts.h"
-#include "senyolanda.h"
-
-/* A loan drawn whole: its rows, its years' lines, and the sums of its rows, with all its months and its last balance. */
-struct schedule {
-    size_t number;   /* among the loans, from 1 */
-    double principal, rate;
-    uint32_t months;
-    double rows[SENYOLANDA_MOST_MONTHS * SENYOLANDA_ROW_PLACES];
-    double years[SENYOLANDA_MOST_YEARS * SENYOLANDA_YEAR_PLACES];
-    struct senyolanda_row total;
-};
+#include "drawing.h"
 
 /* Which lines a statement has, and how it writes amounts. A year's line stands behind its rows, or alone where there are none. */
 struct layout {
@@ -25,5 +15,8 @@ struct layout {
    the first has an empty line there. */
 void print_csv(const struct schedule *schedule, const struct layout *layout, bool is_first);
 void print_table(const struct schedule *schedule, const struct layout *layout, bool is_first);
+
+/* Whether all that a table prints adds up, so that its foot need say nothing. */
+bool adds_up(const struct schedule *schedule, const struct layout *layout);
 
 #endif

@@ -23,15 +23,30 @@ static const char help[] =
     "  -h, --help        write this\n"
     "  --                take no word behind this for an option\n"
     "\n"
-    "A value may stand behind its option or in it, as in --records=FILE. A minus in front of a number makes no option of it.\n"
+    "A loan pays the same each month, unless one of these says that it, or every loan of FILE, is of another kind:\n"
+    "\n"
+    "  --interest-only K  pay interest alone in the first K months, and a level payment, or that of --payment, in those after them\n"
+    "  --balloon M        pay as over all MONTHS, and the whole balance in month M; no rows come after it\n"
+    "  --adjustable INITIAL CAP LIFETIME\n"
+    "                     pay at the rate INITIAL in year 1; not with --payment. A later year has its index rate, held within CAP of\n"
+    "                     the last year's rate, then not above INITIAL plus LIFETIME, and a payment worked out for the balance and\n"
+    "                     the months left. A table has each year's rate behind its line. RATE is not read, and 0 may stand there;\n"
+    "                     nor is a record's rate\n"
+    "  --index LIST       take the index rates of year 2, 3, .. from LIST, with commas between them, as in 0.05,0.055,0.06. It is\n"
+    "                     wanted with --adjustable: a rate for each later year of the term, or '' for none; more are not read\n"
+    "\n"
+    "A value may stand behind its option or in it, as in --records=FILE or --adjustable=0.05,0.02,0.06. A minus in front of a\n"
+    "number makes no option of it.\n"
     "\n"
     "Amounts are rounded for print alone, to the nearest cent and an exact half to the even one. A total, and a year's line, add\n"
     "the unrounded amounts from the top down, so that they can differ by some cents from the sum of what is printed above them; a\n"
-    "table in which one does says so at its foot. A rate above 1, which is 100 per cent a year, is taken, with a warning.\n"
+    "table in which one does says so at its foot. A rate above 1, which is 100 per cent a year, is taken, with a warning; so are\n"
+    "a cap and an index rate.\n"
     "\n"
     "Loans are counted from 1. A refused loan gets a line on standard error, such as `loan 3: refused 2 at 2`: the loan's number,\n"
-    "the refusal's number and the loan's place, which is counted from 0, and the cause in words; the loans after it get their\n"
-    "statements. After 20 such lines refusals are only counted. A file whose first 10 records are all refused is read no further.\n"
+    "the refusal's number and the loan's place, which is counted from 0, and the cause in words, such as `index entry 3, for year\n"
+    "4`, counted from 1; the loans after it get their statements. After 20 such lines refusals are only counted. A file whose first\n"
+    "10 records are all refused, none of them with 16, is read no further.\n"
     "\n"
     "Exit status: 0, every loan has its statement; 1, a loan was refused, or the file holds none or ends inside a record; 2, bad\n"
     "usage, or a failure to read or write.\n";
@@ -40,13 +55,19 @@ enum { REFUSALS_LISTED = 20, REFUSALS_AT_THE_START = 10 };
 
 /* ---- the command line ---- */
 
-enum { ALL, AS_BITS, AS_CSV, GIVEN_PAYMENT, RECORDS, SEPARATORS, TOTAL, YEARS, OPTIONS };
+enum {
+    ALL, AS_ADJUSTABLE, AS_BALLOON, AS_BITS, AS_CSV, AS_INTEREST_ONLY, GIVEN_PAYMENT, INDEX, RECORDS, SEPARATORS, TOTAL, YEARS, OPTIONS
+};
 
 static struct option options[OPTIONS + 1] = {
     [ALL] = {"--all", NULL, NULL},
+    [AS_ADJUSTABLE] = {"--adjustable", "an initial rate, a cap and a lifetime cap, as in 0.05 0.02 0.06", NULL, .is_three = true},
+    [AS_BALLOON] = {"--balloon", "a month", NULL},
     [AS_BITS] = {"--bits", NULL, NULL},
     [AS_CSV] = {"--csv", NULL, NULL},
+    [AS_INTEREST_ONLY] = {"--interest-only", "a number of months", NULL},
     [GIVEN_PAYMENT] = {"--payment", "an amount", NULL},
+    [INDEX] = {"--index", "index rates, as in 0.05,0.055,0.06", NULL},
     [RECORDS] = {"--records", "a file's name", NULL},
     [SEPARATORS] = {"--separators", NULL, NULL},
     [TOTAL] = {"--total", NULL, NULL},
@@ -57,66 +78,39 @@ static bool is_given(int option) {
     return options[option].value != NULL;
 }
 
-/* What came of the loans so far, and how they are written. */
+/* What came of the loans so far, of which kind they are, and how they are written. */
 struct run {
     struct layout layout;
-    double payment;   /* where one is given */
+    struct kind kind;
     size_t good, refused, high_rates;
+    size_t unfit;   /* among the refused: good loans, but for the kind */
     struct schedule schedule;
 };
 
 /* ---- loans ---- */
 
-/* Sums from 0, in the order of the rows; of the months and the balances the last one stands. */
-static void add_rows(struct schedule *schedule) {
-    struct senyolanda_row total = {0, 0, 0, 0, 0};
-    for (uint32_t index = 0; index < schedule->months; index++) {
-        const struct senyolanda_row row = senyolanda_row_at(schedule->rows, index);
-        total.month = row.month;
-        total.payment += row.payment;
-        total.principal += row.principal;
-        total.interest += row.interest;
-        total.balance = row.balance;
-    }
-    schedule->total = total;
-}
-
-/* The loan that the bytes hold, all its rows with their years' lines, and their total. There is room for the longest term. */
-static senyolanda_result draw_loan(const uint8_t *record, size_t length, struct run *run) {
-    struct schedule *schedule = &run->schedule;
-    struct senyolanda_loan loan;
-    uint32_t written, owed;
-    senyolanda_result result =
-        senyolanda_read_loan(record, length, &schedule->principal, &schedule->rate, &schedule->months);
-    if (result == 0)
-        result = is_given(GIVEN_PAYMENT) ? senyolanda_loan_open_with_payment(record, length, run->payment, &loan)
-                                         : senyolanda_loan_open(record, length, &loan);
-    if (result == 0)
-        result = senyolanda_loan_draw_with_years(
-            &loan, schedule->rows, SENYOLANDA_MOST_MONTHS * SENYOLANDA_ROW_PLACES,
-            schedule->years, SENYOLANDA_MOST_YEARS * SENYOLANDA_YEAR_PLACES, &written, &owed);
-    schedule->number = run->good + run->refused + 1;
-    if (result == 0) add_rows(schedule);
-    return result;
-}
-
 static void refuse_loan(struct run *run, senyolanda_result result) {
     const uint32_t number = senyolanda_number(result);
     const size_t place = run->good + run->refused++;
+    char cause[CAUSE_ROOM];
+    if (number == SENYOLANDA_BAD_KIND) run->unfit++;
     if (run->refused > REFUSALS_LISTED && !is_given(ALL)) return;
-    say("loan %zu: refused %" PRIu32 " at %zu: %s", place + 1, number, place, senyolanda_refusal_text(number));
+    put_cause(cause, &run->kind, run->schedule.term, result);
+    say("loan %zu: refused %" PRIu32 " at %zu: %s", place + 1, number, place, cause);
 }
 
-/* The statement of the loan that the bytes hold, or the line that says why there is none. */
+/* The statement of the loan that the bytes hold, or the line that says why there is none. A rate that is not read gets no warning. */
 static void state_loan(const uint8_t *record, size_t length, struct run *run) {
-    const senyolanda_result result = draw_loan(record, length, run);
+    run->schedule.number = run->good + run->refused + 1;
+    run->schedule.kind = &run->kind;
+    const senyolanda_result result = draw_schedule(record, length, &run->schedule);
     if (result != 0) {
         refuse_loan(run, result);
         return;
     }
     (is_given(AS_CSV) ? print_csv : print_table)(&run->schedule, &run->layout, run->good == 0);
     run->good++;
-    if (run->schedule.rate > 1) run->high_rates++;
+    if (run->schedule.rate > 1 && run->kind.name != ADJUSTABLE) run->high_rates++;
 }
 
 static enum status state_words(char **words, struct run *run) {
@@ -154,7 +148,7 @@ static enum status state_records(FILE *file, const char *name, struct run *run) 
         if (output_failed() || !read_input(file, name, record, sizeof record, &length)) return FAILED;
         if (length < sizeof record) break;
         state_loan(record, length, run);
-        if (run->good > 0 || run->refused < REFUSALS_AT_THE_START || is_given(ALL)) continue;
+        if (run->good + run->unfit > 0 || run->refused < REFUSALS_AT_THE_START || is_given(ALL)) continue;
         say("the file seems not to hold loans' records, which have 21 bytes each, the first of them 1; --all reads on");
         return REFUSED;
     }
@@ -189,22 +183,74 @@ static bool choose_layout(struct layout *layout) {
     return false;
 }
 
-static enum status run_statement(char **words) {
-    static struct run run;
-    size_t count = 0;
-    if (!choose_layout(&run.layout)) return FAILED;
-    if (is_given(GIVEN_PAYMENT)) {
-        const char *text = options[GIVEN_PAYMENT].value, *wrong = read_decimal(text, &run.payment);
-        if (wrong != NULL) return fail("the payment '%s' %s", text, wrong);
+static bool choose_payment(struct kind *kind) {
+    kind->is_payment_given = is_given(GIVEN_PAYMENT);
+    if (!kind->is_payment_given) return true;
+    const char *text = options[GIVEN_PAYMENT].value, *wrong = read_decimal(text, &kind->payment);
+    if (wrong != NULL) fail("the payment '%s' %s", text, wrong);
+    return wrong == NULL;
+}
+
+/* The kind that the options name, with its value; false where they name two or the value is none, which is then said. */
+static bool name_kind(struct kind *kind) {
+    static const struct {
+        int option;
+        bool (*read)(const struct option *option, struct kind *kind);
+    } kinds[] = {
+        [INTEREST_ONLY] = {AS_INTEREST_ONLY, read_months},
+        [BALLOON] = {AS_BALLOON, read_months},
+        [ADJUSTABLE] = {AS_ADJUSTABLE, read_adjustment},
+    };
+    for (int name = INTEREST_ONLY; name <= ADJUSTABLE; name++) {
+        const struct option *option = &options[kinds[name].option];
+        if (option->value == NULL) continue;
+        if (kind->name != LEVEL) {
+            fail("%s does not go with %s: a loan is of one kind", option->name, options[kinds[kind->name].option].name);
+            return false;
+        }
+        if (!kinds[name].read(option, kind)) return false;
+        kind->name = name;
     }
+    return true;
+}
+
+/* What does not go with a kind, or is missing beside it; null where all is well. */
+static const char *amiss_with(const struct kind *kind) {
+    if (kind->name != ADJUSTABLE) return is_given(INDEX) ? "--index goes with --adjustable alone" : NULL;
+    if (kind->is_payment_given) return "--payment does not go with --adjustable, which works out each year's payment";
+    return is_given(INDEX) ? NULL : "--adjustable wants --index beside it, the index rates of the years after the first";
+}
+
+/* The kind that the options ask for; false where there is none such, which is then said. */
+static bool choose_kind(struct kind *kind) {
+    if (!name_kind(kind)) return false;
+    const char *amiss = amiss_with(kind);
+    if (amiss != NULL) {
+        fail("%s", amiss);
+        return false;
+    }
+    return !is_given(INDEX) || read_index(&options[INDEX], kind);
+}
+
+/* The loans from a file, or one from the words. */
+static enum status state_loans(char **words, struct run *run) {
+    size_t count = 0;
     while (words[count] != NULL) count++;
     if (is_given(RECORDS)) {
         if (count > 0) return fail("the loans come from --records or from the command line, not from both");
-        return state_file(options[RECORDS].value, &run);
+        return state_file(options[RECORDS].value, run);
     }
     if (count < 3) return fail("a principal, a rate and months are wanted, or --records; see --help");
     if (count > 3) return fail("'%s' is a word too many; --help says what is wanted", words[3]);
-    return state_words(words, &run);
+    return state_words(words, run);
+}
+
+static enum status run_statement(char **words) {
+    static struct run run;
+    if (!choose_layout(&run.layout) || !choose_payment(&run.kind) || !choose_kind(&run.kind)) return FAILED;
+    const enum status status = state_loans(words, &run);
+    if (status != FAILED && run.good > 0) warn_of_rates(&run.kind);
+    return status;
 }
 
 const struct command statement_command = {

@@ -48,6 +48,16 @@
  *     }
  *     if (result != 0) puts(senyolanda_refusal_text(senyolanda_number(result)));
  *
+ * KINDS. There are four kinds of loans. A level loan pays the same each month: it is the one above, senyolanda_loan_open and
+ * senyolanda_loan_draw. An interest-only loan pays interest alone in its first months and a level payment over the rest:
+ * senyolanda_interest_only_open, _draw. A balloon loan has the level rows of its term up to a named month, which repays the whole
+ * balance and is its last: senyolanda_balloon_open, _draw. An adjustable loan has a rate for each year, from a list of index rates
+ * held within two caps, and works its payment out afresh each time: senyolanda_adjustable_open, _draw. All are opened from a
+ * loan's record and drawn in portions, with lines or without. What a kind has of its own (months, month, or rate and caps) is
+ * handed to the opening and to every draw, the same each time; the kind's struct keeps it for you. The index list is lent at the
+ * opening and again at each draw, year 2's rate first: every time the entries of all later started years of the term are read,
+ * and more entries are not. A loan in hand of one kind is none of another: draw it by its own kind's functions.
+ *
  * THREADS. Nothing is kept between calls and nothing is shared: call from as many threads as you like, as long as no two of them
  * write to the same memory. There is no heap, no file, no lock, no errno and no setting; a call needs less than 64 kilobytes of
  * stack; a table at the end says how much each takes. The processor has to round to nearest and keep subnormal numbers, as it does
@@ -61,7 +71,7 @@
 
 /* The version of the header and of the library beside it. */
 #define SENYOLANDA_VERSION_MAJOR 0
-#define SENYOLANDA_VERSION_MINOR 5
+#define SENYOLANDA_VERSION_MINOR 6
 #define SENYOLANDA_VERSION_PATCH 0
 
 /* The same as a string, "major.minor.patch", and as a number that rises with it, for a program to compare:
@@ -140,14 +150,18 @@ enum senyolanda_refusal {
     SENYOLANDA_BAD_FREQUENCY = 8,    /* a swap that pays 0, or more than 365, times a year; a dated swap that does not pay 1, 2,
                                         3, 4, 6 or 12 times a year */
     SENYOLANDA_BAD_NUMBER = 9,       /* a price, yield, coupon, closing cost, flow amount or swap rate infinite or NaN */
-    SENYOLANDA_PAST_THE_TERM = 10,   /* a loan in hand with more months done than its term has */
+    SENYOLANDA_PAST_THE_TERM = 10,   /* a loan in hand with more months done than its term has; of a balloon loan, than its named
+                                        month counts */
     SENYOLANDA_BAD_RECORD = 11,      /* bytes of another kind or length, or a code that stands for nothing; a book of more than
                                         256 records */
     SENYOLANDA_NO_YIELD = 12,        /* the prices at both ends of both searched ranges, yields of 0.001 to 0.999 and of 0.000001
                                         to 50, lie on one side of the market price: no yield of 0 or below is found */
     SENYOLANDA_NO_BREAK_EVEN = 13,   /* the new loan saves nothing a month, or pays its cost back only after its term */
     SENYOLANDA_NO_ROW_DRAWN = 14,    /* a year, from 1, of which no row is drawn */
-    SENYOLANDA_BAD_DATE = 15         /* no such date from 1900 to 2199, or a second date that is not after the first */
+    SENYOLANDA_BAD_DATE = 15,        /* no such date from 1900 to 2199, or a second date that is not after the first */
+    SENYOLANDA_BAD_KIND = 16         /* interest alone for 0 months, or for the whole term or longer; a balloon in month 0 or after
+                                        the term; an initial rate infinite or NaN; a cap negative, infinite or NaN; an index list
+                                        that is too short for the term, or infinite or NaN in an entry that is read */
 };
 
 /* How often a bond pays. (A swap's frequency is no code: it is the number of payments a year.) */
@@ -202,12 +216,13 @@ static inline const char *senyolanda_refusal_text(uint32_t number) {
     case SENYOLANDA_BAD_TIME: return "a time is not finite or there are too many periods, flows or loans";
     case SENYOLANDA_BAD_FREQUENCY: return "the swap does not pay from 1 to 365 times, or if dated not 1, 2, 3, 4, 6 or 12 times, a year";
     case SENYOLANDA_BAD_NUMBER: return "a price, yield, coupon, cost, flow or rate is not finite";
-    case SENYOLANDA_PAST_THE_TERM: return "the loan has more months done than its term";
+    case SENYOLANDA_PAST_THE_TERM: return "the loan has more months done than its term, or than its balloon month";
     case SENYOLANDA_BAD_RECORD: return "the record is of another kind or length, or has an unknown code";
     case SENYOLANDA_NO_YIELD: return "no yield from 0.000001 to 50 was found for the market price";
     case SENYOLANDA_NO_BREAK_EVEN: return "the new loan does not pay its cost back within its term";
     case SENYOLANDA_NO_ROW_DRAWN: return "no row of the year is drawn";
     case SENYOLANDA_BAD_DATE: return "there is no such date, or the second date is not after the first";
+    case SENYOLANDA_BAD_KIND: return "the interest-only months, balloon month, initial rate, caps or index list do not fit the loan";
     default: return "no such refusal";
     }
 }
@@ -591,6 +606,382 @@ static inline SENYOLANDA_CHECKED senyolanda_result senyolanda_loan_year(
     result = senyolanda_look_up_year(counts, amounts, years, year_places, year, found);
     if (result == 0) *line = senyolanda_year_at(found, 0);
     return result;
+}
+
+/* ---- kinds of loans: opened from a loan's record and drawn as a level loan is, each by its own functions, which take what the
+   kind has of its own before the loan in hand. 16 is asked at every opening and draw, of a finished loan too, and comes after all
+   other numbers. Year-end lines are wanted for the started years of the whole term, whatever the kind. ---- */
+
+/* Opens an interest-only loan: its first so many months pay interest alone, and the payment is the level one of the principal over
+   the months behind them. Refuses 1, 2, 11, 16. */
+senyolanda_result senyolanda_open_interest_only(
+    const uint8_t *record, size_t length, uint32_t months,
+    uint32_t counts[SENYOLANDA_FILLED SENYOLANDA_LOAN_COUNTS],
+    double amounts[SENYOLANDA_FILLED SENYOLANDA_LOAN_AMOUNTS]) SENYOLANDA_CHECKED;
+
+/* Opens an interest-only loan with a given payment for the months behind the first. Refuses 1, 2, 11, 16. */
+senyolanda_result senyolanda_open_interest_only_with_payment(
+    const uint8_t *record, size_t length, uint32_t months, double given,
+    uint32_t counts[SENYOLANDA_FILLED SENYOLANDA_LOAN_COUNTS],
+    double amounts[SENYOLANDA_FILLED SENYOLANDA_LOAN_AMOUNTS]) SENYOLANDA_CHECKED;
+
+/* Draws an interest-only loan as senyolanda_draw does: in the first so many months the payment is the interest, the principal 0 and
+   the balance stays. Refuses 2, 3, 10, 16. */
+senyolanda_result senyolanda_draw_interest_only(
+    uint32_t months,
+    uint32_t counts[SENYOLANDA_FILLED SENYOLANDA_LOAN_COUNTS],
+    double amounts[SENYOLANDA_FILLED SENYOLANDA_LOAN_AMOUNTS],
+    double *SENYOLANDA_RESTRICT room, size_t places,
+    uint32_t *SENYOLANDA_RESTRICT written, uint32_t *SENYOLANDA_RESTRICT owed) SENYOLANDA_CHECKED;
+
+/* The same with lines, as senyolanda_draw_with_years; a year is looked up by senyolanda_look_up_year. Refuses 2, 3, 10, 16. */
+senyolanda_result senyolanda_draw_interest_only_with_years(
+    uint32_t months,
+    uint32_t counts[SENYOLANDA_FILLED SENYOLANDA_LOAN_COUNTS],
+    double amounts[SENYOLANDA_FILLED SENYOLANDA_LOAN_AMOUNTS],
+    double *SENYOLANDA_RESTRICT room, size_t places,
+    double *SENYOLANDA_RESTRICT years, size_t year_places,
+    uint32_t *SENYOLANDA_RESTRICT written, uint32_t *SENYOLANDA_RESTRICT owed) SENYOLANDA_CHECKED;
+
+/* The next row alone, as senyolanda_next_row. Refuses 2, 10, 16. */
+senyolanda_result senyolanda_next_interest_only_row(
+    uint32_t months,
+    uint32_t counts[SENYOLANDA_FILLED SENYOLANDA_LOAN_COUNTS],
+    double amounts[SENYOLANDA_FILLED SENYOLANDA_LOAN_AMOUNTS],
+    uint8_t record[SENYOLANDA_FILLED SENYOLANDA_ROW_BYTES],
+    uint32_t *SENYOLANDA_RESTRICT written, uint32_t *SENYOLANDA_RESTRICT owed) SENYOLANDA_CHECKED;
+
+/* Opens a balloon loan, whose payment is the level one of the whole term; the named month, from 1, may be the term's last.
+   Refuses 1, 2, 11, 16. */
+senyolanda_result senyolanda_open_balloon(
+    const uint8_t *record, size_t length, uint32_t month,
+    uint32_t counts[SENYOLANDA_FILLED SENYOLANDA_LOAN_COUNTS],
+    double amounts[SENYOLANDA_FILLED SENYOLANDA_LOAN_AMOUNTS]) SENYOLANDA_CHECKED;
+
+/* Opens a balloon loan with a given payment for the months before the named one. Refuses 1, 2, 11, 16. */
+senyolanda_result senyolanda_open_balloon_with_payment(
+    const uint8_t *record, size_t length, uint32_t month, double given,
+    uint32_t counts[SENYOLANDA_FILLED SENYOLANDA_LOAN_COUNTS],
+    double amounts[SENYOLANDA_FILLED SENYOLANDA_LOAN_AMOUNTS]) SENYOLANDA_CHECKED;
+
+/* Draws a balloon loan as senyolanda_draw does, with the named month for the term's last: it repays the balance, no row comes after
+   it, and the rows owed are those up to it. More months done than it counts are 10. Refuses 2, 3, 10, 16. */
+senyolanda_result senyolanda_draw_balloon(
+    uint32_t month,
+    uint32_t counts[SENYOLANDA_FILLED SENYOLANDA_LOAN_COUNTS],
+    double amounts[SENYOLANDA_FILLED SENYOLANDA_LOAN_AMOUNTS],
+    double *SENYOLANDA_RESTRICT room, size_t places,
+    uint32_t *SENYOLANDA_RESTRICT written, uint32_t *SENYOLANDA_RESTRICT owed) SENYOLANDA_CHECKED;
+
+/* The same with lines, as senyolanda_draw_with_years: one for each started year of the whole term. Refuses 2, 3, 10, 16. */
+senyolanda_result senyolanda_draw_balloon_with_years(
+    uint32_t month,
+    uint32_t counts[SENYOLANDA_FILLED SENYOLANDA_LOAN_COUNTS],
+    double amounts[SENYOLANDA_FILLED SENYOLANDA_LOAN_AMOUNTS],
+    double *SENYOLANDA_RESTRICT room, size_t places,
+    double *SENYOLANDA_RESTRICT years, size_t year_places,
+    uint32_t *SENYOLANDA_RESTRICT written, uint32_t *SENYOLANDA_RESTRICT owed) SENYOLANDA_CHECKED;
+
+/* The next row alone, as senyolanda_next_row. Refuses 2, 10, 16. */
+senyolanda_result senyolanda_next_balloon_row(
+    uint32_t month,
+    uint32_t counts[SENYOLANDA_FILLED SENYOLANDA_LOAN_COUNTS],
+    double amounts[SENYOLANDA_FILLED SENYOLANDA_LOAN_AMOUNTS],
+    uint8_t record[SENYOLANDA_FILLED SENYOLANDA_ROW_BYTES],
+    uint32_t *SENYOLANDA_RESTRICT written, uint32_t *SENYOLANDA_RESTRICT owed) SENYOLANDA_CHECKED;
+
+/* The line of a year, as senyolanda_look_up_year; more months done than the named month counts are 10, and 16 is not asked.
+   Refuses 2, 3, 10, 14. */
+senyolanda_result senyolanda_look_up_balloon_year(
+    uint32_t month,
+    const uint32_t counts[SENYOLANDA_READ SENYOLANDA_LOAN_COUNTS],
+    const double amounts[SENYOLANDA_READ SENYOLANDA_LOAN_AMOUNTS],
+    const double *years, size_t year_places, uint32_t year,
+    double line[SENYOLANDA_FILLED SENYOLANDA_YEAR_PLACES]) SENYOLANDA_CHECKED;
+
+/* Opens an adjustable loan: year 1 runs at the initial rate, and the record's rate is not read. Each later year's rate is its entry
+   of the index list, no further than cap from the rate of the year before, then not above initial plus lifetime; its payment is
+   worked out for the balance and the months left. An entry that is not finite stands at its index. Refuses 1, 2, 11, 16. */
+senyolanda_result senyolanda_open_adjustable(
+    const uint8_t *record, size_t length,
+    double initial, double cap, double lifetime, const double *index, size_t index_count,
+    uint32_t counts[SENYOLANDA_FILLED SENYOLANDA_LOAN_COUNTS],
+    double amounts[SENYOLANDA_FILLED SENYOLANDA_LOAN_AMOUNTS]) SENYOLANDA_CHECKED;
+
+/* Draws an adjustable loan as senyolanda_draw does; the row that begins a later year moves the loan's rate and payment on, and they
+   are handed back with its months done and its balance. Refuses 2, 3, 10, 16. */
+senyolanda_result senyolanda_draw_adjustable(
+    double initial, double cap, double lifetime, const double *index, size_t index_count,
+    uint32_t counts[SENYOLANDA_FILLED SENYOLANDA_LOAN_COUNTS],
+    double amounts[SENYOLANDA_FILLED SENYOLANDA_LOAN_AMOUNTS],
+    double *SENYOLANDA_RESTRICT room, size_t places,
+    uint32_t *SENYOLANDA_RESTRICT written, uint32_t *SENYOLANDA_RESTRICT owed) SENYOLANDA_CHECKED;
+
+/* The same with lines, as senyolanda_draw_with_years; a year is looked up by senyolanda_look_up_year. Refuses 2, 3, 10, 16. */
+senyolanda_result senyolanda_draw_adjustable_with_years(
+    double initial, double cap, double lifetime, const double *index, size_t index_count,
+    uint32_t counts[SENYOLANDA_FILLED SENYOLANDA_LOAN_COUNTS],
+    double amounts[SENYOLANDA_FILLED SENYOLANDA_LOAN_AMOUNTS],
+    double *SENYOLANDA_RESTRICT room, size_t places,
+    double *SENYOLANDA_RESTRICT years, size_t year_places,
+    uint32_t *SENYOLANDA_RESTRICT written, uint32_t *SENYOLANDA_RESTRICT owed) SENYOLANDA_CHECKED;
+
+/* The next row alone, as senyolanda_next_row. Refuses 2, 10, 16. */
+senyolanda_result senyolanda_next_adjustable_row(
+    double initial, double cap, double lifetime, const double *index, size_t index_count,
+    uint32_t counts[SENYOLANDA_FILLED SENYOLANDA_LOAN_COUNTS],
+    double amounts[SENYOLANDA_FILLED SENYOLANDA_LOAN_AMOUNTS],
+    uint8_t record[SENYOLANDA_FILLED SENYOLANDA_ROW_BYTES],
+    uint32_t *SENYOLANDA_RESTRICT written, uint32_t *SENYOLANDA_RESTRICT owed) SENYOLANDA_CHECKED;
+
+/* A loan in hand of each kind but the level one, with what the kind has of its own; the index list stays yours. Only an opening
+   fills them, and a refusal leaves them as they were. */
+struct senyolanda_interest_only {
+    struct senyolanda_loan loan;
+    uint32_t months;   /* the first, of interest alone */
+};
+
+struct senyolanda_balloon {
+    struct senyolanda_loan loan;
+    uint32_t month;    /* the last, from 1 */
+};
+
+struct senyolanda_adjustable {
+    struct senyolanda_loan loan;
+    double initial;    /* the rate of year 1 */
+    double cap;        /* by how much a year's rate may differ from the last year's */
+    double lifetime;   /* by how much any rate may be above the initial one */
+};
+
+/* Opens an interest-only loan with the worked-out payment. Refuses 1, 2, 11, 16. */
+static inline SENYOLANDA_CHECKED senyolanda_result senyolanda_interest_only_open(
+    const uint8_t *record, size_t length, uint32_t months,
+    struct senyolanda_interest_only *SENYOLANDA_RESTRICT interest_only) {
+    uint32_t counts[SENYOLANDA_LOAN_COUNTS];
+    double amounts[SENYOLANDA_LOAN_AMOUNTS];
+    senyolanda_result result = senyolanda_open_interest_only(record, length, months, counts, amounts);
+    if (result != 0) return result;
+    senyolanda_loan_put_together(&interest_only->loan, counts, amounts);
+    interest_only->months = months;
+    return result;
+}
+
+/* Opens an interest-only loan with a given payment. Refuses 1, 2, 11, 16. */
+static inline SENYOLANDA_CHECKED senyolanda_result senyolanda_interest_only_open_with_payment(
+    const uint8_t *record, size_t length, uint32_t months, double given,
+    struct senyolanda_interest_only *SENYOLANDA_RESTRICT interest_only) {
+    uint32_t counts[SENYOLANDA_LOAN_COUNTS];
+    double amounts[SENYOLANDA_LOAN_AMOUNTS];
+    senyolanda_result result = senyolanda_open_interest_only_with_payment(record, length, months, given, counts, amounts);
+    if (result != 0) return result;
+    senyolanda_loan_put_together(&interest_only->loan, counts, amounts);
+    interest_only->months = months;
+    return result;
+}
+
+/* The next rows, as senyolanda_loan_draw. Refuses 2, 3, 10, 16. */
+static inline SENYOLANDA_CHECKED senyolanda_result senyolanda_interest_only_draw(
+    struct senyolanda_interest_only *SENYOLANDA_RESTRICT interest_only,
+    double *SENYOLANDA_RESTRICT room, size_t places,
+    uint32_t *SENYOLANDA_RESTRICT written, uint32_t *SENYOLANDA_RESTRICT owed) {
+    uint32_t counts[SENYOLANDA_LOAN_COUNTS];
+    double amounts[SENYOLANDA_LOAN_AMOUNTS];
+    senyolanda_result result;
+    senyolanda_loan_taken_apart(&interest_only->loan, counts, amounts);
+    result = senyolanda_draw_interest_only(interest_only->months, counts, amounts, room, places, written, owed);
+    if (result == 0) senyolanda_loan_put_together(&interest_only->loan, counts, amounts);
+    return result;
+}
+
+/* The same with lines, as senyolanda_loan_draw_with_years. Refuses 2, 3, 10, 16. */
+static inline SENYOLANDA_CHECKED senyolanda_result senyolanda_interest_only_draw_with_years(
+    struct senyolanda_interest_only *SENYOLANDA_RESTRICT interest_only,
+    double *SENYOLANDA_RESTRICT room, size_t places,
+    double *SENYOLANDA_RESTRICT years, size_t year_places,
+    uint32_t *SENYOLANDA_RESTRICT written, uint32_t *SENYOLANDA_RESTRICT owed) {
+    uint32_t counts[SENYOLANDA_LOAN_COUNTS];
+    double amounts[SENYOLANDA_LOAN_AMOUNTS];
+    senyolanda_result result;
+    senyolanda_loan_taken_apart(&interest_only->loan, counts, amounts);
+    result = senyolanda_draw_interest_only_with_years(
+        interest_only->months, counts, amounts, room, places, years, year_places, written, owed);
+    if (result == 0) senyolanda_loan_put_together(&interest_only->loan, counts, amounts);
+    return result;
+}
+
+/* The next row alone, as a row's record. Refuses 2, 10, 16. */
+static inline SENYOLANDA_CHECKED senyolanda_result senyolanda_interest_only_next_row(
+    struct senyolanda_interest_only *SENYOLANDA_RESTRICT interest_only,
+    uint8_t record[SENYOLANDA_FILLED SENYOLANDA_ROW_BYTES],
+    uint32_t *SENYOLANDA_RESTRICT written, uint32_t *SENYOLANDA_RESTRICT owed) {
+    uint32_t counts[SENYOLANDA_LOAN_COUNTS];
+    double amounts[SENYOLANDA_LOAN_AMOUNTS];
+    senyolanda_result result;
+    senyolanda_loan_taken_apart(&interest_only->loan, counts, amounts);
+    result = senyolanda_next_interest_only_row(interest_only->months, counts, amounts, record, written, owed);
+    if (result == 0) senyolanda_loan_put_together(&interest_only->loan, counts, amounts);
+    return result;
+}
+
+/* The line of a year, as senyolanda_loan_year. Refuses 2, 3, 10, 14. */
+static inline SENYOLANDA_CHECKED senyolanda_result senyolanda_interest_only_year(
+    const struct senyolanda_interest_only *interest_only, const double *years, size_t year_places, uint32_t year,
+    struct senyolanda_year *SENYOLANDA_RESTRICT line) {
+    return senyolanda_loan_year(&interest_only->loan, years, year_places, year, line);
+}
+
+/* Opens a balloon loan with the worked-out payment. Refuses 1, 2, 11, 16. */
+static inline SENYOLANDA_CHECKED senyolanda_result senyolanda_balloon_open(
+    const uint8_t *record, size_t length, uint32_t month,
+    struct senyolanda_balloon *SENYOLANDA_RESTRICT balloon) {
+    uint32_t counts[SENYOLANDA_LOAN_COUNTS];
+    double amounts[SENYOLANDA_LOAN_AMOUNTS];
+    senyolanda_result result = senyolanda_open_balloon(record, length, month, counts, amounts);
+    if (result != 0) return result;
+    senyolanda_loan_put_together(&balloon->loan, counts, amounts);
+    balloon->month = month;
+    return result;
+}
+
+/* Opens a balloon loan with a given payment. Refuses 1, 2, 11, 16. */
+static inline SENYOLANDA_CHECKED senyolanda_result senyolanda_balloon_open_with_payment(
+    const uint8_t *record, size_t length, uint32_t month, double given,
+    struct senyolanda_balloon *SENYOLANDA_RESTRICT balloon) {
+    uint32_t counts[SENYOLANDA_LOAN_COUNTS];
+    double amounts[SENYOLANDA_LOAN_AMOUNTS];
+    senyolanda_result result = senyolanda_open_balloon_with_payment(record, length, month, given, counts, amounts);
+    if (result != 0) return result;
+    senyolanda_loan_put_together(&balloon->loan, counts, amounts);
+    balloon->month = month;
+    return result;
+}
+
+/* The next rows, as senyolanda_loan_draw. Refuses 2, 3, 10, 16. */
+static inline SENYOLANDA_CHECKED senyolanda_result senyolanda_balloon_draw(
+    struct senyolanda_balloon *SENYOLANDA_RESTRICT balloon,
+    double *SENYOLANDA_RESTRICT room, size_t places,
+    uint32_t *SENYOLANDA_RESTRICT written, uint32_t *SENYOLANDA_RESTRICT owed) {
+    uint32_t counts[SENYOLANDA_LOAN_COUNTS];
+    double amounts[SENYOLANDA_LOAN_AMOUNTS];
+    senyolanda_result result;
+    senyolanda_loan_taken_apart(&balloon->loan, counts, amounts);
+    result = senyolanda_draw_balloon(balloon->month, counts, amounts, room, places, written, owed);
+    if (result == 0) senyolanda_loan_put_together(&balloon->loan, counts, amounts);
+    return result;
+}
+
+/* The same with lines, as senyolanda_loan_draw_with_years. Refuses 2, 3, 10, 16. */
+static inline SENYOLANDA_CHECKED senyolanda_result senyolanda_balloon_draw_with_years(
+    struct senyolanda_balloon *SENYOLANDA_RESTRICT balloon,
+    double *SENYOLANDA_RESTRICT room, size_t places,
+    double *SENYOLANDA_RESTRICT years, size_t year_places,
+    uint32_t *SENYOLANDA_RESTRICT written, uint32_t *SENYOLANDA_RESTRICT owed) {
+    uint32_t counts[SENYOLANDA_LOAN_COUNTS];
+    double amounts[SENYOLANDA_LOAN_AMOUNTS];
+    senyolanda_result result;
+    senyolanda_loan_taken_apart(&balloon->loan, counts, amounts);
+    result = senyolanda_draw_balloon_with_years(balloon->month, counts, amounts, room, places, years, year_places, written, owed);
+    if (result == 0) senyolanda_loan_put_together(&balloon->loan, counts, amounts);
+    return result;
+}
+
+/* The next row alone, as a row's record. Refuses 2, 10, 16. */
+static inline SENYOLANDA_CHECKED senyolanda_result senyolanda_balloon_next_row(
+    struct senyolanda_balloon *SENYOLANDA_RESTRICT balloon,
+    uint8_t record[SENYOLANDA_FILLED SENYOLANDA_ROW_BYTES],
+    uint32_t *SENYOLANDA_RESTRICT written, uint32_t *SENYOLANDA_RESTRICT owed) {
+    uint32_t counts[SENYOLANDA_LOAN_COUNTS];
+    double amounts[SENYOLANDA_LOAN_AMOUNTS];
+    senyolanda_result result;
+    senyolanda_loan_taken_apart(&balloon->loan, counts, amounts);
+    result = senyolanda_next_balloon_row(balloon->month, counts, amounts, record, written, owed);
+    if (result == 0) senyolanda_loan_put_together(&balloon->loan, counts, amounts);
+    return result;
+}
+
+/* The line of a year, as senyolanda_loan_year. Refuses 2, 3, 10, 14. */
+static inline SENYOLANDA_CHECKED senyolanda_result senyolanda_balloon_year(
+    const struct senyolanda_balloon *balloon, const double *years, size_t year_places, uint32_t year,
+    struct senyolanda_year *SENYOLANDA_RESTRICT line) {
+    uint32_t counts[SENYOLANDA_LOAN_COUNTS];
+    double amounts[SENYOLANDA_LOAN_AMOUNTS], found[SENYOLANDA_YEAR_PLACES];
+    senyolanda_result result;
+    senyolanda_loan_taken_apart(&balloon->loan, counts, amounts);
+    result = senyolanda_look_up_balloon_year(balloon->month, counts, amounts, years, year_places, year, found);
+    if (result == 0) *line = senyolanda_year_at(found, 0);
+    return result;
+}
+
+/* Opens an adjustable loan with the worked-out payment. Refuses 1, 2, 11, 16. */
+static inline SENYOLANDA_CHECKED senyolanda_result senyolanda_adjustable_open(
+    const uint8_t *record, size_t length,
+    double initial, double cap, double lifetime, const double *index, size_t index_count,
+    struct senyolanda_adjustable *SENYOLANDA_RESTRICT adjustable) {
+    uint32_t counts[SENYOLANDA_LOAN_COUNTS];
+    double amounts[SENYOLANDA_LOAN_AMOUNTS];
+    senyolanda_result result = senyolanda_open_adjustable(
+        record, length, initial, cap, lifetime, index, index_count, counts, amounts);
+    if (result != 0) return result;
+    senyolanda_loan_put_together(&adjustable->loan, counts, amounts);
+    adjustable->initial = initial;
+    adjustable->cap = cap;
+    adjustable->lifetime = lifetime;
+    return result;
+}
+
+/* The next rows, as senyolanda_loan_draw. Refuses 2, 3, 10, 16. */
+static inline SENYOLANDA_CHECKED senyolanda_result senyolanda_adjustable_draw(
+    struct senyolanda_adjustable *SENYOLANDA_RESTRICT adjustable, const double *index, size_t index_count,
+    double *SENYOLANDA_RESTRICT room, size_t places,
+    uint32_t *SENYOLANDA_RESTRICT written, uint32_t *SENYOLANDA_RESTRICT owed) {
+    uint32_t counts[SENYOLANDA_LOAN_COUNTS];
+    double amounts[SENYOLANDA_LOAN_AMOUNTS];
+    senyolanda_result result;
+    senyolanda_loan_taken_apart(&adjustable->loan, counts, amounts);
+    result = senyolanda_draw_adjustable(
+        adjustable->initial, adjustable->cap, adjustable->lifetime, index, index_count,
+        counts, amounts, room, places, written, owed);
+    if (result == 0) senyolanda_loan_put_together(&adjustable->loan, counts, amounts);
+    return result;
+}
+
+/* The same with lines, as senyolanda_loan_draw_with_years. Refuses 2, 3, 10, 16. */
+static inline SENYOLANDA_CHECKED senyolanda_result senyolanda_adjustable_draw_with_years(
+    struct senyolanda_adjustable *SENYOLANDA_RESTRICT adjustable, const double *index, size_t index_count,
+    double *SENYOLANDA_RESTRICT room, size_t places,
+    double *SENYOLANDA_RESTRICT years, size_t year_places,
+    uint32_t *SENYOLANDA_RESTRICT written, uint32_t *SENYOLANDA_RESTRICT owed) {
+    uint32_t counts[SENYOLANDA_LOAN_COUNTS];
+    double amounts[SENYOLANDA_LOAN_AMOUNTS];
+    senyolanda_result result;
+    senyolanda_loan_taken_apart(&adjustable->loan, counts, amounts);
+    result = senyolanda_draw_adjustable_with_years(
+        adjustable->initial, adjustable->cap, adjustable->lifetime, index, index_count,
+        counts, amounts, room, places, years, year_places, written, owed);
+    if (result == 0) senyolanda_loan_put_together(&adjustable->loan, counts, amounts);
+    return result;
+}
+
+/* The next row alone, as a row's record. Refuses 2, 10, 16. */
+static inline SENYOLANDA_CHECKED senyolanda_result senyolanda_adjustable_next_row(
+    struct senyolanda_adjustable *SENYOLANDA_RESTRICT adjustable, const double *index, size_t index_count,
+    uint8_t record[SENYOLANDA_FILLED SENYOLANDA_ROW_BYTES],
+    uint32_t *SENYOLANDA_RESTRICT written, uint32_t *SENYOLANDA_RESTRICT owed) {
+    uint32_t counts[SENYOLANDA_LOAN_COUNTS];
+    double amounts[SENYOLANDA_LOAN_AMOUNTS];
+    senyolanda_result result;
+    senyolanda_loan_taken_apart(&adjustable->loan, counts, amounts);
+    result = senyolanda_next_adjustable_row(
+        adjustable->initial, adjustable->cap, adjustable->lifetime, index, index_count, counts, amounts, record, written, owed);
+    if (result == 0) senyolanda_loan_put_together(&adjustable->loan, counts, amounts);
+    return result;
+}
+
+/* The line of a year, as senyolanda_loan_year. Refuses 2, 3, 10, 14. */
+static inline SENYOLANDA_CHECKED senyolanda_result senyolanda_adjustable_year(
+    const struct senyolanda_adjustable *adjustable, const double *years, size_t year_places, uint32_t year,
+    struct senyolanda_year *SENYOLANDA_RESTRICT line) {
+    return senyolanda_loan_year(&adjustable->loan, years, year_places, year, line);
 }
 
 /* ---- pools: the loans come as their records end to end; the speed is an enum senyolanda_speed, its number and list beside it.

@@ -5,41 +5,7 @@ program=$(readlink -f "${1:?usage: test/statement.sh PROGRAM}")
 cd "$(dirname "$0")/.."
 named=statement
 . test/running.sh
-
-# gives STATUS WORDS..: runs the command on the words, and holds it to its exit status
-gives() {
-    want=$1
-    shift
-    ends "$want" statement "$@"
-}
-
-# writes, says: standard output, or standard error, of the last run is what stands on standard input here
-writes() { cmp -s - "$room/wrote" || fails "other output than wanted"; }
-says() { cmp -s - "$room/said" || fails "other words on standard error than wanted"; }
-
-# says_once PATTERN: one line on standard error, of the pattern
-says_once() {
-    [ "$(wc -l <"$room/said")" = 1 ] || fails "not one line on standard error"
-    grep -q "^senyolanda statement: $1" "$room/said" || fails "standard error does not say $1"
-}
-
-# refused NUMBER: no row, and one line that gives the refusal of the only loan
-refused() {
-    writes </dev/null
-    says_once "loan 1: refused $1 at 0: [a-z]"
-}
-
-# stated WORDS..: every loan has its statement, and there is nothing on standard error
-stated() {
-    gives 0 "$@"
-    says </dev/null
-}
-
-# warned WORDS..: the same with one line, that the rate is above 1
-warned() {
-    gives 0 "$@"
-    says_once "a rate of .* is .* per cent a year; six per cent is 0\.06$"
-}
+. test/stating.sh
 
 # ---- document 01's figures
 
@@ -491,15 +457,6 @@ test/record 1000 0 2 >"$room/c"
 test/record -1 0 3 >"$room/bad"
 { printf '\002'; tail -c 20 "$room/a"; } >"$room/other"
 
-# repeated COUNT FILE: the file so often, end to end
-repeated() {
-    k=0
-    while [ "$k" -lt "$1" ]; do
-        cat "$2"
-        k=$((k + 1))
-    done
-}
-
 stated --records "$room/a"
 cp "$room/wrote" "$room/want"
 stated 1200 0 3
@@ -724,14 +681,6 @@ done
 
 # ---- bad usage, and failures to read and write: status 2, one line, no row
 
-# wrong WORD WORDS..: the line on standard error has the word
-wrong() {
-    word=$1
-    shift
-    gives 2 "$@"
-    writes </dev/null
-    says_once ".*$word"
-}
 wrong "principal '12x' is no decimal number" 12x 0.05 360
 wrong "principal ''" "" 0.05 360
 wrong "principal ' 5'" " 5" 0.05 360
@@ -783,12 +732,6 @@ status=0
 [ "$status" = 2 ] || fails "exit status $status and not 2"
 says_once "cannot read standard input: "
 
-# unwritten WHY: the last run says why its output could not be written
-unwritten() {
-    [ "$status" = 2 ] || fails "exit status $status and not 2"
-    says_once "cannot write to standard output: $1\$"
-    count=$((count + 1))
-}
 repeated 2000 "$room/a" >"$room/many"
 for words in "1200 0 3" "1200 0 1200" "--csv 1200 0 1200" "--csv 1200 0 3" "--help" "--records $room/many" "--csv --records $room/many" \
     "--years 1200 0 3" "--years --csv 1200 0 1200" "--years --records $room/many" "--years --csv --records $room/many"; do

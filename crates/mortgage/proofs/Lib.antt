@@ -1,10 +1,13 @@
 pub mod RuleLaws
 pub mod RowLaws
+pub mod KindLaws
 pub mod RowFits
 pub mod RowsLaid
 pub mod SteadyKinds
 pub mod DrawCases
 pub mod YearByYear
+pub mod RatesHeld
+pub mod DrawOrder
 pub mod PlaceLaws
 pub mod DrawLaws
 pub mod LevelLaws

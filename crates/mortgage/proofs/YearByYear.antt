@@ -32,7 +32,7 @@ both true true e = (refl, refl)
 both true false e = absurd (true≢false (sym e))
 both false y e = absurd (true≢false (sym e))
 
-not-second : (x y : Bool) → y ≡ false → (x && y) ≡ false
+pub not-second : (x y : Bool) → y ≡ false → (x && y) ≡ false
 not-second true y e = e
 not-second false y e = refl
 

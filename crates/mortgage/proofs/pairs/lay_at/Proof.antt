@@ -5,6 +5,7 @@ use denote.Ref.{now}
 use borrow.Author.Needs.{needs}
 use Rattle.steps.proofs.Laying.{none-at}
 use Rattle.mortgage.specs.Row.{width}
+use Rattle.mortgage.specs.Kinds.{level}
 use Rattle.mortgage.specs.Month.{nextOf}
 use Rattle.mortgage.proofs.DrawCases.{rowPlaces}
 use Rattle.mortgage.proofs.PlaceLaws.{laid-within}
@@ -18,7 +19,7 @@ returns : tie.Need-returns
 returns c =
     let n = c .before .count-at in
     let a = c .before .before .before .args in
-    none-at nextOf rowPlaces width (now (a .room)) (a .at) _ (a .loan) (sym (n .ensures) ∙ c .if1 .taken)
+    none-at (nextOf level) (rowPlaces level) width (now (a .room)) (a .at) _ (a .loan) (sym (n .ensures) ∙ c .if1 .taken)
 
 lay-from-requires : tie.Need-lay-from-requires
 lay-from-requires c κs =

@@ -4,6 +4,7 @@ use denote.Ref.{now}
 use borrow.Author.Needs.{needs}
 use Rattle.steps.proofs.Pairs.{none-of-both}
 use Rattle.mortgage.specs.Row.{width}
+use Rattle.mortgage.specs.Kinds.{level}
 use Rattle.mortgage.specs.Month.{nextOf}
 use Rattle.mortgage.proofs.DrawCases.{rowPlaces}
 use Rattle.mortgage.proofs.PlaceLaws.{both-count, both-within}
@@ -28,7 +29,7 @@ returns c =
     let y = c .before .before .count-at2 in
     let x = c .before .before .before .count-at in
     let a = c .before .before .before .before .before .args in
-    none-of-both nextOf rowPlaces width (now (a .room)) (a .a) (a .b) _ (a .first) (a .second) (sym (both-count (a .first) (a .second) (a .asked) (a .a) (a .b) _ _ _ _ (x .ensures) (y .ensures) (n .ensures)) ∙ c .if1 .taken)
+    none-of-both (nextOf level) (rowPlaces level) width (now (a .room)) (a .a) (a .b) _ (a .first) (a .second) (sym (both-count (a .first) (a .second) (a .asked) (a .a) (a .b) _ _ _ _ (x .ensures) (y .ensures) (n .ensures)) ∙ c .if1 .taken)
 
 lay-pair-requires : tie.Need-lay-pair-requires
 lay-pair-requires c κs =

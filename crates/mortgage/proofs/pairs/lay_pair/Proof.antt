@@ -6,8 +6,9 @@ use denote.Ref.{now}
 use borrow.Author.Needs.{needs}
 use Rattle.steps.proofs.Pairs.{both-joined}
 use Rattle.mortgage.specs.Row.{width}
+use Rattle.mortgage.specs.Kinds.{level}
 use Rattle.mortgage.specs.Month.{nextOf}
-use Rattle.mortgage.proofs.RowLaws.{rest-due}
+use Rattle.mortgage.proofs.PlaceLaws.{rest-within}
 use Rattle.mortgage.proofs.DrawCases.{rowPlaces, wide}
 use Rattle.mortgage.proofs.pairs.lay_pair.Statement.{statement}
 use Rattle.mortgage.proofs.pairs.lay_pair.Tie as tie
@@ -32,7 +33,7 @@ lay-from-requires c κs =
     let r = c .before .before .before .before .before .pair-rows in
     let s = c .before .before .before .before .before .before .before .before in
     let h : r .result .count ≤ s .args .count = le-of-lt (r .ensures .0 .0) in
-    (omega (arith, r .ensures .0 .0), omega arith, rest-due (r .result .count) (s .args .count) _ _ (r .ensures .0 .1) h (s .pre .1 .0))
+    (omega (arith, r .ensures .0 .0), omega arith, rest-within level (r .result .count) (s .args .count) _ _ (r .ensures .0 .1) h (s .pre .1 .0))
 
 add-lay-from-2 : tie.Need-add-lay-from-2
 add-lay-from-2 c = search needs
@@ -45,7 +46,7 @@ lay-from-requires-2 c κs =
     let r = c .before .before .before .before .before .before .before .before .before .pair-rows in
     let s = c .before .before .before .before .before .before .before .before .before .before .before .before in
     let h : r .result .count ≤ s .args .count = le-of-lt (r .ensures .0 .0) in
-    (omega (arith, r .ensures .0 .0), omega arith, rest-due (r .result .count) (s .args .count) _ _ (r .ensures .0 .2) h (s .pre .1 .1))
+    (omega (arith, r .ensures .0 .0), omega arith, rest-within level (r .result .count) (s .args .count) _ _ (r .ensures .0 .2) h (s .pre .1 .1))
 
 same-length : tie.Need-same-length
 same-length c = search needs
@@ -57,7 +58,7 @@ returns c =
     let r = c .before .before .before .before .before .before .before .before .before .before .before .before .pair-rows in
     let s = c .before .before .before .before .before .before .before .before .before .before .before .before .before .before .before in
     let a = s .args in
-    both-joined nextOf rowPlaces width wide (now (a .room)) (a .a) (a .b) (a .first) (a .second) (r .result .count) (a .count) (r .result .first) (r .result .second) (x .result) (y .result)
+    both-joined (nextOf level) (rowPlaces level) width (wide level) (now (a .room)) (a .a) (a .b) (a .first) (a .second) (r .result .count) (a .count) (r .result .first) (r .result .second) (x .result) (y .result)
     (r .last .1 .1 .0) (x .last .1 .0) (y .last .1 .0) (le-of-lt (r .ensures .0 .0)) (s .pre .0 .1) (r .ensures .0 .1) (r .ensures .0 .2) (r .ensures .1)
     (x .ensures .0) (x .ensures .1) (y .ensures .0) (y .ensures .1)
 

@@ -6,17 +6,24 @@ use denote.Ref.{now}
 use borrow.Author.Needs.{needs}
 use Rattle.steps.proofs.Pairs.{Underway, begun, a-turn}
 use Rattle.mortgage.specs.Row.{width, places}
+use Rattle.mortgage.specs.Kinds.{level}
 use Rattle.mortgage.specs.Month.{nextOf}
-use Rattle.mortgage.proofs.RowLaws.{interest-after, before-last}
+use Rattle.mortgage.proofs.SteadyKinds.{interest-along, no-last-along, level-row, level-next}
 use Rattle.mortgage.proofs.DrawCases.{rowPlaces, wide}
 use Rattle.mortgage.proofs.pairs.pair_rows.Statement.{statement}
 use Rattle.mortgage.proofs.pairs.pair_rows.Tie as tie
 
 abbrev Inv-loop : tie.InvT-loop
-Inv-loop room₀ a b most x-rate y-rate x₀ y₀ x-at₀ y-at₀ k₀ room x y x-at y-at k = Underway nextOf rowPlaces width most room₀ a b x₀ y₀ room x y x-at y-at k
+Inv-loop room₀ a b most x-course y-course x-rate y-rate x₀ y₀ x-at₀ y-at₀ k₀ room x y x-at y-at k = Underway (nextOf level) (rowPlaces level) width most room₀ a b x₀ y₀ room x y x-at y-at k
 
 abbrev μ-loop : tie.MeasureT-loop
-μ-loop room₀ a b most x-rate y-rate x₀ y₀ x-at₀ y-at₀ k₀ room x y x-at y-at k = most - k
+μ-loop room₀ a b most x-course y-course x-rate y-rate x₀ y₀ x-at₀ y-at₀ k₀ room x y x-at y-at k = most - k
+
+level-course-requires : tie.Need-level-course-requires Inv-loop μ-loop
+level-course-requires c κs = search needs
+
+level-course-requires-2 : tie.Need-level-course-requires-2 Inv-loop μ-loop
+level-course-requires-2 c κs = search needs
 
 monthly-rate-requires : tie.Need-monthly-rate-requires Inv-loop μ-loop
 monthly-rate-requires c κs = search needs
@@ -25,7 +32,7 @@ monthly-rate-requires-2 : tie.Need-monthly-rate-requires-2 Inv-loop μ-loop
 monthly-rate-requires-2 c κs = search needs
 
 loop-holds : tie.Need-loop-holds Inv-loop μ-loop
-loop-holds c = let s = c .before .before .before .args in begun nextOf rowPlaces width (s .most) (now (s .room)) (s .a) (s .b) (s .first) (s .second)
+loop-holds c = let s = c .before .before .before .before .before .args in begun (nextOf level) (rowPlaces level) width (s .most) (now (s .room)) (s .a) (s .b) (s .first) (s .second)
 
 add-loop : tie.Need-add-loop Inv-loop μ-loop
 add-loop c = omega arith
@@ -33,53 +40,55 @@ add-loop c = omega arith
 ordinary-month-requires : tie.Need-ordinary-month-requires Inv-loop μ-loop
 ordinary-month-requires c κs =
     let h = c .before .before .before .before .before .before .before .before .before .before .before in
-    let s = h .before .before .before .before in
+    let s = h .before .before .before .before .before .before in
     let i = h .loop .inv in
     let w = c .before .before .before .before .before .before .before .before .before .before .loop-test .taken in
-    (before-last (h .loop .k) (s .args .most) _ _ (i .1) w (s .pre .1 .0), ((rw (h .before .before .monthly-rate .ensures) (interest-after (h .loop .k) (s .args .first) _ (i .1)), refl), (c .before .before .before .before .before .if1 .taken, c .before .before .before .if2 .taken)))
+    let o = h .before .before .before .before .level-course in
+    (no-last-along (o .result) (h .loop .k) (s .args .first) _ (o .ensures) (i .1) (s .args .most) w (s .pre .1 .0), ((rw (h .before .before .monthly-rate .ensures) (interest-along (o .result) (h .loop .k) (s .args .first) _ (o .ensures) (i .1)), refl), (c .before .before .before .before .before .if1 .taken, c .before .before .before .if2 .taken)))
 
 ordinary-month-requires-2 : tie.Need-ordinary-month-requires-2 Inv-loop μ-loop
 ordinary-month-requires-2 c κs =
     let h = c .before .before .before .before .before .before .before .before .before .before .before .before .before .before in
-    let s = h .before .before .before .before in
+    let s = h .before .before .before .before .before .before in
     let i = h .loop .inv in
     let w = c .before .before .before .before .before .before .before .before .before .before .before .before .before .loop-test .taken in
-    (before-last (h .loop .k) (s .args .most) _ _ (i .2) w (s .pre .1 .1), ((rw (h .before .monthly-rate2 .ensures) (interest-after (h .loop .k) (s .args .second) _ (i .2)), refl), (c .before .before .before .before .before .if3 .taken, c .before .before .before .if4 .taken)))
+    let o = h .before .before .before .level-course2 in
+    (no-last-along (o .result) (h .loop .k) (s .args .second) _ (o .ensures) (i .2) (s .args .most) w (s .pre .1 .1), ((rw (h .before .monthly-rate2 .ensures) (interest-along (o .result) (h .loop .k) (s .args .second) _ (o .ensures) (i .2)), refl), (c .before .before .before .before .before .if3 .taken, c .before .before .before .if4 .taken)))
 
 put-row-requires : tie.Need-put-row-requires Inv-loop μ-loop
 put-row-requires c κs =
     let h = c .before .before .before .before .before .before .before .before .before .before .before .before .before .before .before .before .before .before in
-    let s = h .before .before .before .before in
+    let s = h .before .before .before .before .before .before in
     omega (arith, s .pre .0, h .loop .inv, c .before .before .before .before .before .before .before .before .before .before .before .before .before .before .before .before .before .loop-test .taken)
 
 put-row-requires-2 : tie.Need-put-row-requires-2 Inv-loop μ-loop
 put-row-requires-2 c κs =
     let h = c .before .before .before .before .before .before .before .before .before .before .before .before .before .before .before .before .before .before .before .before .before .before in
-    let s = h .before .before .before .before in
+    let s = h .before .before .before .before .before .before in
     omega (arith, s .pre .0, h .loop .inv, c .before .before .before .before .before .before .before .before .before .before .before .before .before .before .before .before .before .before .before .before .before .loop-test .taken, c .before .before .before .put-row .kept .0)
 
 add-x-at : tie.Need-add-x-at Inv-loop μ-loop
 add-x-at c =
     let h = c .before .before .before .before .before .before .before .before .before .before .before .before .before .before .before .before .before .before .before .before .before .before .before .before .before in
-    let s = h .before .before .before .before in
+    let s = h .before .before .before .before .before .before in
     omega (arith, s .pre .0, h .loop .inv, c .before .before .before .before .before .before .before .before .before .before .before .before .before .before .before .before .before .before .before .before .before .before .before .before .loop-test .taken)
 
 add-y-at : tie.Need-add-y-at Inv-loop μ-loop
 add-y-at c =
     let h = c .before .before .before .before .before .before .before .before .before .before .before .before .before .before .before .before .before .before .before .before .before .before .before .before .before in
-    let s = h .before .before .before .before in
+    let s = h .before .before .before .before .before .before in
     omega (arith, s .pre .0, h .loop .inv, c .before .before .before .before .before .before .before .before .before .before .before .before .before .before .before .before .before .before .before .before .before .before .before .before .loop-test .taken)
 
 add-k : tie.Need-add-k Inv-loop μ-loop
 add-k c =
     let h = c .before .before .before .before .before .before .before .before .before .before .before .before .before .before .before .before .before .before .before .before .before .before .before .before .before in
-    let s = h .before .before .before .before in
+    let s = h .before .before .before .before .before .before in
     omega (arith, s .pre .0, h .loop .inv, c .before .before .before .before .before .before .before .before .before .before .before .before .before .before .before .before .before .before .before .before .before .before .before .before .loop-test .taken)
 
 loop-less : tie.Need-loop-less Inv-loop μ-loop
 loop-less c =
     let h = c .before .before .before .before .before .before .before .before .before .before .before .before .before .before .before .before .before .before .before .before .before .before .before .before .before in
-    let s = h .before .before .before .before in
+    let s = h .before .before .before .before .before .before in
     omega (arith, s .pre .0, h .loop .inv, c .before .before .before .before .before .before .before .before .before .before .before .before .before .before .before .before .before .before .before .before .before .before .before .before .loop-test .taken)
 
 loop-again : tie.Need-loop-again Inv-loop μ-loop
@@ -89,40 +98,46 @@ loop-again c =
     let y = c .before .before .before .before .before .before .before .before .before .before .ordinary-month2 in
     let x = c .before .before .before .before .before .before .before .before .before .before .before .before .before .ordinary-month in
     let h = c .before .before .before .before .before .before .before .before .before .before .before .before .before .before .before .before .before .before .before .before .before .before .before .before .before in
-    let s = h .before .before .before .before in
-    a-turn nextOf rowPlaces width wide (now (s .args .room)) (s .args .a) (s .args .b) (s .args .first) (s .args .second) (s .args .most) (h .loop .room) (first .last .0) (second .last .0)
+    let s = h .before .before .before .before .before .before in
+    let xc = h .before .before .before .before .level-course in
+    let yc = h .before .before .before .level-course2 in
+    let i = h .loop .inv in
+    a-turn (nextOf level) (rowPlaces level) width (wide level) (now (s .args .room)) (s .args .a) (s .args .b) (s .args .first) (s .args .second) (s .args .most) (h .loop .room) (first .last .0) (second .last .0)
     (h .loop .x) (h .loop .y) (x .result .next) (y .result .next) (h .loop .x-at) (h .loop .y-at) (h .loop .k) (places (x .result .row)) (places (y .result .row))
-    (s .pre .0 .1) (h .loop .inv) (c .before .before .before .before .before .before .before .before .before .before .before .before .before .before .before .before .before .before .before .before .before .before .before .before .loop-test .taken) (ap places (x .ensures .0)) (x .ensures .1) (ap places (y .ensures .0)) (y .ensures .1) (first .ensures) (second .ensures) (second .kept .0 ∙ first .kept .0)
+    (s .pre .0 .1) (h .loop .inv) (c .before .before .before .before .before .before .before .before .before .before .before .before .before .before .before .before .before .before .before .before .before .before .before .before .loop-test .taken) 
+    (ap places (x .ensures .0 ∙ level-row (xc .result) (h .loop .k) (s .args .first) (h .loop .x) (xc .ensures) (i .1))) (x .ensures .1 ∙ level-next (xc .result) (h .loop .k) (s .args .first) (h .loop .x) (xc .ensures) (i .1))
+    (ap places (y .ensures .0 ∙ level-row (yc .result) (h .loop .k) (s .args .second) (h .loop .y) (yc .ensures) (i .2))) (y .ensures .1 ∙ level-next (yc .result) (h .loop .k) (s .args .second) (h .loop .y) (yc .ensures) (i .2))
+    (first .ensures) (second .ensures) (second .kept .0 ∙ first .kept .0)
 
 same-length : tie.Need-same-length Inv-loop μ-loop
 same-length c = c .before .loop .inv .6
 
 returns : tie.Need-returns Inv-loop μ-loop
-returns c = let h = c .before in let i = h .loop .inv in ((omega (arith, i .5, h .before .before .before .before .pre .0), i .1, i .2), i .0)
+returns c = let h = c .before in let i = h .loop .inv in ((omega (arith, i .5, h .before .before .before .before .before .before .pre .0), i .1, i .2), i .0)
 
 same-length-2 : tie.Need-same-length-2 Inv-loop μ-loop
 same-length-2 c = c .before .before .before .before .before .before .loop .inv .6
 
 returns-2 : tie.Need-returns-2 Inv-loop μ-loop
-returns-2 c = let h = c .before .before .before .before .before .before in let i = h .loop .inv in ((omega (arith, i .5, h .before .before .before .before .pre .0), i .1, i .2), i .0)
+returns-2 c = let h = c .before .before .before .before .before .before in let i = h .loop .inv in ((omega (arith, i .5, h .before .before .before .before .before .before .pre .0), i .1, i .2), i .0)
 
 same-length-3 : tie.Need-same-length-3 Inv-loop μ-loop
 same-length-3 c = c .before .before .before .before .before .before .before .before .loop .inv .6
 
 returns-3 : tie.Need-returns-3 Inv-loop μ-loop
-returns-3 c = let h = c .before .before .before .before .before .before .before .before in let i = h .loop .inv in ((omega (arith, i .5, h .before .before .before .before .pre .0), i .1, i .2), i .0)
+returns-3 c = let h = c .before .before .before .before .before .before .before .before in let i = h .loop .inv in ((omega (arith, i .5, h .before .before .before .before .before .before .pre .0), i .1, i .2), i .0)
 
 same-length-4 : tie.Need-same-length-4 Inv-loop μ-loop
 same-length-4 c = c .before .before .before .before .before .before .before .before .before .loop .inv .6
 
 returns-4 : tie.Need-returns-4 Inv-loop μ-loop
-returns-4 c = let h = c .before .before .before .before .before .before .before .before .before in let i = h .loop .inv in ((omega (arith, i .5, h .before .before .before .before .pre .0), i .1, i .2), i .0)
+returns-4 c = let h = c .before .before .before .before .before .before .before .before .before in let i = h .loop .inv in ((omega (arith, i .5, h .before .before .before .before .before .before .pre .0), i .1, i .2), i .0)
 
 same-length-5 : tie.Need-same-length-5 Inv-loop μ-loop
 same-length-5 c = c .before .before .before .before .before .before .before .before .before .before .before .loop .inv .6
 
 returns-5 : tie.Need-returns-5 Inv-loop μ-loop
-returns-5 c = let h = c .before .before .before .before .before .before .before .before .before .before .before in let i = h .loop .inv in ((omega (arith, i .5, h .before .before .before .before .pre .0), i .1, i .2), i .0)
+returns-5 c = let h = c .before .before .before .before .before .before .before .before .before .before .before in let i = h .loop .inv in ((omega (arith, i .5, h .before .before .before .before .before .before .pre .0), i .1, i .2), i .0)
 
 pub pair-rows-spec : {M : Type 1} → statement M
 pair-rows-spec =
@@ -130,6 +145,8 @@ pair-rows-spec =
     (tie.spec
     Inv-loop
     μ-loop
+    level-course-requires
+    level-course-requires-2
     monthly-rate-requires
     monthly-rate-requires-2
     loop-holds
