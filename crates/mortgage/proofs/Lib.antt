@@ -22,6 +22,8 @@ pub mod Summing
 pub mod Worked
 pub mod YearsWorked
 pub mod InterestOnly
+pub mod Balloon
+pub mod Adjustable
 pub mod KindsWorked
 pub mod RowColumns
 pub mod PayingDown
