@@ -2,8 +2,8 @@
 -- afresh where a later year begins and stays in every other month. Assumes nothing.
 use mathlib.Core.Path.{_≡_, refl, sym, ap, _∙_, subst}
 use mathlib.Core.Bool.{Bool, true, false, not, _&&_, _||_, cond}
-use mathlib.Core.List.{List, [], _∷_, _++_, map}
-use Prim.Native.Nat.{ℕ, zero, suc, _+_, _-_, _/_, _%_, _≤_, _<_}
+use mathlib.Core.List.{List, [], _∷_, map}
+use Prim.Native.Nat.{ℕ, zero, suc, _-_, _/_, _%_, _≤_, _<_}
 use native.Mathlib.Omega.{arith}
 use lib.Dec.{T, ltb, eqb}
 use lib.ListN.{length, getD, take}
@@ -11,7 +11,7 @@ use lib.Ieee.{Float, nan, binary64, add, sub, lt, le, fits, ofBits}
 use lib.Ieee.Bits.{is-true}
 use lib.Ieee.Fits.{cond-fits, add-fits, sub-fits}
 use lib.Ieee.Scale.{finite}
-use borrow.Author.Tests.{ltb-true, ltb-false, lt-ltb, eqb-true, eqb-false, eq-eqb, not-false}
+use borrow.Author.Tests.{ltb-true, lt-ltb, eqb-true, eq-eqb, not-false}
 use Rattle.numbers.proofs.Amounts.{passes, amount}
 use Rattle.numbers.proofs.Order.{amount-by-tests}
 use Rattle.numbers.proofs.Comparing.{clash, finite-real, first-real, second-real, at-or-below-real, lt-le, le-trans, le-itself, compared-itself, finite-within}
@@ -68,15 +68,14 @@ module _ (low last high : Float) (last-finite : finite last ≡ true) (falls : l
     where
       go : (p : Bool) → lt most x ≡ p → Between low high (cond p most x) × (le (cond p most x) most ≡ true)
       go true u =
-          let most-finite = finite-within last most x last-finite (b .no-infinity) under (lt-le most x u) in
-          (
+          let most-finite = finite-within last most x last-finite (b .no-infinity) under (lt-le most x u) in (
             record { above-low = le-trans low last most falls under; below-high = le-trans most x high (lt-le most x u) (b .below-high); no-infinity = most-finite },
             le-itself most most-finite,
           )
       go false u = (b, at-or-below-real x most (finite-real x (b .no-infinity)) (second-real last most under) u)
 
 -- ---- one year's rate
--- numbers that line 16 has nothing against
+-- the numbers of an adjustment that line 16 has nothing against
 pub record Sound (a : Adjustment) : Type 0 where
   pub initial-finite : T (finite (a .initial))
   pub initial-fits : T (fits binary64 (a .initial))
@@ -128,9 +127,14 @@ module _ (a : Adjustment) (last index : Float) (s : Sound a) (year : Stands a la
   pub next-stands : T (fits binary64 index) → Stands a (nextRate a last index)
   next-stands t = record { rate-finite = a-rate-held .is-finite; rate-fits = next-fits t; rate-under = a-rate-held .under-top }
 
--- the difference of two years' rates may be above the cap: 0.05 and 0.02
-pub may-pass-the-cap :
-  lt (ofBits binary64 0x3f94_7ae1_47ae_147b) (sub binary64 (add binary64 (ofBits binary64 0x3fa9_9999_9999_999a) (ofBits binary64 0x3f94_7ae1_47ae_147b)) (ofBits binary64 0x3fa9_9999_9999_999a)) ≡ true
+-- what a year's rate is above the last year's may be more than the cap: 0.05, with a cap of 0.02
+abbrev fivePercent : Float
+fivePercent = ofBits binary64 0x3fa9_9999_9999_999a
+
+abbrev twoPercent : Float
+twoPercent = ofBits binary64 0x3f94_7ae1_47ae_147b
+
+pub may-pass-the-cap : lt twoPercent (sub binary64 (add binary64 fivePercent twoPercent) fivePercent) ≡ true
 unfolding lt sub add ofBits
 may-pass-the-cap = refl
 
@@ -179,7 +183,7 @@ module _ (a : Adjustment) (index : List Float) (term : ℕ) (fit : Fits (adjusta
   entry-finite y h = passes (not-false (finite (getD index y nan)) (entry-clear (laterYears term) index (fits-listed (adjustable a index) term fit) (clears .1) y h))
 
 -- ---- every year's rate
--- the numbers of a loan that fit
+-- the numbers that such a loan is lent fit
 pub record Lent (a : Adjustment) (index : List Float) : Type 0 where
   pub initial-held : T (fits binary64 (a .initial))
   pub cap-held : T (fits binary64 (a .cap))
@@ -187,19 +191,19 @@ pub record Lent (a : Adjustment) (index : List Float) : Type 0 where
   pub entries-held : (i : ℕ) → i < length index → T (fits binary64 (getD index i nan))
 
 module _ (a : Adjustment) (index : List Float) (term : ℕ) (lent : Lent a index) (fit : Fits (adjustable a index) term) where
-  s : Sound a
-  s = sound a index term fit (lent .initial-held) (lent .cap-held) (lent .lifetime-held)
+  is-sound : Sound a
+  is-sound = sound a index term fit (lent .initial-held) (lent .cap-held) (lent .lifetime-held)
 
   pub every-rate-stands : (y : ℕ) → y ≤ laterYears term → Stands a (rateOfYear a index y)
   unfolding rateOfYear
-  every-rate-stands zero h = first-stands a s
+  every-rate-stands zero h = first-stands a is-sound
   every-rate-stands (suc y) h =
-      next-stands a (rateOfYear a index y) (getD index y nan) s (every-rate-stands y (omega arith)) (entry-finite a index term fit y h)
+      next-stands a (rateOfYear a index y) (getD index y nan) is-sound (every-rate-stands y (omega arith)) (entry-finite a index term fit y h)
       (lent .entries-held y (omega (arith, fits-listed (adjustable a index) term fit)))
 
   pub every-rate-held : (y : ℕ) → y < laterYears term → HeldByCaps a (rateOfYear a index y) (rateOfYear a index (suc y))
   unfolding rateOfYear
-  every-rate-held y h = a-rate-held a (rateOfYear a index y) (getD index y nan) s (every-rate-stands y (omega arith)) (entry-finite a index term fit y h)
+  every-rate-held y h = a-rate-held a (rateOfYear a index y) (getD index y nan) is-sound (every-rate-stands y (omega arith)) (entry-finite a index term fit y h)
 
 -- ---- a month that begins a later year, and one that does not
 pub begun : (n : ℕ) → 0 < n → n % 12 ≡ 0 → beginsLaterYear n ≡ true
