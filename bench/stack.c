@@ -31,9 +31,10 @@ static uint32_t counts[SENYOLANDA_LOAN_COUNTS], term, written, owed, count, code
 static double loan_amounts[SENYOLANDA_LOAN_AMOUNTS];
 static uint32_t year_counts[SENYOLANDA_LOAN_COUNTS];
 static double year_amounts[SENYOLANDA_LOAN_AMOUNTS], years[YEARS * SENYOLANDA_YEAR_PLACES], line[SENYOLANDA_YEAR_PLACES];
-static double index_rates[YEARS - 1], only_amounts[SENYOLANDA_LOAN_AMOUNTS], balloon_amounts[SENYOLANDA_LOAN_AMOUNTS];
-static double adjustable_amounts[SENYOLANDA_LOAN_AMOUNTS];
-static uint32_t only_counts[SENYOLANDA_LOAN_COUNTS], balloon_counts[SENYOLANDA_LOAN_COUNTS], adjustable_counts[SENYOLANDA_LOAN_COUNTS];
+static uint32_t only_counts[SENYOLANDA_LOAN_COUNTS], balloon_counts[SENYOLANDA_LOAN_COUNTS];
+static double only_amounts[SENYOLANDA_LOAN_AMOUNTS], balloon_amounts[SENYOLANDA_LOAN_AMOUNTS];
+static uint32_t adjustable_counts[SENYOLANDA_LOAN_COUNTS];
+static double adjustable_amounts[SENYOLANDA_LOAN_AMOUNTS], index_rates[YEARS - 1];
 static uint8_t dated_swap[SENYOLANDA_DATED_SWAP_BYTES];
 static uint32_t first[SENYOLANDA_DATE_NUMBERS], second[SENYOLANDA_DATE_NUMBERS];
 static uint8_t book[BOOK * SENYOLANDA_LOAN_BYTES];

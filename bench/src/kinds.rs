@@ -47,7 +47,11 @@ fn opened_by(open: impl Fn(&Record, &mut InHand) -> Outcome, months: usize) -> I
 }
 
 /// A draw of so many rows from a loan in hand; a draw that owes more is none.
-fn drawing(hand: InHand, months: usize, draw: impl Fn(&mut InHand, &mut [f64], &mut u32, &mut u32) -> Outcome + 'static) -> Box<dyn Side> {
+fn drawing(
+    hand: InHand,
+    months: usize,
+    draw: impl Fn(&mut InHand, &mut [f64], &mut u32, &mut u32) -> Outcome + 'static,
+) -> Box<dyn Side> {
     lent(months * ROW_PLACES, move |room| {
         let (mut hand, mut written, mut owed) = (*unseen(&hand), 0, 0);
         let outcome = draw(&mut hand, room, &mut written, &mut owed);
@@ -58,7 +62,10 @@ fn drawing(hand: InHand, months: usize, draw: impl Fn(&mut InHand, &mut [f64], &
 /// A third of the months of interest alone; behind them stand the rows of the level loan of the rest.
 pub fn interest_only(months: usize) -> Job {
     let only = months / 3;
-    let hand = opened_by(|record, hand| called!(senyolanda_open_interest_only, [record], only as u32, &mut hand.0, &mut hand.1), months);
+    let hand = opened_by(
+        |record, hand| called!(senyolanda_open_interest_only, [record], only as u32, &mut hand.0, &mut hand.1),
+        months,
+    );
     let interest = PRINCIPAL * (RATE / 12.0);
     let mut rows: Vec<f64> = (1..=only).flat_map(|month| [month as f64, interest, 0.0, interest, PRINCIPAL]).collect();
     for row in plain_rows(opened(&record_of(PRINCIPAL, RATE, (months - only) as u32)), months - only).0.chunks_exact(ROW_PLACES) {

@@ -225,7 +225,8 @@ static void work_balloon_row_out(struct senyolanda_loan *loan, double row[WIDTH]
     work_row_out(loan, row, desk.balloon);
 }
 
-/* "The index, first held within the adjustment cap of the last year's rate, then not above the initial rate plus the lifetime cap." */
+/* "The index, first held within the adjustment cap of the last year's rate, then not above the initial rate plus the lifetime
+   cap." */
 double adjusted(double last, uint32_t done) {
     double low = last - desk.cap, high = last + desk.cap, top = desk.initial + desk.lifetime, rate = desk.index[done / 12 - 1];
     if (rate < low) rate = low;
@@ -254,6 +255,6 @@ const struct kind balloon = {
     work_balloon_row_out,
 };
 const struct kind adjustable = {
-    &desk.adjustable, call_draw_adjustable, call_draw_adjustable_with_years, call_next_adjustable_row, call_look_up_adjustable_year,
-    end_of_adjustable, work_adjustable_row_out,
+    &desk.adjustable, call_draw_adjustable, call_draw_adjustable_with_years, call_next_adjustable_row,
+    call_look_up_adjustable_year, end_of_adjustable, work_adjustable_row_out,
 };

@@ -21,16 +21,16 @@ senyolanda_result call_draw_adjustable(void);
 senyolanda_result call_draw_adjustable_with_years(void);
 senyolanda_result call_next_adjustable_row(void);
 
-/* The desk's loan, as one of more than a month meets an opening's lines 1, 2 and 11; and a record's refusal, 16 where its term is not
-   longer than so many months. */
+/* The desk's loan, as one of more than a month meets an opening's lines 1, 2 and 11; and a record's refusal, 16 where its term is
+   not longer than so many months. */
 extern const struct cause longer_loan_causes[];
 senyolanda_result deserved_beyond(const struct record *record, uint32_t months);
 
 /* A year of the desk's adjustable loan, looked up as a level loan's. */
 senyolanda_result call_look_up_adjustable_year(void);
 
-/* A kind: where its loan's term and rate stand on the desk, its calls, the month that ends the desk's loan, and the row of a loan in
-   hand, which moves on past it. */
+/* A kind: where its loan's term and rate stand on the desk, its calls, the month that ends the desk's loan, and the row of a loan
+   in hand, which moves on past it. */
 struct kind {
     struct loan_parts *terms;
     call *draw, *draw_with_years, *next_row, *look_up_year;

@@ -1,6 +1,6 @@
 /*
- * Adjustable loans: the rate of each year by its index and the caps, the payment that it works out, openings, draws into every room,
- * with lines and row by row; held to the rows of documents 01 and 02 and to figures worked out by hand.
+ * Adjustable loans: the rate of each year by its index and the caps, the payment that it works out, openings, draws into every
+ * room, with lines and row by row; held to the rows of documents 01 and 02 and to figures worked out by hand.
  */
 #include "damaged.h"
 #include "ways.h"

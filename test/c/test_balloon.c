@@ -165,7 +165,7 @@ static void lookup_past_the_lines(void) {
 
 /* ---- beside level loans ---- */
 
-/* A balloon in the term's last month is the level loan, its lines too, to the bit; an earlier one has its rows but for the last. */
+/* A balloon in the term's last month is the level loan, with its lines, to the bit; an earlier one has its rows but the last. */
 static void is_level_before(double principal, double rate, uint32_t term, uint32_t month) {
     const struct level_loan *full = draw_level(principal, rate, term);
     size_t rows = month == term ? month : month - 1;

@@ -18,7 +18,8 @@ static struct record loan_of(double principal, double rate, uint32_t term) {
     return record_of_loan(&parts);
 }
 
-static void is_loan(const struct senyolanda_loan *loan, uint32_t term, uint32_t done, double rate, double payment, double balance) {
+static void is_loan(
+    const struct senyolanda_loan *loan, uint32_t term, uint32_t done, double rate, double payment, double balance) {
     CHECK(loan->term == term && loan->done == done);
     IS(loan->rate, rate);
     IS(loan->payment, payment);
@@ -108,7 +109,7 @@ static void balloon_loans(void) {
     CHECK(senyolanda_balloon_open(record.bytes, record.length, 13, &kept) == 0);
     is_loan(&kept.loan, 14, 0, 0, 100, 1400);
     CHECK(kept.month == 13);
-    CHECK(senyolanda_balloon_draw_with_years(&kept, room, 12 * WIDTH, years, 2 * YEAR_WIDTH - 1, &written, &owed) == refusal(3, 0));
+    CHECK(senyolanda_balloon_draw_with_years(&kept, room, WIDTH, years, 2 * YEAR_WIDTH - 1, &written, &owed) == refusal(3, 0));
     CHECK(senyolanda_balloon_draw_with_years(&kept, room, 12 * WIDTH, years, 2 * YEAR_WIDTH, &written, &owed) == 0);
     CHECK(counted(12, 1));
     CHECK(senyolanda_balloon_year(&kept, years, 2 * YEAR_WIDTH, 1, &line) == 0);

@@ -9,8 +9,8 @@ enum { MOST_ROWS = SENYOLANDA_MOST_MONTHS };
 
 static const struct kind *drawn;
 
-/* The desk before the first draw; the rows by the kind's rule, that of month k at the index k - 1; the loan after so many months; and
-   the lines after all of them. */
+/* The desk before the first draw; the rows by the kind's rule, that of month k at the index k - 1; the loan after so many months;
+   and the lines after all of them. */
 static struct desk untouched;
 static double rows[MOST_ROWS][WIDTH];
 static struct senyolanda_loan after[MOST_ROWS + 1];
@@ -18,11 +18,10 @@ static double lines[LINES * YEAR_WIDTH];
 
 void describe_hand(void) {
     const struct loan_parts *terms = drawn != NULL ? drawn->terms : &desk.loan;
-    fprintf(stderr, ": term %u, rate %.17g, payment %.17g, done %u, balance %.17g, %zu places, %zu year places, only %u, balloon %u",
-        (unsigned)terms->term, terms->rate, desk.payment, (unsigned)desk.done, desk.balance, desk.places, desk.year_places,
-        (unsigned)desk.only, (unsigned)desk.balloon);
-    fprintf(stderr, ", initial %.17g, cap %.17g, lifetime %.17g, %zu entries", desk.initial, desk.cap, desk.lifetime,
-        desk.index_count);
+    fprintf(stderr, ": term %u, rate %.17g, payment %.17g, done %u, balance %.17g, %zu places, %zu year places",
+        (unsigned)terms->term, terms->rate, desk.payment, (unsigned)desk.done, desk.balance, desk.places, desk.year_places);
+    fprintf(stderr, ", only %u, balloon %u, initial %.17g, cap %.17g, lifetime %.17g, %zu entries", (unsigned)desk.only,
+        (unsigned)desk.balloon, desk.initial, desk.cap, desk.lifetime, desk.index_count);
 }
 
 static uint32_t started_years(uint32_t months) {

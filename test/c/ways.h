@@ -7,7 +7,7 @@
 
 #include "kinds.h"
 
-/* The desk's loan of the kind in hand, nobody need have opened it; room for all its rows, and just the lines that its term wants. */
+/* The desk's loan of the kind in hand, which nobody need have opened; room for all its rows, and just the lines that it wants. */
 void set_hand(const struct kind *kind, double balance, double rate, double payment, uint32_t term, uint32_t done);
 
 /* Draws the desk's loan whole, in portions of each of so many sizes, and mixed ones, with draws between that are refused. */
