@@ -31,6 +31,10 @@ static uint32_t counts[SENYOLANDA_LOAN_COUNTS], term, written, owed, count, code
 static double loan_amounts[SENYOLANDA_LOAN_AMOUNTS];
 static uint32_t year_counts[SENYOLANDA_LOAN_COUNTS];
 static double year_amounts[SENYOLANDA_LOAN_AMOUNTS], years[YEARS * SENYOLANDA_YEAR_PLACES], line[SENYOLANDA_YEAR_PLACES];
+static uint32_t only_counts[SENYOLANDA_LOAN_COUNTS], balloon_counts[SENYOLANDA_LOAN_COUNTS];
+static double only_amounts[SENYOLANDA_LOAN_AMOUNTS], balloon_amounts[SENYOLANDA_LOAN_AMOUNTS];
+static uint32_t adjustable_counts[SENYOLANDA_LOAN_COUNTS];
+static double adjustable_amounts[SENYOLANDA_LOAN_AMOUNTS], index_rates[YEARS - 1];
 static uint8_t dated_swap[SENYOLANDA_DATED_SWAP_BYTES];
 static uint32_t first[SENYOLANDA_DATE_NUMBERS], second[SENYOLANDA_DATE_NUMBERS];
 static uint8_t book[BOOK * SENYOLANDA_LOAN_BYTES];
@@ -38,8 +42,9 @@ static double book_room[BOOK * MONTHS * SENYOLANDA_ROW_PLACES];
 static uint32_t answers[BOOK];
 
 #define OF(array) (array), sizeof(array) / sizeof *(array)
+#define ADJUSTMENT 0.06, 0.02, 0.05, OF(index_rates)
 
-/* Whether every record could be written, and the loan opened that is drawn with lines. */
+/* Whether every record could be written, and the loans opened that are drawn with lines. */
 static int set_out(void) {
     senyolanda_write_loan(250000.0, 0.06, MONTHS, loan);
     senyolanda_write_loan(250000.0, 0.05, MONTHS, new_loan);
@@ -56,10 +61,14 @@ static int set_out(void) {
         dated[2 * i + 1] = amounts[i] = 10.0;
     }
     for (int i = 0; i < MONTHS; i++) history[i] = 0.005;
+    for (int i = 0; i < YEARS - 1; i++) index_rates[i] = 0.03 + 0.01 * (i % 5);
     return senyolanda_write_bond(1000.0, 0.05, 100.0, SENYOLANDA_MONTHLY, bond) == 0
         && senyolanda_write_swap(1e6, 0.04, 100.0, 12, SENYOLANDA_ACTUAL_360, swap) == 0
         && senyolanda_write_dated_swap(1e6, 0.04, 0.0, 12, 2000, 1, 31, 2100, 1, 31, SENYOLANDA_THIRTY_360, dated_swap) == 0
-        && senyolanda_open(loan, sizeof loan, year_counts, year_amounts) == 0;
+        && senyolanda_open(loan, sizeof loan, year_counts, year_amounts) == 0
+        && senyolanda_open_interest_only(loan, sizeof loan, MONTHS / 2, only_counts, only_amounts) == 0
+        && senyolanda_open_balloon(loan, sizeof loan, MONTHS, balloon_counts, balloon_amounts) == 0
+        && senyolanda_open_adjustable(loan, sizeof loan, ADJUSTMENT, adjustable_counts, adjustable_amounts) == 0;
 }
 
 /* ---- every function, with its arguments ---- */
@@ -67,6 +76,9 @@ static int set_out(void) {
 #define LOAN OF(loan)
 #define HAND counts, loan_amounts
 #define YEAR_HAND year_counts, year_amounts
+#define ONLY_HAND only_counts, only_amounts
+#define BALLOON_HAND balloon_counts, balloon_amounts
+#define ADJUSTABLE_HAND adjustable_counts, adjustable_amounts
 #define POOL OF(pool), SENYOLANDA_PSA, 1.5, OF(history)
 #define BOND OF(bond)
 #define CURVE OF(times), OF(rates)
@@ -103,6 +115,21 @@ static int set_out(void) {
     CALL(draw, (HAND, OF(room), &written, &owed))                                                       \
     CALL(draw_with_years, (YEAR_HAND, OF(room), OF(years), &written, &owed))                            \
     CALL(look_up_year, (YEAR_HAND, OF(years), YEARS, line))                                             \
+    CALL(open_interest_only, (LOAN, MONTHS / 2, HAND))                                                  \
+    CALL(open_interest_only_with_payment, (LOAN, MONTHS / 2, 1500.0, HAND))                             \
+    CALL(next_interest_only_row, (MONTHS / 2, HAND, row, &written, &owed))                              \
+    CALL(draw_interest_only, (MONTHS / 2, HAND, OF(room), &written, &owed))                             \
+    CALL(draw_interest_only_with_years, (MONTHS / 2, ONLY_HAND, OF(room), OF(years), &written, &owed))  \
+    CALL(open_balloon, (LOAN, MONTHS, HAND))                                                            \
+    CALL(open_balloon_with_payment, (LOAN, MONTHS, 1500.0, HAND))                                       \
+    CALL(next_balloon_row, (MONTHS, HAND, row, &written, &owed))                                        \
+    CALL(draw_balloon, (MONTHS, HAND, OF(room), &written, &owed))                                       \
+    CALL(draw_balloon_with_years, (MONTHS, BALLOON_HAND, OF(room), OF(years), &written, &owed))         \
+    CALL(look_up_balloon_year, (MONTHS, YEAR_HAND, OF(years), YEARS, line))                             \
+    CALL(open_adjustable, (LOAN, ADJUSTMENT, HAND))                                                     \
+    CALL(next_adjustable_row, (ADJUSTMENT, HAND, row, &written, &owed))                                 \
+    CALL(draw_adjustable, (ADJUSTMENT, HAND, OF(room), &written, &owed))                                \
+    CALL(draw_adjustable_with_years, (ADJUSTMENT, ADJUSTABLE_HAND, OF(room), OF(years), &written, &owed)) \
     CALL(draw_book, (OF(book), OF(answers), OF(book_room), &count, &written, &owed))                    \
     CALL(total_interest, (LOAN, &x))                                                                    \
     CALL(remaining_balance, (LOAN, MONTHS, &x))                                                         \

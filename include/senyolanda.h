@@ -56,7 +56,7 @@
  * loan's record and drawn in portions, with lines or without. What a kind has of its own (months, month, or rate and caps) is
  * handed to the opening and to every draw, the same each time; the kind's struct keeps it for you. The index list is lent at the
  * opening and again at each draw, year 2's rate first: every time the entries of all later started years of the term are read,
- * and more entries are not. A loan in hand of one kind is none of another: draw it by its own kind's functions.
+ * and what stands behind them is not. A loan in hand of one kind is none of another: draw it by its own kind's functions.
  *
  * THREADS. Nothing is kept between calls and nothing is shared: call from as many threads as you like, as long as no two of them
  * write to the same memory. There is no heap, no file, no lock, no errno and no setting; a call needs less than 64 kilobytes of
@@ -222,7 +222,7 @@ static inline const char *senyolanda_refusal_text(uint32_t number) {
     case SENYOLANDA_NO_BREAK_EVEN: return "the new loan does not pay its cost back within its term";
     case SENYOLANDA_NO_ROW_DRAWN: return "no row of the year is drawn";
     case SENYOLANDA_BAD_DATE: return "there is no such date, or the second date is not after the first";
-    case SENYOLANDA_BAD_KIND: return "the interest-only months, balloon month, initial rate, caps or index list do not fit the loan";
+    case SENYOLANDA_BAD_KIND: return "the interest-only months, balloon month, initial rate, caps or index list do not fit";
     default: return "no such refusal";
     }
 }
@@ -625,8 +625,8 @@ senyolanda_result senyolanda_open_interest_only_with_payment(
     uint32_t counts[SENYOLANDA_FILLED SENYOLANDA_LOAN_COUNTS],
     double amounts[SENYOLANDA_FILLED SENYOLANDA_LOAN_AMOUNTS]) SENYOLANDA_CHECKED;
 
-/* Draws an interest-only loan as senyolanda_draw does: in the first so many months the payment is the interest, the principal 0 and
-   the balance stays. Refuses 2, 3, 10, 16. */
+/* Draws an interest-only loan as senyolanda_draw does: in the first so many months the payment is the interest, the principal 0,
+   and the balance stays. Refuses 2, 3, 10, 16. */
 senyolanda_result senyolanda_draw_interest_only(
     uint32_t months,
     uint32_t counts[SENYOLANDA_FILLED SENYOLANDA_LOAN_COUNTS],
@@ -664,8 +664,8 @@ senyolanda_result senyolanda_open_balloon_with_payment(
     uint32_t counts[SENYOLANDA_FILLED SENYOLANDA_LOAN_COUNTS],
     double amounts[SENYOLANDA_FILLED SENYOLANDA_LOAN_AMOUNTS]) SENYOLANDA_CHECKED;
 
-/* Draws a balloon loan as senyolanda_draw does, with the named month for the term's last: it repays the balance, no row comes after
-   it, and the rows owed are those up to it. More months done than it counts are 10. Refuses 2, 3, 10, 16. */
+/* Draws a balloon loan as senyolanda_draw does, with the named month for the term's last: it repays the balance, no row comes
+   after it, and the rows owed are those up to it. More months done than it counts are 10. Refuses 2, 3, 10, 16. */
 senyolanda_result senyolanda_draw_balloon(
     uint32_t month,
     uint32_t counts[SENYOLANDA_FILLED SENYOLANDA_LOAN_COUNTS],
@@ -699,16 +699,17 @@ senyolanda_result senyolanda_look_up_balloon_year(
     const double *years, size_t year_places, uint32_t year,
     double line[SENYOLANDA_FILLED SENYOLANDA_YEAR_PLACES]) SENYOLANDA_CHECKED;
 
-/* Opens an adjustable loan: year 1 runs at the initial rate, and the record's rate is not read. Each later year's rate is its entry
-   of the index list, no further than cap from the rate of the year before, then not above initial plus lifetime; its payment is
-   worked out for the balance and the months left. An entry that is not finite stands at its index. Refuses 1, 2, 11, 16. */
+/* Opens an adjustable loan: year 1 runs at the initial rate, and the record's rate is not read. Each later year's rate is its
+   entry of the index list, no further than cap from the rate of the year before, then not above initial plus lifetime; its payment
+   is worked out for the balance and the months left. SENYOLANDA_STARTED_YEARS(term) - 1 entries are read, and fewer are 16 at 0; an
+   entry that is not finite stands at its index. Refuses 1, 2, 11, 16. */
 senyolanda_result senyolanda_open_adjustable(
     const uint8_t *record, size_t length,
     double initial, double cap, double lifetime, const double *index, size_t index_count,
     uint32_t counts[SENYOLANDA_FILLED SENYOLANDA_LOAN_COUNTS],
     double amounts[SENYOLANDA_FILLED SENYOLANDA_LOAN_AMOUNTS]) SENYOLANDA_CHECKED;
 
-/* Draws an adjustable loan as senyolanda_draw does; the row that begins a later year moves the loan's rate and payment on, and they
+/* Draws an adjustable loan as senyolanda_draw does; the row that begins a later year moves the loan's rate and payment on, which
    are handed back with its months done and its balance. Refuses 2, 3, 10, 16. */
 senyolanda_result senyolanda_draw_adjustable(
     double initial, double cap, double lifetime, const double *index, size_t index_count,

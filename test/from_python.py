@@ -1,8 +1,8 @@
 #!/usr/bin/env python3
 """from_python.py LIBRARY: the shared library as a Python program calls it, by ctypes. Loans are opened, drawn in portions, with year-end
-totals too, listed and held to document 01's figures; curves are looked up one time by one and as a list, and held to a walk from knot to
-knot; dates are held to Python's own calendar, and dated swaps to sums over their periods; refusals give number and place and leave lent
-memory alone."""
+totals too, listed and held to document 01's figures; interest-only, balloon and adjustable loans are held to rows worked out here; curves
+are looked up one time by one and as a list, and held to a walk from knot to knot; dates are held to Python's own calendar, and dated swaps
+to sums over their periods; refusals give number and place and leave lent memory alone."""
 import calendar
 import ctypes
 import datetime
@@ -47,6 +47,16 @@ open_with_payment = function("senyolanda_open_with_payment", *BYTES, c_double, C
 draw = function("senyolanda_draw", COUNT, NUMBER, *NUMBERS, COUNT, COUNT)
 draw_with_years = function("senyolanda_draw_with_years", COUNT, NUMBER, *NUMBERS, *NUMBERS, COUNT, COUNT)
 look_up_year = function("senyolanda_look_up_year", COUNT, NUMBER, *NUMBERS, c_uint32, NUMBER)
+look_up_balloon_year = function("senyolanda_look_up_balloon_year", c_uint32, COUNT, NUMBER, *NUMBERS, c_uint32, NUMBER)
+KINDS = {kind: (
+    function(f"senyolanda_open_{kind}", *BYTES, *own, COUNT, NUMBER),
+    function(f"senyolanda_draw_{kind}", *own, COUNT, NUMBER, *NUMBERS, COUNT, COUNT),
+    function(f"senyolanda_draw_{kind}_with_years", *own, COUNT, NUMBER, *NUMBERS, *NUMBERS, COUNT, COUNT),
+    function(f"senyolanda_next_{kind}_row", *own, COUNT, NUMBER, POINTER(c_uint8), COUNT, COUNT),
+) for kind, own in {
+    "interest_only": [c_uint32], "balloon": [c_uint32], "adjustable": [c_double, c_double, c_double, *NUMBERS]}.items()}
+OPEN_WITH_PAYMENT = {kind: function(f"senyolanda_open_{kind}_with_payment", *BYTES, c_uint32, c_double, COUNT, NUMBER)
+                     for kind in ("interest_only", "balloon")}
 CURVE = *NUMBERS, *NUMBERS
 yield_at = function("senyolanda_linear_interpolate", *CURVE, c_double, NUMBER)
 yield_at_each = function("senyolanda_linear_interpolate_each", *CURVE, *NUMBERS)
@@ -106,6 +116,41 @@ class Loan:
             written, owed = self.draw(room)
             rows += [room[ROW * i:ROW * (i + 1)] for i in range(written)]
         return rows
+
+
+class KindLoan(Loan):
+    """A loan in hand of another kind, with what the kind has of its own: what its functions take before the counts."""
+
+    def __init__(self, kind, own, principal, rate, term, given=None):
+        record = record_of(principal, rate, term)
+        self.kind, self.own, self.state = kind, own, (COUNTS(), AMOUNTS())
+        if given is None:
+            KINDS[kind][0](record, len(record), *own, *self.state)
+        else:
+            OPEN_WITH_PAYMENT[kind](record, len(record), *own, given, *self.state)
+
+    def draw(self, room):
+        written, owed = c_uint32(), c_uint32()
+        KINDS[self.kind][1](*self.own, *self.state, room, len(room), byref(written), byref(owed))
+        return written.value, owed.value
+
+    def draw_with_years(self, room, years):
+        written, owed = c_uint32(), c_uint32()
+        KINDS[self.kind][2](*self.own, *self.state, room, len(room), years, len(years), byref(written), byref(owed))
+        return written.value, owed.value
+
+    def next_row(self):
+        """The next row out of its record, and how many are owed after it."""
+        record, written, owed = (c_uint8 * 37)(), c_uint32(), c_uint32()
+        KINDS[self.kind][3](*self.own, *self.state, record, byref(written), byref(owed))
+        return [float(x) for x in struct.unpack("<xIdddd", bytes(record))], owed.value
+
+    def year(self, years, year):
+        if self.kind != "balloon":
+            return super().year(years, year)
+        line = (c_double * YEAR)()
+        look_up_balloon_year(*self.own, *self.state, years, len(years), year, line)
+        return line[:]
 
 
 def record_of(principal, rate, term):
@@ -183,6 +228,99 @@ for room, lines in ((short, years), ((c_double * ROW)(), (c_double * (3 * YEAR -
     same(lines[:3 * YEAR - 1], [12, 0, 480, 720] + [1.5] * (2 * YEAR - 1))
 same(loan.year(years, 1), [12, 0, 480, 720])
 same([refusal(loan.year, years, year) for year in (0, 2, 3, 4)], [(14, 0)] * 4)
+
+# Interest-only, balloon and adjustable loans, by the rules of documents 01 and 02.
+def level_payment(balance, rate, months):
+    r, f = rate / 12, 1.0
+    if r == 0:
+        return balance / months
+    base = 1 + r
+    while months > 0:
+        f, months, base = f * base if months % 2 else f, months // 2, base * base
+    return balance * r * f / (f - 1)
+
+
+def held(last, index, initial, cap, lifetime):
+    """A year's rate: its index within the cap of the last year's rate, then not above the first rate and the lifetime cap."""
+    return min(max(last - cap, min(index, last + cap)), initial + lifetime)
+
+
+def rows_worked_out(balance, rate, payment, only, last, years):
+    """Rows up to the last month: the first ones of interest alone, and a rate and a payment for each later year that is told of."""
+    for month in range(1, last + 1):
+        if month % 12 == 1 and month > 1 and years:
+            rate, payment = years(month // 12 - 1, balance, rate)
+        interest = balance * (rate / 12)
+        principal, paid = min(max(payment - interest, 0.0), balance), payment
+        if month <= only:
+            principal, paid = 0.0, interest
+        elif month == last:
+            principal, paid = balance, balance + interest
+        balance = balance - principal
+        yield [float(month), paid, principal, interest, balance]
+
+
+def drawn_every_way(open_kind, term, want):
+    """Row by row, in some portions, and with lines, which are sums over each year's rows."""
+    loan, rows = open_kind(), []
+    while len(rows) < len(want):
+        row, owed = loan.next_row()
+        rows.append(row)
+        same(owed, len(want) - len(rows))
+    same(rows, want)
+    for places in (ROW, 12 * ROW, 13 * ROW + 4, 1200 * ROW):
+        same(open_kind().rows(places), want)
+        loan, room, lines, owed = open_kind(), (c_double * places)(), (c_double * ((term + 11) // 12 * YEAR))(), 1
+        while owed > 0:
+            written, owed = loan.draw_with_years(room, lines)
+        for year in range((len(want) + 11) // 12):
+            months = want[12 * year:12 * year + 12]
+            line = [0.0, 0.0, 0.0, 0.0]
+            for row in months:
+                line = [line[0] + 1, line[1] + row[3], line[2] + row[2], row[4]]
+            same(loan.year(lines, year + 1), line)
+        same(refusal(loan.year, lines, (len(want) + 11) // 12 + 1), (14, 0))
+
+
+for term in (2, 12, 13, 30, 120):
+    for months in {1, term // 2, term - 1}:
+        drawn_every_way(lambda: KindLoan("interest_only", [months], 250000.0, 0.065, term), term, list(rows_worked_out(
+            250000.0, 0.065, level_payment(250000.0, 0.065, term - months), months, term, None)))
+        drawn_every_way(lambda: KindLoan("balloon", [months], 250000.0, 0.065, term), term, list(rows_worked_out(
+            250000.0, 0.065, level_payment(250000.0, 0.065, term), 0, months, None)))
+    initial, cap, lifetime, index = 0.05, 0.0125, 0.03, [0.07, 0.09, 0.11, 0.01, 0.02, 0.045, 0.046, 0.2, 0.3]
+    own = [initial, cap, lifetime, (c_double * len(index))(*index), len(index)]
+
+    def in_year(entry, balance, last):
+        rate = held(last, index[entry], initial, cap, lifetime)
+        return rate, level_payment(balance, rate, term - 12 * (entry + 1))
+
+    drawn_every_way(lambda: KindLoan("adjustable", own, 250000.0, float("nan"), term), term, list(rows_worked_out(
+        250000.0, initial, level_payment(250000.0, initial, term), 0, term, in_year)))
+
+# What does not fit a kind is 16: at an opening, at a draw, and of a finished loan; the entries that a term reads stand at their index.
+same([array[:] for array in KindLoan("interest_only", [1], 1000.0, 6.0, 3, given=7.0).state], [[3, 0], [6.0, 7.0, 1000.0]])
+same([array[:] for array in KindLoan("balloon", [3], 1000.0, 6.0, 3, given=7.0).state], [[3, 0], [6.0, 7.0, 1000.0]])
+for kind, bad in (("interest_only", (0, 3, 4)), ("balloon", (0, 4, 2**32 - 1))):
+    same([refusal(KindLoan, kind, [months], 1000.0, 6.0, 3) for months in bad], [(16, 0)] * 3)
+loan, room = KindLoan("balloon", [2], 1000.0, 6.0, 3), (c_double * (3 * ROW))(*[1.5] * (3 * ROW))
+loan.own = [4]
+same(refusal(loan.draw, room), (16, 0))
+same((room[:], [array[:] for array in loan.state]), ([1.5] * (3 * ROW), [[3, 0], [6.0, level_payment(1000.0, 6.0, 3), 1000.0]]))
+loan.own = [2]
+same(loan.draw(room), (2, 0))
+same(loan.draw(short), (0, 0))
+loan.own = [1]
+same(refusal(loan.draw, room), (10, 0))
+for at in range(4):
+    entries = (c_double * 4)(*(float("nan") if i >= at else 0.05 for i in range(4)))
+    terms = [0.05, 0.01, 0.02, entries, 4]
+    same(refusal(KindLoan, "adjustable", terms, 1000.0, 0.0, 36), (16, at) if at < 2 else None)
+    same(refusal(KindLoan, "adjustable", [*terms[:4], at], 1000.0, 0.0, 48), (16, 0) if at < 3 else None)
+loan = KindLoan("adjustable", terms, 1000.0, 0.0, 36)
+same(len(loan.rows(5 * ROW)), 36)
+loan.own = [0.05, -0.01, *terms[2:]]
+same(refusal(loan.draw, short), (16, 0))
 
 # A listing is the same rows between its header and its footer; the bytes behind it stay, and a refusal leaves all of them.
 text, size = (c_uint8 * LISTING_BYTES)(*[7] * LISTING_BYTES), c_uint32()
@@ -386,5 +524,5 @@ for frequency, first, second, code, want in (
 same(refusal(value_dated_swap, dated_swap(1e6, 0.03, 1.0, 2, (2023, 1, 31), (2024, 1, 31), 0), 37, *curve, 1, valuation), (11, 0))
 same(valuation[:], before)
 
-print("from Python: loans drawn in portions, with their years' lines, and listed, curves looked up as a walk would, dates as "
-      "Python's calendar has them, dated swaps, and refusals that touch nothing")
+print("from Python: loans of every kind drawn in portions, with their years' lines, and listed, curves looked up as a walk would, dates "
+      "as Python's calendar has them, dated swaps, and refusals that touch nothing")

@@ -1,10 +1,11 @@
 // The library as a Rust program calls it: a loan opened, drawn in portions, with year-end totals too, and held to document 01's
-// figures; dates counted by a calendar of this program's own, and dated swaps; and refusals that give number and place and leave lent
-// memory alone.
+// figures; loans of the other kinds, held to figures worked out by hand; dates counted by a calendar of this program's own, and dated
+// swaps; and refusals that give number and place and leave lent memory alone.
 #[allow(dead_code)]
 mod library;
 
 use library::dates::*;
+use library::kinds::*;
 use library::records::{senyolanda_read_dated_swap, senyolanda_write_dated_swap, senyolanda_write_loan};
 use library::*;
 
@@ -75,6 +76,76 @@ fn drawn_whole(mut loan: Loan, places: usize) -> Vec<[u64; ROW_PLACES]> {
             return rows;
         }
     }
+}
+
+// All rows of a loan of a kind, by its draw into room for so many numbers, which gives what is written and owed.
+fn drawn_by(places: usize, mut draw: impl FnMut(&mut [f64], &mut u32, &mut u32) -> Outcome) -> Result<Vec<[f64; ROW_PLACES]>, Refusal> {
+    let (mut rows, mut room) = (Vec::new(), vec![0.0; places]);
+    let (mut written, mut owed) = (7, 7);
+    while owed > 0 {
+        read(draw(&mut room, &mut written, &mut owed))?;
+        rows.extend(room.chunks_exact(ROW_PLACES).take(written as usize).map(|row| <[f64; ROW_PLACES]>::try_from(row).unwrap()));
+    }
+    Ok(rows)
+}
+
+// A month's rate of a half, behind a month of interest alone.
+fn interest_only() {
+    let (bytes, mut loan) = (record(1000.0, 6.0, 3), Loan::default());
+    for places in ROW_PLACES..=4 * ROW_PLACES {
+        read(called!(senyolanda_open_interest_only, [bytes], 1, &mut loan.counts, &mut loan.amounts)).unwrap();
+        let Loan { counts, amounts } = &mut loan;
+        let rows = drawn_by(places, |room, written, owed| {
+            called!(senyolanda_draw_interest_only, 1, counts, amounts, [mut room], written, owed)
+        });
+        let figures = [[1.0, 500.0, 0.0, 500.0, 1000.0], [2.0, 900.0, 400.0, 500.0, 600.0], [3.0, 900.0, 600.0, 300.0, 0.0]];
+        assert_eq!(rows.unwrap(), figures, "through room for {places} numbers");
+    }
+    let before = loan;
+    for months in [0, 3, 4, u32::MAX] {
+        let refused = read(called!(senyolanda_open_interest_only, [bytes], months, &mut loan.counts, &mut loan.amounts));
+        assert_eq!((refused, loan), (Err(Refusal { number: 16, place: 0 }), before));
+    }
+}
+
+// 1,400 at 0 over 14 months, all of it repaid in month 13: two years have a row.
+fn balloon() {
+    let (bytes, mut loan) = (record(1400.0, 0.0, 14), Loan::default());
+    let (mut room, mut years, mut line) = ([0.0; 14 * ROW_PLACES], [1.5; 2 * YEAR_PLACES], [7.0; YEAR_PLACES]);
+    let (mut written, mut owed) = (7, 7);
+    read(called!(senyolanda_open_balloon, [bytes], 13, &mut loan.counts, &mut loan.amounts)).unwrap();
+    let Loan { counts, amounts } = &mut loan;
+    read(called!(senyolanda_draw_balloon_with_years, 13, counts, amounts, [mut room], [mut years], &mut written, &mut owed)).unwrap();
+    assert_eq!((written, owed, &room[12 * ROW_PLACES..13 * ROW_PLACES]), (13, 0, &[13.0, 200.0, 200.0, 0.0, 0.0][..]));
+    assert_eq!(years, [12.0, 0.0, 1200.0, 200.0, 1.0, 0.0, 200.0, 0.0]);
+    read(called!(senyolanda_look_up_balloon_year, 13, &loan.counts, &loan.amounts, [years], 2, &mut line)).unwrap();
+    assert_eq!(line, [1.0, 0.0, 200.0, 0.0]);
+    let past = read(called!(senyolanda_look_up_balloon_year, 12, &loan.counts, &loan.amounts, [years], 2, &mut line));
+    assert_eq!(past, Err(Refusal { number: 10, place: 0 }));
+}
+
+// Twelve months at 0 leave 200 of 1,400, which two months at a half a month repay; the second entry is not read.
+fn adjustable() {
+    let (bytes, index, mut loan) = (record(1400.0, f64::NAN, 14), [6.0, f64::NAN], Loan::default());
+    for places in ROW_PLACES..=15 * ROW_PLACES {
+        read(called!(senyolanda_open_adjustable, [bytes], 0.0, 6.0, 9.0, [index], &mut loan.counts, &mut loan.amounts)).unwrap();
+        assert_eq!(loan, Loan { counts: [14, 0], amounts: [0.0, 100.0, 1400.0] });
+        let Loan { counts, amounts } = &mut loan;
+        let rows = drawn_by(places, |room, written, owed| {
+            called!(senyolanda_draw_adjustable, 0.0, 6.0, 9.0, [index], counts, amounts, [mut room], written, owed)
+        });
+        let ends = [[12.0, 100.0, 100.0, 0.0, 200.0], [13.0, 180.0, 80.0, 100.0, 120.0], [14.0, 180.0, 120.0, 60.0, 0.0]];
+        assert_eq!(rows.unwrap()[11..], ends, "through room for {places} numbers");
+        assert_eq!(loan, Loan { counts: [14, 14], amounts: [6.0, 180.0, 0.0] });
+    }
+    let (mut row, mut written, mut owed, long) = ([7; ROW_BYTES], 7, 7, record(1400.0, 0.0, 25));
+    let refused = read(called!(senyolanda_open_adjustable, [long], 0.0, 6.0, 9.0, [index], &mut loan.counts, &mut loan.amounts));
+    assert_eq!(refused, Err(Refusal { number: 16, place: 1 }));
+    let none: [f64; 0] = [];
+    let Loan { counts, amounts } = &mut loan;
+    let refused = read(called!(senyolanda_next_adjustable_row, 0.0, 6.0, 9.0, [none], counts, amounts, &mut row, &mut written, &mut owed));
+    assert_eq!((refused, row, written, owed), (Err(Refusal { number: 16, place: 0 }), [7; ROW_BYTES], 7, 7));
+    assert_eq!(loan, Loan { counts: [14, 14], amounts: [6.0, 180.0, 0.0] });
 }
 
 // The days from one date to another, by actual days and by 30/360.
@@ -209,8 +280,11 @@ fn main() {
     assert_eq!(read(called!(senyolanda_pool_totals, [pool], &mut totals)), Err(Refusal { number: 1, place: 2 }));
     assert_eq!(totals, [1.5; 3]);
 
+    interest_only();
+    balloon();
+    adjustable();
     dates();
     dated_swaps();
 
-    println!("from Rust: a loan drawn in portions, another with its years' lines, dates and dated swaps, and refusals that touch nothing");
+    println!("from Rust: loans of every kind drawn in portions, with years' lines, dates and dated swaps, and refusals that touch nothing");
 }

@@ -133,6 +133,32 @@ exported! {
     senyolanda_points_to_decimal(points: f64, rate: Number);
 }
 
+/// The kinds of loans.
+#[allow(dead_code)]
+pub mod kinds {
+    use super::*;
+
+    exported! {
+        senyolanda_open_interest_only([record: u8], months: u32, counts: Counts, amounts: Amounts);
+        senyolanda_open_interest_only_with_payment([record: u8], months: u32, given: f64, counts: Counts, amounts: Amounts);
+        senyolanda_draw_interest_only(months: u32, counts: Counts, amounts: Amounts, [mut room: f64], written: Count, owed: Count);
+        senyolanda_draw_interest_only_with_years(months: u32, counts: Counts, amounts: Amounts, [mut room: f64], [mut years: f64], written: Count, owed: Count);
+        senyolanda_next_interest_only_row(months: u32, counts: Counts, amounts: Amounts, record: &mut [u8; ROW_BYTES], written: Count, owed: Count);
+
+        senyolanda_open_balloon([record: u8], month: u32, counts: Counts, amounts: Amounts);
+        senyolanda_open_balloon_with_payment([record: u8], month: u32, given: f64, counts: Counts, amounts: Amounts);
+        senyolanda_draw_balloon(month: u32, counts: Counts, amounts: Amounts, [mut room: f64], written: Count, owed: Count);
+        senyolanda_draw_balloon_with_years(month: u32, counts: Counts, amounts: Amounts, [mut room: f64], [mut years: f64], written: Count, owed: Count);
+        senyolanda_next_balloon_row(month: u32, counts: Counts, amounts: Amounts, record: &mut [u8; ROW_BYTES], written: Count, owed: Count);
+        senyolanda_look_up_balloon_year(month: u32, counts: CountsToRead, amounts: AmountsToRead, [years: f64], year: u32, line: &mut [f64; YEAR_PLACES]);
+
+        senyolanda_open_adjustable([record: u8], initial: f64, cap: f64, lifetime: f64, [index: f64], counts: Counts, amounts: Amounts);
+        senyolanda_draw_adjustable(initial: f64, cap: f64, lifetime: f64, [index: f64], counts: Counts, amounts: Amounts, [mut room: f64], written: Count, owed: Count);
+        senyolanda_draw_adjustable_with_years(initial: f64, cap: f64, lifetime: f64, [index: f64], counts: Counts, amounts: Amounts, [mut room: f64], [mut years: f64], written: Count, owed: Count);
+        senyolanda_next_adjustable_row(initial: f64, cap: f64, lifetime: f64, [index: f64], counts: Counts, amounts: Amounts, record: &mut [u8; ROW_BYTES], written: Count, owed: Count);
+    }
+}
+
 /// Dates and dated swaps.
 #[allow(dead_code)]
 pub mod dates {

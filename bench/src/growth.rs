@@ -3,7 +3,7 @@ use crate::comparing::hold_to_the_other;
 use crate::curves::Asked::{AsAList, OneByOne};
 use crate::job::Job;
 use crate::measure::best_times;
-use crate::{bonds, curves, elementary, loans, pools, spreads, swaps};
+use crate::{bonds, curves, elementary, kinds, loans, pools, spreads, swaps};
 use std::time::Duration;
 
 const BUDGET: Duration = Duration::from_millis(100);
@@ -18,8 +18,9 @@ struct Growth {
     of: fn(usize) -> Job,
 }
 
-const GROWTHS: [Growth; 18] = [
+const GROWTHS: [Growth; 19] = [
     Growth { job: "schedule", input: "rows", first: 36, of: loans::schedule },
+    Growth { job: "draw, adjustable", input: "rows", first: 36, of: kinds::adjustable },
     Growth { job: "book", input: "schedules", first: 10, of: loans::book },
     Growth { job: "pool months", input: "loans", first: 2, of: |loans| pools::months(loans, 360) },
     Growth { job: "pool months", input: "months", first: 36, of: |months| pools::months(8, months) },

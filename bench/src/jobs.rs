@@ -1,7 +1,7 @@
 //! Every job that is compared, counted and timed.
 use crate::curves::Asked::{AsAList, OneByOne};
 use crate::job::Job;
-use crate::{bonds, curves, elementary, loans, pools, spreads, swaps};
+use crate::{bonds, curves, elementary, kinds, loans, pools, spreads, swaps};
 
 /// Every job, with the ratio that it aims at.
 pub fn all() -> Vec<Job> {
@@ -10,6 +10,9 @@ pub fn all() -> Vec<Job> {
         loans::schedule(360).aims_at(2.0),
         loans::schedule(1200).aims_at(2.0),
         loans::draw_with_years(360).aims_at(0.85),
+        kinds::interest_only(360).aims_at(0.91),
+        kinds::balloon(360).aims_at(0.91),
+        kinds::adjustable(360).aims_at(0.77),
         loans::book(10_000).aims_at(3.5),
         loans::book_loan_by_loan(10_000),
         loans::payment(),

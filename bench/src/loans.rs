@@ -9,7 +9,7 @@ use crate::published::mortgage::{AmortizationRow, MortgageCalculator, MortgageTe
 pub type Record = [u8; LOAN_BYTES];
 
 const MONTHS_OF_A_BOOK: usize = 360;
-const MONTHS_OF_A_YEAR: usize = 12;
+pub const MONTHS_OF_A_YEAR: usize = 12;
 
 pub fn record_of(principal: f64, rate: f64, months: u32) -> Record {
     let mut record = [0; LOAN_BYTES];
@@ -43,9 +43,9 @@ pub fn schedule(months: usize) -> Job {
 }
 
 /// A loan in hand: its counts and its amounts.
-type InHand = ([u32; LOAN_COUNTS], [f64; LOAN_AMOUNTS]);
+pub type InHand = ([u32; LOAN_COUNTS], [f64; LOAN_AMOUNTS]);
 
-fn opened(record: &Record) -> InHand {
+pub fn opened(record: &Record) -> InHand {
     let (mut counts, mut amounts) = ([0; LOAN_COUNTS], [0.0; LOAN_AMOUNTS]);
     called!(senyolanda_open, [record], &mut counts, &mut amounts);
     (counts, amounts)
@@ -71,7 +71,7 @@ impl Numbers for PlainRows {
 }
 
 /// Draws all of a loan in hand; the places that its rows fill.
-fn drawn_plainly(hand: &InHand, room: &mut [f64]) -> usize {
+pub fn drawn_plainly(hand: &InHand, room: &mut [f64]) -> usize {
     let ((mut counts, mut amounts), mut written, mut owed) = (*unseen(hand), 0, 0);
     let outcome = called!(senyolanda_draw, &mut counts, &mut amounts, [mut room], &mut written, &mut owed);
     unless_refused(outcome | Outcome::from(owed), written as usize * ROW_PLACES)

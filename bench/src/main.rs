@@ -8,6 +8,7 @@ mod elementary;
 mod growth;
 mod job;
 mod jobs;
+mod kinds;
 #[allow(dead_code)]
 #[path = "../../test/library.rs"]
 mod library;

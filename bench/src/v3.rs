@@ -5,6 +5,7 @@ mod curves;
 mod elementary;
 mod job;
 mod jobs;
+mod kinds;
 #[path = "../../test/library.rs"]
 mod library;
 mod loans;

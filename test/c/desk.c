@@ -19,6 +19,13 @@ static const struct desk at_rest = {
     .year_places = SENYOLANDA_MOST_YEARS * YEAR_WIDTH,
     .drawn = 12,
     .year = 1,
+    .only = 3,
+    .balloon = 12,
+    .adjustable = { 1, 1200, 0.06, 36, SENYOLANDA_LOAN_BYTES },
+    .initial = 0.06,
+    .cap = 0.02,
+    .lifetime = 0.05,
+    .index_count = 3,
     .value = 2400,
     .extra = 100,
     .cost = 100,
@@ -59,6 +66,7 @@ static struct desk in_good_order(void) {
         order.loans[i] = loan;
     }
     for (size_t i = 0; i < LINES * YEAR_WIDTH; i++) order.years[i] = 0.5 + (double)i;
+    for (size_t i = 0; i < ENTRIES; i++) order.index[i] = 0.05 + 0.01 * (double)(i % 7);
     for (size_t i = 0; i < KNOTS; i++) {
         order.times[i] = 0.5 * (double)(i + 1);
         order.rates[i] = 0.03 + 0.0001 * (double)i;
@@ -192,6 +200,10 @@ static struct lent_bytes lend_record(struct record record) {
 
 struct lent_bytes lend_loan(void) {
     return lend_record(record_of_loan(&desk.loan));
+}
+
+struct lent_bytes lend_adjustable(void) {
+    return lend_record(record_of_loan(&desk.adjustable));
 }
 
 struct lent_bytes lend_bond(void) {

@@ -11,7 +11,7 @@
 enum { WIDTH = SENYOLANDA_ROW_PLACES, YEAR_WIDTH = SENYOLANDA_YEAR_PLACES };
 
 /* One more than the most that is taken, and one more again. */
-enum { LOANS = 258, LINES = 102, KNOTS = 122, FLOWS = 1202, MONTHS = 4, ASKED = 20 };
+enum { LOANS = 258, LINES = 102, ENTRIES = 101, KNOTS = 122, FLOWS = 1202, MONTHS = 4, ASKED = 20 };
 
 /* A date, of the calendar or not. */
 struct date {
@@ -69,6 +69,12 @@ struct desk {
     double years[LINES * YEAR_WIDTH];
     size_t year_places;
     uint32_t drawn, year;
+    /* what kinds of loans have of their own: months of interest alone, and the month of a balloon */
+    uint32_t only, balloon;
+    /* an adjustable loan, which has a longer term than the loan; in hand, its rate is the one in force */
+    struct loan_parts adjustable;
+    double initial, cap, lifetime, index[ENTRIES];
+    size_t index_count;
     /* what goes with a loan */
     double value, extra, cost;
     uint32_t months;
@@ -116,6 +122,7 @@ struct date date_in(const uint8_t *bytes);
 
 /* Lends the desk's record, or its pool's records end to end; where a found record is set, that one instead. */
 struct lent_bytes lend_loan(void);
+struct lent_bytes lend_adjustable(void);
 struct lent_bytes lend_bond(void);
 struct lent_bytes lend_row(void);
 struct lent_bytes lend_swap(void);

@@ -8,7 +8,7 @@
 
 #include "desk.h"
 
-/* A row of the matrix: CLAIM(draw, ". 2 3 . . . . . . 10 .. .. .. .. .."). */
+/* A row of the matrix: CLAIM(draw, ". 2 3 . . . . . . 10 .. .. .. .. .. .."). */
 struct claim {
     const char *function, *refusals;
 };
@@ -76,7 +76,7 @@ struct cause {
     TAKEN(WHOLE(argument, 0)),                                \
     TAKEN(WHOLE(argument, last))
 
-/* The refusal that a record deserves by 1 to 11, or by 15, with all else at rest; 0 where there is none. */
+/* The refusal that a record deserves by 1 to 11, by 15 or by 16, with all else at rest; 0 where there is none. */
 typedef senyolanda_result verdict(const struct record *record);
 
 enum { FAMILIES = 4 };

@@ -40,7 +40,6 @@ const struct cause state_causes[] = {
     CAUSE(10, WHOLE(done, 1201), WHOLE(loan.term, 1200)),
     CAUSE(2, WHOLE(done, 1), WHOLE(loan.term, 0)),
     CAUSE(2, WHOLE(done, 1202), WHOLE(loan.term, 1201)),
-    TAKEN(WHOLE(loan.term, 1)),
     TAKEN(WHOLE(loan.term, 1200)),
     TAKEN(WHOLE(done, 11)),
     TAKEN(WHOLE(done, 12)),
@@ -48,6 +47,12 @@ const struct cause state_causes[] = {
     TAKEN(NUMBER(balance, -1)),
     TAKEN(NUMBER(payment, NAN)),
     TAKEN(NUMBER(loan.rate, INFINITY)),
+    END_OF_CAUSES,
+};
+
+/* A level loan may have one month; interest alone leaves none to it. */
+const struct cause one_month_causes[] = {
+    TAKEN(WHOLE(loan.term, 1)),
     END_OF_CAUSES,
 };
 
@@ -66,6 +71,28 @@ const struct cause room_causes[] = {
     END_OF_CAUSES,
 };
 
+/* Too few lines for the term are 3 with rows due, without, and past the term: unlike the room's, this cause stays beside 10. */
+const struct cause line_causes[] = {
+    CAUSE(3, WHOLE(year_places, 0)),
+    CAUSE(3, WHOLE(year_places, 1)),
+    CAUSE(3, WHOLE(year_places, YEAR_WIDTH - 1)),
+    CAUSE(3, WHOLE(year_places, YEAR_WIDTH - 1), WHOLE(loan.term, 1)),
+    CAUSE(3, WHOLE(year_places, 2 * YEAR_WIDTH - 1), WHOLE(loan.term, 13)),
+    CAUSE(3, WHOLE(year_places, 2 * YEAR_WIDTH - 1), WHOLE(loan.term, 24)),
+    CAUSE(3, WHOLE(year_places, 100 * YEAR_WIDTH - 1), WHOLE(loan.term, 1200)),
+    CAUSE(3, WHOLE(year_places, YEAR_WIDTH - 1), WHOLE(done, 12)),
+    CAUSE(3, WHOLE(year_places, YEAR_WIDTH - 1), WHOLE(done, 13)),
+    CAUSE(3, WHOLE(year_places, YEAR_WIDTH - 1), WHOLE(done, UINT32_MAX), WHOLE(places, 0)),
+    TAKEN(WHOLE(year_places, YEAR_WIDTH)),
+    TAKEN(WHOLE(year_places, YEAR_WIDTH + 1)),
+    TAKEN(WHOLE(year_places, 2 * YEAR_WIDTH), WHOLE(loan.term, 13)),
+    TAKEN(WHOLE(year_places, 2 * YEAR_WIDTH), WHOLE(loan.term, 24)),
+    TAKEN(WHOLE(year_places, YEAR_WIDTH), WHOLE(done, 12), WHOLE(places, 0)),
+    TAKEN(NUMBER(years[0], NAN)),
+    TAKEN(NUMBER(years[0], -INFINITY), WHOLE(done, 1)),
+    END_OF_CAUSES,
+};
+
 senyolanda_result loan_deserved(const struct record *record) {
     if (record->length != SENYOLANDA_LOAN_BYTES || record->bytes[0] != 1) return refusal(11, 0);
     if (is_bad_amount(number_in(record->bytes + 1))) return refusal(1, 0);
@@ -79,38 +106,36 @@ void set_loan(double principal, double rate, uint32_t term) {
 
 /* ---- a loan in hand ---- */
 
-/* Its counts and amounts, and where a call says of its rows. */
-struct lent_loan {
-    uint32_t *counts;
-    double *amounts;
-    uint32_t *written, *owed;
-};
-
-static senyolanda_result opened(struct lent_bytes record, const double *given) {
-    uint32_t *counts = lend(FOR_ANSWER, SENYOLANDA_LOAN_COUNTS * sizeof *counts);
-    double *amounts = lend_places(SENYOLANDA_LOAN_AMOUNTS);
-    return given == NULL ? CALL(senyolanda_open(record.bytes, record.length, counts, amounts))
-                         : CALL(senyolanda_open_with_payment(record.bytes, record.length, *given, counts, amounts));
+struct lent_loan lend_loan_to_open(void) {
+    struct lent_loan loan = { lend(FOR_ANSWER, SENYOLANDA_LOAN_COUNTS * sizeof *loan.counts), NULL, NULL, NULL };
+    loan.amounts = lend_places(SENYOLANDA_LOAN_AMOUNTS);
+    return loan;
 }
 
 senyolanda_result call_open(void) {
-    return opened(lend_loan(), NULL);
+    struct lent_bytes record = lend_loan();
+    struct lent_loan loan = lend_loan_to_open();
+    return CALL(senyolanda_open(record.bytes, record.length, loan.counts, loan.amounts));
 }
 
 senyolanda_result call_open_with_payment(void) {
-    return opened(lend_loan(), &desk.payment);
+    struct lent_bytes record = lend_loan();
+    struct lent_loan loan = lend_loan_to_open();
+    return CALL(senyolanda_open_with_payment(record.bytes, record.length, desk.payment, loan.counts, loan.amounts));
 }
 
-static void take_hand_apart(uint32_t done, uint32_t counts[SENYOLANDA_LOAN_COUNTS], double amounts[SENYOLANDA_LOAN_AMOUNTS]) {
-    struct senyolanda_loan hand = { desk.loan.term, done, desk.loan.rate, desk.payment, desk.balance };
+static void take_hand_apart(
+    const struct loan_parts *terms, uint32_t done, uint32_t counts[SENYOLANDA_LOAN_COUNTS],
+    double amounts[SENYOLANDA_LOAN_AMOUNTS]) {
+    struct senyolanda_loan hand = { terms->term, done, terms->rate, desk.payment, desk.balance };
     senyolanda_loan_taken_apart(&hand, counts, amounts);
 }
 
-static struct lent_loan lend_loan_in_hand(void) {
+struct lent_loan lend_loan_in_hand(const struct loan_parts *terms) {
     uint32_t counts[SENYOLANDA_LOAN_COUNTS];
     double amounts[SENYOLANDA_LOAN_AMOUNTS];
     struct lent_loan loan;
-    take_hand_apart(desk.done, counts, amounts);
+    take_hand_apart(terms, desk.done, counts, amounts);
     loan.counts = lend_counts_in_hand(counts, SENYOLANDA_LOAN_COUNTS);
     loan.amounts = lend_numbers_in_hand(amounts, SENYOLANDA_LOAN_AMOUNTS);
     loan.written = lend_count();
@@ -119,13 +144,13 @@ static struct lent_loan lend_loan_in_hand(void) {
 }
 
 senyolanda_result call_draw(void) {
-    struct lent_loan loan = lend_loan_in_hand();
+    struct lent_loan loan = lend_loan_in_hand(&desk.loan);
     double *room = lend(AS_ROOM, desk.places * sizeof *room);
     return CALL(senyolanda_draw(loan.counts, loan.amounts, room, desk.places, loan.written, loan.owed));
 }
 
 senyolanda_result call_draw_with_years(void) {
-    struct lent_loan loan = lend_loan_in_hand();
+    struct lent_loan loan = lend_loan_in_hand(&desk.loan);
     double *room = lend(AS_ROOM, desk.places * sizeof *room);
     double *years = lend_numbers_in_hand(desk.years, desk.year_places);
     return CALL(senyolanda_draw_with_years(
@@ -133,7 +158,7 @@ senyolanda_result call_draw_with_years(void) {
 }
 
 senyolanda_result call_next_row(void) {
-    struct lent_loan loan = lend_loan_in_hand();
+    struct lent_loan loan = lend_loan_in_hand(&desk.loan);
     uint8_t *record = lend(AS_ROOM, SENYOLANDA_ROW_BYTES);
     return CALL(senyolanda_next_row(loan.counts, loan.amounts, record, loan.written, loan.owed));
 }
@@ -144,13 +169,19 @@ struct senyolanda_loan answered_loan(void) {
     return loan;
 }
 
-senyolanda_result call_look_up_year(void) {
+struct lent_lookup lend_lookup(const struct loan_parts *terms) {
     uint32_t counts[SENYOLANDA_LOAN_COUNTS];
     double amounts[SENYOLANDA_LOAN_AMOUNTS];
-    take_hand_apart(desk.drawn, counts, amounts);
-    const uint32_t *lent_counts = lend_counts(counts, SENYOLANDA_LOAN_COUNTS);
-    struct lent_numbers lent_amounts = lend_numbers(amounts, SENYOLANDA_LOAN_AMOUNTS);
-    struct lent_numbers years = lend_numbers(desk.years, desk.year_places);
-    double *line = lend_places(YEAR_WIDTH);
-    return CALL(senyolanda_look_up_year(lent_counts, lent_amounts.numbers, years.numbers, years.count, desk.year, line));
+    struct lent_lookup lookup;
+    take_hand_apart(terms, desk.drawn, counts, amounts);
+    lookup.counts = lend_counts(counts, SENYOLANDA_LOAN_COUNTS);
+    lookup.amounts = lend_numbers(amounts, SENYOLANDA_LOAN_AMOUNTS).numbers;
+    lookup.years = lend_numbers(desk.years, desk.year_places);
+    lookup.line = lend_places(YEAR_WIDTH);
+    return lookup;
+}
+
+senyolanda_result call_look_up_year(void) {
+    struct lent_lookup lent = lend_lookup(&desk.loan);
+    return CALL(senyolanda_look_up_year(lent.counts, lent.amounts, lent.years.numbers, lent.years.count, desk.year, lent.line));
 }

@@ -16,8 +16,8 @@
     CAUSE_AT(place, 2, WHOLE(loan.term, 1201)),                                    \
     CAUSE_AT(place, 2, WHOLE(loan.term, UINT32_MAX))
 
-/* The desk's loan, and numbers beside it that no line names; a loan in hand, and the room for its rows. */
-extern const struct cause loan_causes[], beside_loan_causes[], state_causes[], room_causes[];
+/* The desk's loan, and numbers beside it that no line names; a loan in hand, the room for its rows, and its years' lines. */
+extern const struct cause loan_causes[], beside_loan_causes[], state_causes[], one_month_causes[], room_causes[], line_causes[];
 
 /* What a record deserves of a function that reads a loan. */
 senyolanda_result loan_deserved(const struct record *record);
@@ -37,7 +37,26 @@ senyolanda_result call_next_row(void);
 /* The loan that the last of these calls gave. */
 struct senyolanda_loan answered_loan(void);
 
+/* For calls of other kinds, with the answers in the same order: counts and amounts lent for an opening; and a loan in hand, of
+   these terms and with the desk's payment, months done and balance, lent to be moved on. */
+struct lent_loan {
+    uint32_t *counts;
+    double *amounts;
+    uint32_t *written, *owed;
+};
+struct lent_loan lend_loan_to_open(void);
+struct lent_loan lend_loan_in_hand(const struct loan_parts *terms);
+
 /* Looks the desk's year up among the desk's lines, for its loan with the desk's months drawn; the answer is the year's line. */
 senyolanda_result call_look_up_year(void);
+
+/* What a lookup reads, lent: a loan of these terms with the desk's months drawn, and the desk's lines; and where its line goes. */
+struct lent_lookup {
+    const uint32_t *counts;
+    const double *amounts;
+    struct lent_numbers years;
+    double *line;
+};
+struct lent_lookup lend_lookup(const struct loan_parts *terms);
 
 #endif

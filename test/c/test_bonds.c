@@ -5,20 +5,20 @@
 #include <math.h>
 
 static const struct claim matrix[] = {
-    /*                                      1 2 3 4 5 6 7 8 9 10 11 12 13 14 15 */
-    CLAIM(bond_price,                      "1 . . . . . 7 . 9 .. 11 .. .. .. .."),
-    CLAIM(bond_dv01,                       "1 . . . . . 7 . 9 .. 11 .. .. .. .."),
-    CLAIM(bond_current_yield,              "1 . . . . . 7 . 9 .. 11 .. .. .. .."),
-    CLAIM(bond_yield_to_maturity,          "1 . . . . . 7 . 9 .. 11 12 .. .. .."),
-    CLAIM(bond_macaulay_duration,          "1 . . . . . 7 . 9 .. 11 .. .. .. .."),
-    CLAIM(bond_modified_duration,          "1 . . . . . 7 . 9 .. 11 .. .. .. .."),
-    CLAIM(bond_convexity,                  "1 . . . . . 7 . 9 .. 11 .. .. .. .."),
-    CLAIM(bond_price_change,               "1 . . . . . 7 . 9 .. 11 .. .. .. .."),
-    CLAIM(bond_macaulay_duration_at_price, "1 . . . . . 7 . 9 .. 11 12 .. .. .."),
-    CLAIM(bond_modified_duration_at_price, "1 . . . . . 7 . 9 .. 11 12 .. .. .."),
-    CLAIM(bond_convexity_at_price,         "1 . . . . . 7 . 9 .. 11 12 .. .. .."),
-    CLAIM(zero_coupon_bond_price,          ". . . . . . 7 . 9 .. .. .. .. .. .."),
-    CLAIM(periods_per_year,                ". . . . . . . . . .. 11 .. .. .. .."),
+    /*                                      1 2 3 4 5 6 7 8 9 10 11 12 13 14 15 16 */
+    CLAIM(bond_price,                      "1 . . . . . 7 . 9 .. 11 .. .. .. .. .."),
+    CLAIM(bond_dv01,                       "1 . . . . . 7 . 9 .. 11 .. .. .. .. .."),
+    CLAIM(bond_current_yield,              "1 . . . . . 7 . 9 .. 11 .. .. .. .. .."),
+    CLAIM(bond_yield_to_maturity,          "1 . . . . . 7 . 9 .. 11 12 .. .. .. .."),
+    CLAIM(bond_macaulay_duration,          "1 . . . . . 7 . 9 .. 11 .. .. .. .. .."),
+    CLAIM(bond_modified_duration,          "1 . . . . . 7 . 9 .. 11 .. .. .. .. .."),
+    CLAIM(bond_convexity,                  "1 . . . . . 7 . 9 .. 11 .. .. .. .. .."),
+    CLAIM(bond_price_change,               "1 . . . . . 7 . 9 .. 11 .. .. .. .. .."),
+    CLAIM(bond_macaulay_duration_at_price, "1 . . . . . 7 . 9 .. 11 12 .. .. .. .."),
+    CLAIM(bond_modified_duration_at_price, "1 . . . . . 7 . 9 .. 11 12 .. .. .. .."),
+    CLAIM(bond_convexity_at_price,         "1 . . . . . 7 . 9 .. 11 12 .. .. .. .."),
+    CLAIM(zero_coupon_bond_price,          ". . . . . . 7 . 9 .. .. .. .. .. .. .."),
+    CLAIM(periods_per_year,                ". . . . . . . . . .. 11 .. .. .. .. .."),
     END_OF_MATRIX,
 };
 

@@ -5,8 +5,8 @@
 #include <string.h>
 
 static const struct claim matrix[] = {
-    /*                1 2 3 4 5 6 7 8 9 10 11 12 13 14 15 */
-    CLAIM(draw_book, ". . 3 . . . . . . .. 11 .. .. .. .."),
+    /*                1 2 3 4 5 6 7 8 9 10 11 12 13 14 15 16 */
+    CLAIM(draw_book, ". . 3 . . . . . . .. 11 .. .. .. .. .."),
     END_OF_MATRIX,
 };
 

@@ -5,19 +5,19 @@
 #include <math.h>
 
 static const struct claim matrix[] = {
-    /*                                          1 2 3 4 5 6 7 8 9 10 11 12 13 14 15 */
-    CLAIM(linear_interpolate,                  ". . . 4 5 6 7 . . .. .. .. .. .. .."),
-    CLAIM(linear_interpolate_each,             ". . . 4 5 6 7 . . .. .. .. .. .. .."),
-    CLAIM(cubic_spline_interpolate,            ". . . 4 5 6 7 . . .. .. .. .. .. .."),
-    CLAIM(yield_curve_discount_factor,         ". . . 4 5 6 7 . . .. .. .. .. .. .."),
-    CLAIM(yield_curve_discount_factor_each,    ". . . 4 5 6 7 . . .. .. .. .. .. .."),
-    CLAIM(yield_curve_forward_rate,            ". . . 4 5 6 7 . . .. .. .. .. .. .."),
-    CLAIM(par_yield,                           ". . . 4 5 6 7 . . .. .. .. .. .. .."),
-    CLAIM(nelson_siegel_fit,                   ". . . 4 5 6 . . . .. .. .. .. .. .."),
-    CLAIM(nelson_siegel_yield,                 ". . . . . . 7 . . .. .. .. .. .. .."),
-    CLAIM(nelson_siegel_forward_rate,          ". . . . . . 7 . . .. .. .. .. .. .."),
-    CLAIM(nelson_siegel_instantaneous_forward, ". . . . . . . . . .. .. .. .. .. .."),
-    CLAIM(nelson_siegel_metrics,               ". . . . . . . . . .. .. .. .. .. .."),
+    /*                                          1 2 3 4 5 6 7 8 9 10 11 12 13 14 15 16 */
+    CLAIM(linear_interpolate,                  ". . . 4 5 6 7 . . .. .. .. .. .. .. .."),
+    CLAIM(linear_interpolate_each,             ". . . 4 5 6 7 . . .. .. .. .. .. .. .."),
+    CLAIM(cubic_spline_interpolate,            ". . . 4 5 6 7 . . .. .. .. .. .. .. .."),
+    CLAIM(yield_curve_discount_factor,         ". . . 4 5 6 7 . . .. .. .. .. .. .. .."),
+    CLAIM(yield_curve_discount_factor_each,    ". . . 4 5 6 7 . . .. .. .. .. .. .. .."),
+    CLAIM(yield_curve_forward_rate,            ". . . 4 5 6 7 . . .. .. .. .. .. .. .."),
+    CLAIM(par_yield,                           ". . . 4 5 6 7 . . .. .. .. .. .. .. .."),
+    CLAIM(nelson_siegel_fit,                   ". . . 4 5 6 . . . .. .. .. .. .. .. .."),
+    CLAIM(nelson_siegel_yield,                 ". . . . . . 7 . . .. .. .. .. .. .. .."),
+    CLAIM(nelson_siegel_forward_rate,          ". . . . . . 7 . . .. .. .. .. .. .. .."),
+    CLAIM(nelson_siegel_instantaneous_forward, ". . . . . . . . . .. .. .. .. .. .. .."),
+    CLAIM(nelson_siegel_metrics,               ". . . . . . . . . .. .. .. .. .. .. .."),
     END_OF_MATRIX,
 };
 

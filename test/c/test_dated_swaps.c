@@ -9,14 +9,14 @@
 #include <stdio.h>
 
 static const struct claim matrix[] = {
-    /*                            1 2 3 4 5 6 7 8 9 10 11 12 13 14 15 */
-    CLAIM(dated_fixed_leg_pv,    "1 . . 4 5 6 7 8 9 .. 11 .. .. .. 15"),
-    CLAIM(dated_floating_leg_pv, "1 . . 4 5 6 7 8 9 .. 11 .. .. .. 15"),
-    CLAIM(dated_swap_npv,        "1 . . 4 5 6 7 8 9 .. 11 .. .. .. 15"),
-    CLAIM(dated_par_swap_rate,   "1 . . 4 5 6 7 8 9 .. 11 .. .. .. 15"),
-    CLAIM(dated_swap_dv01,       "1 . . 4 5 6 7 8 9 .. 11 .. .. .. 15"),
-    CLAIM(dated_swap_duration,   "1 . . 4 5 6 7 8 9 .. 11 .. .. .. 15"),
-    CLAIM(value_dated_swap,      "1 . . 4 5 6 7 8 9 .. 11 .. .. .. 15"),
+    /*                            1 2 3 4 5 6 7 8 9 10 11 12 13 14 15 16 */
+    CLAIM(dated_fixed_leg_pv,    "1 . . 4 5 6 7 8 9 .. 11 .. .. .. 15 .."),
+    CLAIM(dated_floating_leg_pv, "1 . . 4 5 6 7 8 9 .. 11 .. .. .. 15 .."),
+    CLAIM(dated_swap_npv,        "1 . . 4 5 6 7 8 9 .. 11 .. .. .. 15 .."),
+    CLAIM(dated_par_swap_rate,   "1 . . 4 5 6 7 8 9 .. 11 .. .. .. 15 .."),
+    CLAIM(dated_swap_dv01,       "1 . . 4 5 6 7 8 9 .. 11 .. .. .. 15 .."),
+    CLAIM(dated_swap_duration,   "1 . . 4 5 6 7 8 9 .. 11 .. .. .. 15 .."),
+    CLAIM(value_dated_swap,      "1 . . 4 5 6 7 8 9 .. 11 .. .. .. 15 .."),
     END_OF_MATRIX,
 };
 

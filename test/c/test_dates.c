@@ -3,13 +3,13 @@
 #include "damaged.h"
 
 static const struct claim matrix[] = {
-    /*                      1 2 3 4 5 6 7 8 9 10 11 12 13 14 15 */
-    CLAIM(day_number,      ". . . . . . . . . .. .. .. .. .. 15"),
-    CLAIM(date_of_number,  ". . . . . . . . . .. .. .. .. .. 15"),
-    CLAIM(months_later,    ". . . . . . . . . .. .. .. .. .. 15"),
-    CLAIM(actual_days,     ". . . . . . . . . .. .. .. .. .. 15"),
-    CLAIM(days_30_360,     ". . . . . . . . . .. .. .. .. .. 15"),
-    CLAIM(dated_fraction,  ". . . . . . . . . .. 11 .. .. .. 15"),
+    /*                      1 2 3 4 5 6 7 8 9 10 11 12 13 14 15 16 */
+    CLAIM(day_number,      ". . . . . . . . . .. .. .. .. .. 15 .."),
+    CLAIM(date_of_number,  ". . . . . . . . . .. .. .. .. .. 15 .."),
+    CLAIM(months_later,    ". . . . . . . . . .. .. .. .. .. 15 .."),
+    CLAIM(actual_days,     ". . . . . . . . . .. .. .. .. .. 15 .."),
+    CLAIM(days_30_360,     ". . . . . . . . . .. .. .. .. .. 15 .."),
+    CLAIM(dated_fraction,  ". . . . . . . . . .. 11 .. .. .. 15 .."),
     END_OF_MATRIX,
 };
 

@@ -6,11 +6,11 @@
 #include <string.h>
 
 static const struct claim matrix[] = {
-    /*                          1 2 3 4 5 6 7 8 9 10 11 12 13 14 15 */
-    CLAIM(open,                "1 2 . . . . . . . .. 11 .. .. .. .."),
-    CLAIM(open_with_payment,   "1 2 . . . . . . . .. 11 .. .. .. .."),
-    CLAIM(draw,                ". 2 3 . . . . . . 10 .. .. .. .. .."),
-    CLAIM(next_row,            ". 2 . . . . . . . 10 .. .. .. .. .."),
+    /*                          1 2 3 4 5 6 7 8 9 10 11 12 13 14 15 16 */
+    CLAIM(open,                "1 2 . . . . . . . .. 11 .. .. .. .. .."),
+    CLAIM(open_with_payment,   "1 2 . . . . . . . .. 11 .. .. .. .. .."),
+    CLAIM(draw,                ". 2 3 . . . . . . 10 .. .. .. .. .. .."),
+    CLAIM(next_row,            ". 2 . . . . . . . 10 .. .. .. .. .. .."),
     END_OF_MATRIX,
 };
 
@@ -19,8 +19,8 @@ static const struct claim matrix[] = {
 static const struct function functions[] = {
     { FUNCTION(open), { loan_causes }, loan_deserved },
     { FUNCTION(open_with_payment), { loan_causes, beside_loan_causes }, loan_deserved },
-    { FUNCTION(draw), { state_causes, room_causes }, NULL },
-    { FUNCTION(next_row), { state_causes }, NULL },
+    { FUNCTION(draw), { state_causes, one_month_causes, room_causes }, NULL },
+    { FUNCTION(next_row), { state_causes, one_month_causes }, NULL },
     END_OF_FUNCTIONS,
 };
 

@@ -34,13 +34,13 @@ static void refusals(void) {
     static const enum senyolanda_refusal numbers[] = { SENYOLANDA_ACCEPTED, SENYOLANDA_BAD_AMOUNT, SENYOLANDA_BAD_TERM,
         SENYOLANDA_NO_ROOM, SENYOLANDA_UNEQUAL_LISTS, SENYOLANDA_BAD_KNOT_COUNT, SENYOLANDA_BAD_KNOT, SENYOLANDA_BAD_TIME,
         SENYOLANDA_BAD_FREQUENCY, SENYOLANDA_BAD_NUMBER, SENYOLANDA_PAST_THE_TERM, SENYOLANDA_BAD_RECORD, SENYOLANDA_NO_YIELD,
-        SENYOLANDA_NO_BREAK_EVEN, SENYOLANDA_NO_ROW_DRAWN, SENYOLANDA_BAD_DATE };
-    for (uint32_t i = 0; i < 16; i++) {
+        SENYOLANDA_NO_BREAK_EVEN, SENYOLANDA_NO_ROW_DRAWN, SENYOLANDA_BAD_DATE, SENYOLANDA_BAD_KIND };
+    for (uint32_t i = 0; i < 17; i++) {
         CHECK((uint32_t)numbers[i] == i);
-        for (uint32_t j = 0; j <= 16; j++)
+        for (uint32_t j = 0; j <= 17; j++)
             CHECK((strcmp(senyolanda_refusal_text(i), senyolanda_refusal_text(j)) == 0) == (i == j));
     }
-    CHECK(strcmp(senyolanda_refusal_text(16), senyolanda_refusal_text(UINT32_MAX)) == 0);
+    CHECK(strcmp(senyolanda_refusal_text(17), senyolanda_refusal_text(UINT32_MAX)) == 0);
 }
 
 static void numbers(void) {

@@ -10,8 +10,8 @@
 #include <string.h>
 
 static const struct claim matrix[] = {
-    /*              1 2 3 4 5 6 7 8 9 10 11 12 13 14 15 */
-    CLAIM(listing, "1 2 . . . . . . . .. 11 .. .. .. .."),
+    /*              1 2 3 4 5 6 7 8 9 10 11 12 13 14 15 16 */
+    CLAIM(listing, "1 2 . . . . . . . .. 11 .. .. .. .. .."),
     END_OF_MATRIX,
 };
 

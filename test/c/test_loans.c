@@ -6,13 +6,13 @@
 #include <math.h>
 
 static const struct claim matrix[] = {
-    /*                          1 2 3 4 5 6 7 8 9 10 11 12 13 14 15 */
-    CLAIM(monthly_payment,     "1 2 . . . . . . . .. 11 .. .. .. .."),
-    CLAIM(total_interest,      "1 2 . . . . . . . .. 11 .. .. .. .."),
-    CLAIM(remaining_balance,   "1 2 . . . . . . . .. 11 .. .. .. .."),
-    CLAIM(ltv,                 "1 2 . . . . . . . .. 11 .. .. .. .."),
-    CLAIM(prepayment_savings,  "1 2 . . . . . . . .. 11 .. .. .. .."),
-    CLAIM(refinance_breakeven, "1 2 . . . . . . 9 .. 11 .. 13 .. .."),
+    /*                          1 2 3 4 5 6 7 8 9 10 11 12 13 14 15 16 */
+    CLAIM(monthly_payment,     "1 2 . . . . . . . .. 11 .. .. .. .. .."),
+    CLAIM(total_interest,      "1 2 . . . . . . . .. 11 .. .. .. .. .."),
+    CLAIM(remaining_balance,   "1 2 . . . . . . . .. 11 .. .. .. .. .."),
+    CLAIM(ltv,                 "1 2 . . . . . . . .. 11 .. .. .. .. .."),
+    CLAIM(prepayment_savings,  "1 2 . . . . . . . .. 11 .. .. .. .. .."),
+    CLAIM(refinance_breakeven, "1 2 . . . . . . 9 .. 11 .. 13 .. .. .."),
     END_OF_MATRIX,
 };
 

@@ -6,13 +6,13 @@
 #include <string.h>
 
 static const struct claim matrix[] = {
-    /*                      1 2 3 4 5 6 7 8 9 10 11 12 13 14 15 */
-    CLAIM(monthly_smm,     ". . . . . . . . . .. 11 .. .. .. .."),
-    CLAIM(pool_cash_flows, "1 2 3 . . . 7 . . .. 11 .. .. .. .."),
-    CLAIM(pool_price,      "1 2 . . . . 7 . . .. 11 .. .. .. .."),
-    CLAIM(pool_duration,   "1 2 . . . . 7 . . .. 11 .. .. .. .."),
-    CLAIM(pool_convexity,  "1 2 . . . . 7 . . .. 11 .. .. .. .."),
-    CLAIM(pool_totals,     "1 2 . . . . 7 . . .. 11 .. .. .. .."),
+    /*                      1 2 3 4 5 6 7 8 9 10 11 12 13 14 15 16 */
+    CLAIM(monthly_smm,     ". . . . . . . . . .. 11 .. .. .. .. .."),
+    CLAIM(pool_cash_flows, "1 2 3 . . . 7 . . .. 11 .. .. .. .. .."),
+    CLAIM(pool_price,      "1 2 . . . . 7 . . .. 11 .. .. .. .. .."),
+    CLAIM(pool_duration,   "1 2 . . . . 7 . . .. 11 .. .. .. .. .."),
+    CLAIM(pool_convexity,  "1 2 . . . . 7 . . .. 11 .. .. .. .. .."),
+    CLAIM(pool_totals,     "1 2 . . . . 7 . . .. 11 .. .. .. .. .."),
     END_OF_MATRIX,
 };
 

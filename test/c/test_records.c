@@ -6,17 +6,17 @@
 #include <string.h>
 
 static const struct claim matrix[] = {
-    /*                       1 2 3 4 5 6 7 8 9 10 11 12 13 14 15 */
-    CLAIM(read_loan,        ". . . . . . . . . .. 11 .. .. .. .."),
-    CLAIM(write_loan,       ". . . . . . . . . .. .. .. .. .. .."),
-    CLAIM(read_bond,        ". . . . . . . . . .. 11 .. .. .. .."),
-    CLAIM(write_bond,       ". . . . . . . . . .. 11 .. .. .. .."),
-    CLAIM(read_row,         ". . . . . . . . . .. 11 .. .. .. .."),
-    CLAIM(write_row,        ". . . . . . . . . .. .. .. .. .. .."),
-    CLAIM(read_swap,        ". . . . . . . . . .. 11 .. .. .. .."),
-    CLAIM(write_swap,       ". . . . . . . . . .. 11 .. .. .. .."),
-    CLAIM(read_dated_swap,  ". . . . . . . . . .. 11 .. .. .. .."),
-    CLAIM(write_dated_swap, ". . . . . . . . . .. 11 .. .. .. 15"),
+    /*                       1 2 3 4 5 6 7 8 9 10 11 12 13 14 15 16 */
+    CLAIM(read_loan,        ". . . . . . . . . .. 11 .. .. .. .. .."),
+    CLAIM(write_loan,       ". . . . . . . . . .. .. .. .. .. .. .."),
+    CLAIM(read_bond,        ". . . . . . . . . .. 11 .. .. .. .. .."),
+    CLAIM(write_bond,       ". . . . . . . . . .. 11 .. .. .. .. .."),
+    CLAIM(read_row,         ". . . . . . . . . .. 11 .. .. .. .. .."),
+    CLAIM(write_row,        ". . . . . . . . . .. .. .. .. .. .. .."),
+    CLAIM(read_swap,        ". . . . . . . . . .. 11 .. .. .. .. .."),
+    CLAIM(write_swap,       ". . . . . . . . . .. 11 .. .. .. .. .."),
+    CLAIM(read_dated_swap,  ". . . . . . . . . .. 11 .. .. .. .. .."),
+    CLAIM(write_dated_swap, ". . . . . . . . . .. 11 .. .. .. 15 .."),
     END_OF_MATRIX,
 };
 

@@ -6,22 +6,22 @@
 #include <string.h>
 
 static const struct claim matrix[] = {
-    /*                                      1 2 3 4 5 6 7 8 9 10 11 12 13 14 15 */
-    CLAIM(zero_curve_rate,                 ". . . 4 5 6 7 . . .. .. .. .. .. .."),
-    CLAIM(zero_curve_rate_each,            ". . . 4 5 6 7 . . .. .. .. .. .. .."),
-    CLAIM(swap_curve_rate,                 ". . . 4 5 6 7 . . .. .. .. .. .. .."),
-    CLAIM(swap_curve_rate_each,            ". . . 4 5 6 7 . . .. .. .. .. .. .."),
-    CLAIM(zero_curve_discount_factor,      ". . . 4 5 6 7 . . .. .. .. .. .. .."),
-    CLAIM(zero_curve_discount_factor_each, ". . . 4 5 6 7 . . .. .. .. .. .. .."),
-    CLAIM(zero_curve_forward_rate,         ". . . 4 5 6 7 . . .. .. .. .. .. .."),
-    CLAIM(bond_cash_flows,                 "1 . 3 . . . 7 . 9 .. .. .. .. .. .."),
-    CLAIM(pv_cash_flows,                   ". . . 4 5 6 7 . 9 .. .. .. .. .. .."),
-    CLAIM(z_spread,                        ". . . 4 5 6 7 . 9 .. .. .. .. .. .."),
-    CLAIM(duration_convexity,              ". . . 4 5 6 7 . 9 .. .. .. .. .. .."),
-    CLAIM(dated_pv,                        ". . . 4 5 6 7 . 9 .. .. .. .. .. .."),
-    CLAIM(dated_z_spread,                  ". . . 4 5 6 7 . 9 .. .. .. .. .. .."),
-    CLAIM(dated_duration_convexity,        ". . . 4 5 6 7 . 9 .. .. .. .. .. .."),
-    CLAIM(points_to_decimal,               ". . . . . . . . . .. .. .. .. .. .."),
+    /*                                      1 2 3 4 5 6 7 8 9 10 11 12 13 14 15 16 */
+    CLAIM(zero_curve_rate,                 ". . . 4 5 6 7 . . .. .. .. .. .. .. .."),
+    CLAIM(zero_curve_rate_each,            ". . . 4 5 6 7 . . .. .. .. .. .. .. .."),
+    CLAIM(swap_curve_rate,                 ". . . 4 5 6 7 . . .. .. .. .. .. .. .."),
+    CLAIM(swap_curve_rate_each,            ". . . 4 5 6 7 . . .. .. .. .. .. .. .."),
+    CLAIM(zero_curve_discount_factor,      ". . . 4 5 6 7 . . .. .. .. .. .. .. .."),
+    CLAIM(zero_curve_discount_factor_each, ". . . 4 5 6 7 . . .. .. .. .. .. .. .."),
+    CLAIM(zero_curve_forward_rate,         ". . . 4 5 6 7 . . .. .. .. .. .. .. .."),
+    CLAIM(bond_cash_flows,                 "1 . 3 . . . 7 . 9 .. .. .. .. .. .. .."),
+    CLAIM(pv_cash_flows,                   ". . . 4 5 6 7 . 9 .. .. .. .. .. .. .."),
+    CLAIM(z_spread,                        ". . . 4 5 6 7 . 9 .. .. .. .. .. .. .."),
+    CLAIM(duration_convexity,              ". . . 4 5 6 7 . 9 .. .. .. .. .. .. .."),
+    CLAIM(dated_pv,                        ". . . 4 5 6 7 . 9 .. .. .. .. .. .. .."),
+    CLAIM(dated_z_spread,                  ". . . 4 5 6 7 . 9 .. .. .. .. .. .. .."),
+    CLAIM(dated_duration_convexity,        ". . . 4 5 6 7 . 9 .. .. .. .. .. .. .."),
+    CLAIM(points_to_decimal,               ". . . . . . . . . .. .. .. .. .. .. .."),
     END_OF_MATRIX,
 };
 

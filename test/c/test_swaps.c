@@ -6,20 +6,20 @@
 #include <math.h>
 
 static const struct claim matrix[] = {
-    /*                                 1 2 3 4 5 6 7 8 9 10 11 12 13 14 15 */
-    CLAIM(day_count_fraction,         ". . . . . . . . . .. 11 .. .. .. .."),
-    CLAIM(bootstrap,                  ". . . 4 5 6 . . . .. .. .. .. .. .."),
-    CLAIM(discount_curve_rate,        ". . . 4 5 6 7 . . .. .. .. .. .. .."),
-    CLAIM(discount_curve_rate_each,   ". . . 4 5 6 7 . . .. .. .. .. .. .."),
-    CLAIM(discount_curve_factor,      ". . . 4 5 6 7 . . .. .. .. .. .. .."),
-    CLAIM(discount_curve_factor_each, ". . . 4 5 6 7 . . .. .. .. .. .. .."),
-    CLAIM(fixed_leg_pv,               "1 . . 4 5 6 7 8 9 .. 11 .. .. .. .."),
-    CLAIM(floating_leg_pv,            "1 . . 4 5 6 7 8 9 .. 11 .. .. .. .."),
-    CLAIM(swap_npv,                   "1 . . 4 5 6 7 8 9 .. 11 .. .. .. .."),
-    CLAIM(par_swap_rate,              "1 . . 4 5 6 7 8 9 .. 11 .. .. .. .."),
-    CLAIM(swap_dv01,                  "1 . . 4 5 6 7 8 9 .. 11 .. .. .. .."),
-    CLAIM(swap_duration,              "1 . . 4 5 6 7 8 9 .. 11 .. .. .. .."),
-    CLAIM(value_swap,                 "1 . . 4 5 6 7 8 9 .. 11 .. .. .. .."),
+    /*                                 1 2 3 4 5 6 7 8 9 10 11 12 13 14 15 16 */
+    CLAIM(day_count_fraction,         ". . . . . . . . . .. 11 .. .. .. .. .."),
+    CLAIM(bootstrap,                  ". . . 4 5 6 . . . .. .. .. .. .. .. .."),
+    CLAIM(discount_curve_rate,        ". . . 4 5 6 7 . . .. .. .. .. .. .. .."),
+    CLAIM(discount_curve_rate_each,   ". . . 4 5 6 7 . . .. .. .. .. .. .. .."),
+    CLAIM(discount_curve_factor,      ". . . 4 5 6 7 . . .. .. .. .. .. .. .."),
+    CLAIM(discount_curve_factor_each, ". . . 4 5 6 7 . . .. .. .. .. .. .. .."),
+    CLAIM(fixed_leg_pv,               "1 . . 4 5 6 7 8 9 .. 11 .. .. .. .. .."),
+    CLAIM(floating_leg_pv,            "1 . . 4 5 6 7 8 9 .. 11 .. .. .. .. .."),
+    CLAIM(swap_npv,                   "1 . . 4 5 6 7 8 9 .. 11 .. .. .. .. .."),
+    CLAIM(par_swap_rate,              "1 . . 4 5 6 7 8 9 .. 11 .. .. .. .. .."),
+    CLAIM(swap_dv01,                  "1 . . 4 5 6 7 8 9 .. 11 .. .. .. .. .."),
+    CLAIM(swap_duration,              "1 . . 4 5 6 7 8 9 .. 11 .. .. .. .. .."),
+    CLAIM(value_swap,                 "1 . . 4 5 6 7 8 9 .. 11 .. .. .. .. .."),
     END_OF_MATRIX,
 };
 

@@ -11,35 +11,13 @@
 #include <string.h>
 
 static const struct claim matrix[] = {
-    /*                      1 2 3 4 5 6 7 8 9 10 11 12 13 14 15 */
-    CLAIM(draw_with_years, ". 2 3 . . . . . . 10 .. .. .. .. .."),
-    CLAIM(look_up_year,    ". 2 3 . . . . . . 10 .. .. .. 14 .."),
+    /*                      1 2 3 4 5 6 7 8 9 10 11 12 13 14 15 16 */
+    CLAIM(draw_with_years, ". 2 3 . . . . . . 10 .. .. .. .. .. .."),
+    CLAIM(look_up_year,    ". 2 3 . . . . . . 10 .. .. .. 14 .. .."),
     END_OF_MATRIX,
 };
 
 /* ---- causes ---- */
-
-/* Too few lines for the term are 3 with rows due, without, and past the term: unlike the room's, this cause stays beside 10. */
-static const struct cause line_causes[] = {
-    CAUSE(3, WHOLE(year_places, 0)),
-    CAUSE(3, WHOLE(year_places, 1)),
-    CAUSE(3, WHOLE(year_places, YEAR_WIDTH - 1)),
-    CAUSE(3, WHOLE(year_places, YEAR_WIDTH - 1), WHOLE(loan.term, 1)),
-    CAUSE(3, WHOLE(year_places, 2 * YEAR_WIDTH - 1), WHOLE(loan.term, 13)),
-    CAUSE(3, WHOLE(year_places, 2 * YEAR_WIDTH - 1), WHOLE(loan.term, 24)),
-    CAUSE(3, WHOLE(year_places, 100 * YEAR_WIDTH - 1), WHOLE(loan.term, 1200)),
-    CAUSE(3, WHOLE(year_places, YEAR_WIDTH - 1), WHOLE(done, 12)),
-    CAUSE(3, WHOLE(year_places, YEAR_WIDTH - 1), WHOLE(done, 13)),
-    CAUSE(3, WHOLE(year_places, YEAR_WIDTH - 1), WHOLE(done, UINT32_MAX), WHOLE(places, 0)),
-    TAKEN(WHOLE(year_places, YEAR_WIDTH)),
-    TAKEN(WHOLE(year_places, YEAR_WIDTH + 1)),
-    TAKEN(WHOLE(year_places, 2 * YEAR_WIDTH), WHOLE(loan.term, 13)),
-    TAKEN(WHOLE(year_places, 2 * YEAR_WIDTH), WHOLE(loan.term, 24)),
-    TAKEN(WHOLE(year_places, YEAR_WIDTH), WHOLE(done, 12), WHOLE(places, 0)),
-    TAKEN(NUMBER(years[0], NAN)),
-    TAKEN(NUMBER(years[0], -INFINITY), WHOLE(done, 1)),
-    END_OF_CAUSES,
-};
 
 /* At rest all 12 months are drawn and year 1 is asked for. */
 static const struct cause lookup_causes[] = {
@@ -75,7 +53,7 @@ static const struct cause lookup_causes[] = {
 };
 
 static const struct function functions[] = {
-    { FUNCTION(draw_with_years), { state_causes, room_causes, line_causes }, NULL },
+    { FUNCTION(draw_with_years), { state_causes, one_month_causes, room_causes, line_causes }, NULL },
     { FUNCTION(look_up_year), { lookup_causes }, NULL },
     END_OF_FUNCTIONS,
 };

@@ -1,6 +1,6 @@
 -- Demand 3, proved: every loan whose principal is a finite number of the machine, zero or more, whose term is from 1 to 1,200, and whose kind has no cause of line 16 in it, is opened, at any
 -- rate and with any payment, given or worked out, a NaN included; and the numbers that any sequence of draws to its end wrote into its rooms are its rows, and repay it. Assumes nothing.
-use mathlib.Core.Path.{_≡_, refl, sym, ap, _∙_, subst}
+use mathlib.Core.Path.{_≡_, sym, ap, _∙_, subst}
 use mathlib.Core.Bool.{Bool, true, false, not, _||_}
 use mathlib.Core.List.{_∷_}
 use Prim.Native.Nat.{ℕ, zero, suc, _<_, _≤_}
@@ -13,7 +13,7 @@ use borrow.Author.Tests.{le-ltb, ne-eqb}
 use Rattle.numbers.specs.Clamps.{plusZero}
 use Rattle.numbers.proofs.Amounts.{amount}
 use Rattle.numbers.proofs.Order.{amount-by-tests}
-use Rattle.refusals.specs.Outcome.{accepted, line, firstOr, judged}
+use Rattle.refusals.specs.Outcome.{accepted, line}
 use Rattle.refusals.specs.Table.{badAmount, badTerm}
 use Rattle.refusals.proofs.OneCause.{clear}
 use Rattle.refusals.proofs.Verdicts.{accepted-alike}
@@ -27,6 +27,7 @@ use Rattle.mortgage.specs.Rows.{rows}
 use Rattle.mortgage.specs.Demand3.{filed, Repaid, rowsDue, Repays, OpensAndRepays}
 use Rattle.mortgage.specs.Level as of-level
 use Rattle.mortgage.proofs.DrawCases.{Fits, fits-some}
+use Rattle.mortgage.proofs.LevelLaws.{level-fits}
 use Rattle.mortgage.proofs.Sequences.{filed-to-the-end, starting-term, starting-principal, all-due, loan-opened, lines-passed, opened-level}
 use Rattle.mortgage.proofs.RowsRepay.{repaid}
 
@@ -99,10 +100,6 @@ unfolding kindOpened
 demand3-of-any-kind-worked-out way t = demand3-of-any-kind way t (payment (payingTerms way t))
 
 -- ---- of document 01's loan
-level-fits : (n : ℕ) → Fits level n
-unfolding judged
-level-fits n = refl
-
 pub demand3-given : (t : Terms) (pay : Float) → T (fits binary64 (t .principal)) → T (finite (t .principal)) → T (not (lt (t .principal) plusZero))
     → 0 < t .term → t .term ≤ 1200 → of-level.OpensAndRepays t (openedWith t pay)
 demand3-given t pay fit fin not-below some most =

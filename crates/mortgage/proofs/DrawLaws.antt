@@ -24,7 +24,7 @@ use Rattle.mortgage.specs.Rows.{after, rows}
 use Rattle.mortgage.specs.Draws.{drawLines, count, portion, drawn, filledBy, filled}
 use Rattle.mortgage.specs.Demand3.{rowsIn, handedBack, wrote}
 use Rattle.steps.proofs.Portions.{length-written}
-use Rattle.mortgage.proofs.DrawCases.{rowPlaces, wide, Fits, Drawable, drawable-draws}
+use Rattle.mortgage.proofs.DrawCases.{rowPlaces, wide, Fits, drawable-draws}
 
 module _ (way : Way) where
   -- ---- so many rows are so many times their places

@@ -29,23 +29,28 @@ use Rattle.mortgage.proofs.RowLaws.{done-after}
 use Rattle.mortgage.proofs.DrawCases.{rowPlaces, wide}
 use Rattle.mortgage.proofs.Sequences.{loan-opened}
 
+-- a loan in hand with so many months done, and so much owed
+abbrev standing : Loan → ℕ → Float → Loan
+standing l done balance = record { term = l .term; rate = l .rate; payment = l .payment; done = done; balance = balance }
+
+-- a row of interest alone
+abbrev pub alone : ℕ → Float → Float → Row
+alone month interest balance = record { month = month; payment = interest; principal = plusZero; interest = interest; balance = raised balance }
+
+-- the interest that a loan in hand owes for a month
+abbrev pub owing : Loan → Float
+owing l = interestOf (monthlyRate (l .rate)) (l .balance)
+
 module _ (k : ℕ) where
   abbrev way : Way
   way = interestOnly k
 
   -- ---- one month
-  row-alone : (l : Loan) → l .done < k
-      → rowOf way l ≡ record {
-        month = l .done + 1;
-        payment = interestOf (monthlyRate (l .rate)) (l .balance);
-        principal = plusZero;
-        interest = interestOf (monthlyRate (l .rate)) (l .balance);
-        balance = raised (sub binary64 (l .balance) plusZero);
-      }
+  row-alone : (l : Loan) → l .done < k → rowOf way l ≡ alone (l .done + 1) (owing l) (sub binary64 (l .balance) plusZero)
   unfolding rowOf rowOn inForce interestAlone principal paid remaining
   row-alone l h = rw (lt-ltb (l .done) k h)
 
-  next-alone : (l : Loan) → l .done < k → nextOf way l ≡ record { term = l .term; rate = l .rate; payment = l .payment; done = l .done + 1; balance = sub binary64 (l .balance) plusZero }
+  next-alone : (l : Loan) → l .done < k → nextOf way l ≡ standing l (l .done + 1) (sub binary64 (l .balance) plusZero)
   unfolding nextOf nextOn inForce interestAlone principal remaining
   next-alone l h = rw (lt-ltb (l .done) k h)
 
@@ -60,35 +65,21 @@ module _ (k : ℕ) where
 
   -- ---- the months of interest alone, of any loan in hand
   module _ (l : Loan) (fit : T (fits binary64 (l .balance))) where
-    pub alone-after : (i : ℕ) → l .done + i ≤ k → after way i l ≡ record { term = l .term; rate = l .rate; payment = l .payment; done = l .done + i; balance = l .balance }
+    pub alone-after : (i : ℕ) → l .done + i ≤ k → after way i l ≡ standing l (l .done + i) (l .balance)
     unfolding stepped
-    alone-after zero h = ap (λ (n : ℕ). record { term = l .term; rate = l .rate; payment = l .payment; done = n; balance = l .balance }) (omega arith)
+    alone-after zero h = ap (λ (n : ℕ). standing l n (l .balance)) (omega arith)
     alone-after (suc i) h =
         ap (nextOf way) (alone-after i (omega arith))
-        ∙ next-alone (record { term = l .term; rate = l .rate; payment = l .payment; done = l .done + i; balance = l .balance }) (omega arith)
-        ∙ ap (λ (b : Float). record { term = l .term; rate = l .rate; payment = l .payment; done = l .done + i + 1; balance = b }) (nothing-taken (l .balance) fit)
-        ∙ ap (λ (n : ℕ). record { term = l .term; rate = l .rate; payment = l .payment; done = n; balance = l .balance }) (omega arith)
+        ∙ next-alone (standing l (l .done + i) (l .balance)) (omega arith)
+        ∙ ap (standing l (l .done + i + 1)) (nothing-taken (l .balance) fit)
+        ∙ ap (λ (n : ℕ). standing l n (l .balance)) (omega arith)
 
     -- the row i, from 0
-    pub alone-row : (i : ℕ) → l .done + i < k
-        → rowOf way (after way i l) ≡ record {
-          month = l .done + i + 1;
-          payment = interestOf (monthlyRate (l .rate)) (l .balance);
-          principal = plusZero;
-          interest = interestOf (monthlyRate (l .rate)) (l .balance);
-          balance = raised (l .balance);
-        }
+    pub alone-row : (i : ℕ) → l .done + i < k → rowOf way (after way i l) ≡ alone (l .done + i + 1) (owing l) (l .balance)
     alone-row i h =
         ap (rowOf way) (alone-after i (omega arith))
-        ∙ row-alone (record { term = l .term; rate = l .rate; payment = l .payment; done = l .done + i; balance = l .balance }) (omega arith)
-        ∙ ap (λ (b : Float). record {
-          month = l .done + i + 1;
-          payment = interestOf (monthlyRate (l .rate)) (l .balance);
-          principal = plusZero;
-          interest = interestOf (monthlyRate (l .rate)) (l .balance);
-          balance = raised b;
-        })
-        (nothing-taken (l .balance) fit)
+        ∙ row-alone (standing l (l .done + i) (l .balance)) (omega arith)
+        ∙ ap (alone (l .done + i + 1) (owing l)) (nothing-taken (l .balance) fit)
 
   -- ---- behind them, of any loan in hand
   pub level-after : (n : ℕ) (l : Loan) → k ≤ l .done → after way n l ≡ of-level.after n l
@@ -116,12 +107,12 @@ module _ (k : ℕ) where
       abbrev interestDue : Float
       interestDue = interestOf (monthlyRate (t .rate)) (t .principal)
 
-      row-is : rowOf way (after way i l) ≡ record { month = i + 1; payment = interestDue; principal = plusZero; interest = interestDue; balance = raised (t .principal) }
+      row-is : rowOf way (after way i l) ≡ alone (i + 1) interestDue (t .principal)
       unfolding loanOf
       row-is =
           ap (λ (m : Loan). rowOf way (after way i m)) opened-is
           ∙ alone-row (loanOf t pay) fit i (omega arith)
-          ∙ ap (λ (m : ℕ). record { month = m; payment = interestDue; principal = plusZero; interest = interestDue; balance = raised (t .principal) }) (omega arith)
+          ∙ ap (λ (m : ℕ). alone m interestDue (t .principal)) (omega arith)
 
       pub payment-shown : columnAt width paymentPlace (rows way n l) i ≡ interestDue
       payment-shown = column (nextOf way) (rowPlaces way) width (wide way) n l i paymentPlace nan among (omega arith) ∙ ap (λ (r : Row). r .payment) row-is
@@ -139,7 +130,6 @@ module _ (k : ℕ) where
     pub level-behind : (n : ℕ) → rows way n (after way k l) ≡ of-level.rows n (record { term = t .term; rate = t .rate; payment = pay; done = k; balance = t .principal })
     unfolding loanOf
     level-behind n =
-        let is : after way k l ≡ record { term = t .term; rate = t .rate; payment = pay; done = k; balance = t .principal } =
-        ap (after way k) opened-is ∙ alone-after (loanOf t pay) fit k (omega arith) ∙ ap (λ (m : ℕ). record { term = t .term; rate = t .rate; payment = pay; done = m; balance = t .principal }) (omega arith)
-        in
-        ap (rows way n) is ∙ level-rows n (record { term = t .term; rate = t .rate; payment = pay; done = k; balance = t .principal }) (omega arith)
+        let m : Loan = standing (loanOf t pay) k (t .principal) in
+        let is : after way k l ≡ m = ap (after way k) opened-is ∙ alone-after (loanOf t pay) fit k (omega arith) ∙ ap (λ (d : ℕ). standing (loanOf t pay) d (t .principal)) (omega arith) in
+        ap (rows way n) is ∙ level-rows n m (omega arith)

@@ -1,10 +1,12 @@
 pub mod RuleLaws
 pub mod RowLaws
+pub mod KindLaws
 pub mod RowFits
 pub mod RowsLaid
 pub mod SteadyKinds
 pub mod DrawCases
 pub mod YearByYear
+pub mod RatesHeld
 pub mod DrawOrder
 pub mod PlaceLaws
 pub mod DrawLaws
@@ -20,6 +22,9 @@ pub mod Summing
 pub mod Worked
 pub mod YearsWorked
 pub mod InterestOnly
+pub mod Balloon
+pub mod Adjustable
+pub mod KindsWorked
 pub mod RowColumns
 pub mod PayingDown
 pub mod BreakEvens

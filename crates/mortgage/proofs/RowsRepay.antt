@@ -2,7 +2,7 @@
 -- shows its principal and what is left, a month's principal is a part of the balance, and the last month's is the balance. Assumes nothing.
 use mathlib.Core.Path.{_≡_, refl, sym, ap, _∙_, subst}
 use mathlib.Core.Bool.{Bool, true, false, cond, not, _||_}
-use mathlib.Core.List.{[], _∷_}
+use mathlib.Core.List.{[]}
 use Prim.Native.Nat.{ℕ, suc, _+_, _<_, _≤_}
 use native.Mathlib.Omega.{arith}
 use lib.Dec.{T, eqb, ltb}
@@ -11,7 +11,7 @@ use borrow.Author.Tests.{eq-eqb, le-ltb, ltb-true}
 use Rattle.numbers.specs.Clamps.{plusZero}
 use Rattle.numbers.proofs.Amounts.{amount}
 use Rattle.numbers.proofs.Clamping.{PartOf}
-use Rattle.refusals.specs.Outcome.{accepted, line}
+use Rattle.refusals.specs.Outcome.{line}
 use Rattle.refusals.specs.Table.{badPeriod}
 use Rattle.refusals.proofs.Judging.{none-is, passed}
 use Rattle.steps.proofs.Repaying as repaying

@@ -72,8 +72,7 @@ module _ (way : Way) where
   a-draw : (l : Loan) (room : List Float) → Good l → (due way (handsBack way l room) ≡ due way l - count way l (length room)) × Good (handsBack way l room)
   a-draw l room good =
       let k : ℕ = rowsIn (drawn way l room) in
-      let term : handsBack way l room .term ≡ l .term = ap (λ (m : Loan). m .term) (handed-back way l room) ∙ term-after way k l in
-      (
+      let term : handsBack way l room .term ≡ l .term = ap (λ (m : Loan). m .term) (handed-back way l room) ∙ term-after way k l in (
         ap (due way) (handed-back way l room) ∙ due-after way k l ∙ ap (λ (n : ℕ). due way l - n) (rows-drawn way l room (good .0) (good .1)),
         (ap badTerm term ∙ good .0, subst (Fits way) (sym term) (good .1)),
       )

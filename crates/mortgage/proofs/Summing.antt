@@ -25,7 +25,7 @@ use Rattle.steps.proofs.Calls as calls
 use Rattle.mortgage.specs.declared.Loan.{Loan}
 use Rattle.mortgage.specs.declared.draws.Portion.{Portion}
 use Rattle.mortgage.specs.Row.{width, principalPlace, interestPlace, balancePlace}
-use Rattle.mortgage.specs.Kinds.{Way, level, courseOf}
+use Rattle.mortgage.specs.Kinds.{Way, level}
 use Rattle.mortgage.specs.Payment.{payment, loanOf, openedWith, opened}
 use Rattle.mortgage.specs.Openings.{payingTerms, kindOpenedWith, kindOpened}
 use Rattle.mortgage.specs.Month.{endMonth, due, rowOf, nextOf}

@@ -142,7 +142,7 @@ module _ (a : Adjustment) (index : List Float) where
             -- a year that ends here leaves its rate, and the next begins where it ends
             module _ (l′ : Loan) (el : l′ ≡ afterOn c n begun) (coming′ : Coming) where
               pub next-at-hand : (11 < begun .done + (12 - begun .done % 12) → begun .done + (12 - begun .done % 12) < begun .term
-                      → coming′ ≡ comingBehind a (begun .rate) (begun .done + (12 - begun .done % 12)) (begun .term) index)
+                  → coming′ ≡ comingBehind a (begun .rate) (begun .done + (12 - begun .done % 12)) (begun .term) index)
                   → AtHand l′ coming′
               next-at-hand e y b =
                   let z = later-year (l′ .done) y in
@@ -154,7 +154,7 @@ module _ (a : Adjustment) (index : List Float) where
 
               pub a-year : (part : List Float) → part ≡ laid width n (rowsOn c n begun) (take (length room - k * width) (drop (k * width) room))
                   → (11 < begun .done + (12 - begun .done % 12) → begun .done + (12 - begun .done % 12) < begun .term
-                      → coming′ ≡ comingBehind a (begun .rate) (begun .done + (12 - begun .done % 12)) (begun .term) index)
+                  → coming′ ≡ comingBehind a (begun .rate) (begun .done + (12 - begun .done % 12)) (begun .term) index)
                   → Underway (take (k * width) room ++ (part ++ drop (length room - k * width) (drop (k * width) room))) l′ coming′ (k + n)
               a-year part ep e =
                   let j =

@@ -65,7 +65,6 @@ adjustedTo rate l = record {
   balance = l .balance;
 }
 
-
 -- a later year's first month has its own rate and payment; every other month has those that the loan holds
 unfoldable pub inForce : Way → Loan → Loan
 inForce level l = l

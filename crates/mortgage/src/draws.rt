@@ -163,7 +163,13 @@ fn lay_course(loan: Loan, course: Course, room: &mut [f64], count: u32) -> Loan
 }
 
 // The next rows of an adjustable loan, year by year: what the next year begins with is worked out before this year's rows, which it does not wait for.
-fn lay_years(adjustment: Adjustment, loan: Loan, index: &[f64], room: &mut [f64], count: u32) -> Loan
+fn lay_years(
+    adjustment: Adjustment,
+    loan: Loan,
+    index: &[f64],
+    room: &mut [f64],
+    count: u32,
+) -> Loan
     requires { ⌜ (count * width ≤ length (now room)) × (loan .done + count ≤ loan .term) × (laterYears (loan .term) ≤ length (now index)) ⌝ }
     requires { ⌜ loan .term ≤ 1200 ⌝ }
     ensures { λ r. ⌜ r ≡ after (adjustable adjustment (now (index .entry))) count loan ⌝ }

@@ -52,7 +52,13 @@ pub(crate) struct Coming {
 }
 
 // What the year behind so many months begins with, where the term has one.
-pub(crate) fn coming_behind(adjustment: Adjustment, last: f64, done: u32, term: u32, index: &[f64]) -> Coming
+pub(crate) fn coming_behind(
+    adjustment: Adjustment,
+    last: f64,
+    done: u32,
+    term: u32,
+    index: &[f64],
+) -> Coming
     requires { ⌜ laterYears term ≤ length (now index) ⌝ }
     ensures { λ r. ⌜ (11 < done → done < term → r ≡ comingBehind adjustment last done term (now (index .entry))) ⌝ }
 {

@@ -161,7 +161,13 @@ fn enter_rows(room: &[f64], count: u32, done: u32, years: &mut [f64])
 }
 
 // The draw of a loan of any kind, with the rows that it wrote entered into their years' lines. It hands the loan back as the draw does.
-pub fn draw_kind_with_years(kind: Kind, loan: Loan, index: &[f64], room: &mut [f64], years: &mut [f64]) -> Drawing
+pub fn draw_kind_with_years(
+    kind: Kind,
+    loan: Loan,
+    index: &[f64],
+    room: &mut [f64],
+    years: &mut [f64],
+) -> Drawing
     ensures { λ r. ⌜ drawingOutcome r ≡ drawnWithYears (wayOf kind (now (index .entry))) loan (now (room .entry)) (now (years .entry)) ⌝ }
     ensures { λ _. ⌜ now (room .exit) ≡ filledWithYears (wayOf kind (now (index .entry))) loan (now (room .entry)) (now (years .entry)) ⌝ }
     ensures { λ _. ⌜ now (years .exit) ≡ summed (wayOf kind (now (index .entry))) loan (now (room .entry)) (now (years .entry)) ⌝ }

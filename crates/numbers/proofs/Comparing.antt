@@ -15,7 +15,7 @@ pub clash : {Goal : Type 0} → false ≡ true → Goal
 clash e = absurd (let z : _≡_ {A = ℕ} 0 1 = cc in omega arith)
 
 -- ---- ±a at or below ±b, as sizes over one denominator: ±b is not below ±a
-abbrev AtMost : Bool → ℕ → Bool → ℕ → Type 0
+abbrev pub AtMost : Bool → ℕ → Bool → ℕ → Type 0
 AtMost false a false b = a ≤ b
 AtMost false a true b = a + b ≡ 0
 AtMost true a false b = 0 ≤ b
@@ -63,24 +63,24 @@ module _ (x y z d e f : ℕ) (d⁺ : 0 < d) (e⁺ : 0 < e) (f⁺ : 0 < f) where
   through true true true h g = le-of-mul-le-mul-right {k = e} (omega (arith, mul-le-mul-right f h, mul-le-mul-right d g)) e⁺
 
 -- ---- what is no NaN
-abbrev Real : Float → Type 0
+abbrev pub Real : Float → Type 0
 Real nan = ⊥
 Real (inf s) = Unit
 Real (fin s m e) = Unit
 
-finite-real : (x : Float) → finite x ≡ true → Real x
+pub finite-real : (x : Float) → finite x ≡ true → Real x
 finite-real nan h = clash h
 finite-real (inf s) h = tt
 finite-real (fin s m e) h = tt
 
 -- what is compared is no NaN
-first-real : (x y : Float) → le x y ≡ true → Real x
+pub first-real : (x y : Float) → le x y ≡ true → Real x
 unfolding le lt eq
 first-real nan y h = clash h
 first-real (inf s) y h = tt
 first-real (fin s m e) y h = tt
 
-second-real : (x y : Float) → le x y ≡ true → Real y
+pub second-real : (x y : Float) → le x y ≡ true → Real y
 unfolding le lt eq
 second-real nan y h = clash h
 second-real (inf s) nan h = clash h
@@ -179,7 +179,7 @@ le-is (fin s m e) (inf false) a b = refl
 le-is (fin s m e) (inf true) a b = refl
 le-is (fin s m e) (fin t n d) a b = below-or-level s t (m * up e * down d) (n * up d * down e)
 
-at-or-below-real : (x y : Float) → Real x → Real y → lt y x ≡ false → le x y ≡ true
+pub at-or-below-real : (x y : Float) → Real x → Real y → lt y x ≡ false → le x y ≡ true
 at-or-below-real x y a b h = le-is x y a b ∙ ap not h
 
 -- of two numbers, x is at or below y where y is not below x
@@ -269,3 +269,15 @@ finite-between (inf false) nan h k = clash k
 finite-between (inf false) (inf t) h k = clash k
 finite-between (inf false) (fin t n d) h k = clash k
 finite-between (fin s m e) y h k = refl
+
+-- what lies between two finite numbers is finite
+pub finite-within : (x y z : Float) → finite x ≡ true → finite z ≡ true → le x y ≡ true → le y z ≡ true → finite y ≡ true
+unfolding le lt eq
+finite-within x nan z h g k l = l
+finite-within x (inf false) nan h g k l = l
+finite-within x (inf false) (inf t) h g k l = g
+finite-within x (inf false) (fin t n d) h g k l = l
+finite-within nan (inf true) z h g k l = h
+finite-within (inf s) (inf true) z h g k l = h
+finite-within (fin s m e) (inf true) z h g k l = k
+finite-within x (fin t n d) z h g k l = refl

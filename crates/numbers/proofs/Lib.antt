@@ -13,6 +13,7 @@ pub mod Ratios
 pub mod Truncation
 pub mod WholeNumbers
 pub mod Differences
+pub mod Growing
 pub mod Clamping
 pub mod Sums
 pub mod Repayment

@@ -31,7 +31,7 @@ module _ {Item : Type 0} (k : ℕ) (bad : Item → Bool) (items : List Item) (d 
   abbrev pub Rest : ℕ → Outcome Unit
   Rest i = firstOr k i (map bad (drop i items)) (accepted tt)
 
-  turn : (i : ℕ) → i < length items → Rest i ≡ cond (bad (getD items i d)) (refused k i) (Rest (i + 1))
+  pub turn : (i : ℕ) → i < length items → Rest i ≡ cond (bad (getD items i d)) (refused k i) (Rest (i + 1))
   unfolding firstOr
   turn i h = rw (add-one, drop-cons items i d)
 

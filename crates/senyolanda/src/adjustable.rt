@@ -11,12 +11,12 @@ ghost use Rattle.mortgage.specs.Draws.{drawn, filled};
 ghost use Rattle.mortgage.specs.YearDraws.{drawnWithYears, filledWithYears, summed};
 ghost use Rattle.senyolanda.specs.Told.{told};
 ghost use Rattle.senyolanda.specs.Loans.{adjustmentOf, loanIn, loanNumbers, portionNumbers, kindNextNumbers};
-use crate::loans::AMOUNTS;
-use crate::loans::COUNTS;
 use crate::kinds::draw_kind;
 use crate::kinds::draw_kind_with_years;
 use crate::kinds::next_kind_row;
 use crate::kinds::open_kind;
+use crate::loans::AMOUNTS;
+use crate::loans::COUNTS;
 use mortgage::kinds::Adjustment;
 use mortgage::kinds::Kind;
 

@@ -11,13 +11,13 @@ ghost use Rattle.mortgage.specs.YearDraws.{drawnWithYears, filledWithYears, sum
 ghost use Rattle.mortgage.specs.Years.{yearPlaces};
 ghost use Rattle.senyolanda.specs.Told.{told};
 ghost use Rattle.senyolanda.specs.Loans.{loanIn, loanNumbers, portionNumbers, kindNextNumbers};
-use crate::loans::AMOUNTS;
-use crate::loans::COUNTS;
 use crate::kinds::NO_INDEX;
 use crate::kinds::draw_kind;
 use crate::kinds::draw_kind_with_years;
 use crate::kinds::next_kind_row;
 use crate::kinds::open_kind;
+use crate::loans::AMOUNTS;
+use crate::loans::COUNTS;
 use crate::loans::loan_in;
 use crate::loans::put_loan;
 use crate::results::refusal_result;

@@ -10,13 +10,13 @@ ghost use Rattle.mortgage.specs.Draws.{drawn, filled};
 ghost use Rattle.mortgage.specs.YearDraws.{drawnWithYears, filledWithYears, summed};
 ghost use Rattle.senyolanda.specs.Told.{told};
 ghost use Rattle.senyolanda.specs.Loans.{loanIn, loanNumbers, portionNumbers, kindNextNumbers};
-use crate::loans::AMOUNTS;
-use crate::loans::COUNTS;
 use crate::kinds::NO_INDEX;
 use crate::kinds::draw_kind;
 use crate::kinds::draw_kind_with_years;
 use crate::kinds::next_kind_row;
 use crate::kinds::open_kind;
+use crate::loans::AMOUNTS;
+use crate::loans::COUNTS;
 use crate::loans::put_loan;
 use crate::results::refusal_result;
 use mortgage::kinds::Kind;
@@ -32,7 +32,13 @@ pub extern "C" fn senyolanda_open_interest_only(
 ) -> u64
     ensures { λ r. ⌜ (r, (now (counts .exit), now (amounts .exit))) ≡ told loanNumbers (andThen (readTerms (now («record» .entry))) (kindOpened (interestOnly months))) (now (counts .entry), now (amounts .entry)) ⌝ }
 {
-    open_kind(record, Kind::InterestOnly(months), &NO_INDEX, counts, amounts)
+    open_kind(
+        record,
+        Kind::InterestOnly(months),
+        &NO_INDEX,
+        counts,
+        amounts,
+    )
 }
 
 // Opens it with a given payment.

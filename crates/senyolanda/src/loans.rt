@@ -64,7 +64,11 @@ fn hand_back(loan: Loan, counts: &mut [u32; COUNTS], amounts: &mut [f64; AMOUNTS
 }
 
 // A loan that was opened.
-pub(crate) fn put_loan(opening: Opening, counts: &mut [u32; COUNTS], amounts: &mut [f64; AMOUNTS]) -> u64
+pub(crate) fn put_loan(
+    opening: Opening,
+    counts: &mut [u32; COUNTS],
+    amounts: &mut [f64; AMOUNTS],
+) -> u64
     ensures { λ r. ⌜ (r, (now (counts .exit), now (amounts .exit))) ≡ told loanNumbers (openingOutcome opening) (now (counts .entry), now (amounts .entry)) ⌝ }
 {
     match opening {

@@ -70,8 +70,7 @@ lay-stretch-requires-2 c κs =
     let k = f .result in
     let a = s .args in
     let h : k ≤ a .count = omega (arith, f .ensures) in
-    let o : a .course .only ≤ a .loan .done + k = omega (arith, f .ensures, c .before .if2 .left) in
-    (
+    let o : a .course .only ≤ a .loan .done + k = omega (arith, f .ensures, c .before .if2 .left) in (
       room-left (nextOn (a .course)) (placesOn (a .course)) width (wide-on (a .course)) (now (a .room)) (y .last .1 .1 .0) k (a .count) (y .kept .1 .1 .0) h (s .pre .0),
       not-alone-on (a .course) k (a .loan) _ (y .ensures .0) o,
       rest-due (a .course) k (a .count) (a .loan) _ (y .ensures .0) h (s .pre .1),

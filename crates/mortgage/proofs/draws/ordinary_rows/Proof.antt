@@ -29,8 +29,7 @@ ordinary-month-requires c κs =
     let h = c .before .before .before .before .before .before in
     let s = h .before .before .before in
     let i = h .loop .inv in
-    let w = c .before .before .before .before .before .loop-test .taken in
-    (
+    let w = c .before .before .before .before .before .loop-test .taken in (
       (not-alone-on (s .args .course) (h .loop .k) (s .args .loan) _ (i .1) (omega (arith, s .pre .1)), next-not-last (s .args .course) (h .loop .k) (s .args .most) _ _ (i .1) w (s .pre .2)),
       ((rw (h .before .monthly-rate .ensures) (interest-on (s .args .course) (h .loop .k) (s .args .loan) _ (i .1)), refl), (c .before .before .if1 .taken, c .if2 .taken)),
     )

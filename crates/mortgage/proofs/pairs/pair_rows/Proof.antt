@@ -104,7 +104,7 @@ loop-again c =
     let i = h .loop .inv in
     a-turn (nextOf level) (rowPlaces level) width (wide level) (now (s .args .room)) (s .args .a) (s .args .b) (s .args .first) (s .args .second) (s .args .most) (h .loop .room) (first .last .0) (second .last .0)
     (h .loop .x) (h .loop .y) (x .result .next) (y .result .next) (h .loop .x-at) (h .loop .y-at) (h .loop .k) (places (x .result .row)) (places (y .result .row))
-    (s .pre .0 .1) (h .loop .inv) (c .before .before .before .before .before .before .before .before .before .before .before .before .before .before .before .before .before .before .before .before .before .before .before .before .loop-test .taken) 
+    (s .pre .0 .1) (h .loop .inv) (c .before .before .before .before .before .before .before .before .before .before .before .before .before .before .before .before .before .before .before .before .before .before .before .before .loop-test .taken)
     (ap places (x .ensures .0 ∙ level-row (xc .result) (h .loop .k) (s .args .first) (h .loop .x) (xc .ensures) (i .1))) (x .ensures .1 ∙ level-next (xc .result) (h .loop .k) (s .args .first) (h .loop .x) (xc .ensures) (i .1))
     (ap places (y .ensures .0 ∙ level-row (yc .result) (h .loop .k) (s .args .second) (h .loop .y) (yc .ensures) (i .2))) (y .ensures .1 ∙ level-next (yc .result) (h .loop .k) (s .args .second) (h .loop .y) (yc .ensures) (i .2))
     (first .ensures) (second .ensures) (second .kept .0 ∙ first .kept .0)

@@ -15,11 +15,10 @@ returns c =
     let a = c .before .before in
     let l = a .args .loan in
     let p = a .args .principal in
-    let ei = a .pre .1 .0 .0 in
-    let ep = a .pre .1 .0 .1 in
-    let t = a .pre .1 .1 in
-    other-month l p (a .args .interest) _ _ _ (λ h. omega arith) ei (within p (l .balance) (t .0) (t .1) ∙ rw ep)
-    (left-as-it-is (l .balance) p (a .good .0 .1 .1 .1 .1 .1 .1 .0 .1) (a .good .1 .1 .0 .1) (t .0) (t .1)) (c .month-of .ensures .0) (c .month-of .ensures .1)
+    let amounts = a .pre .1 .0 in
+    let bounds = a .pre .1 .1 in
+    other-month (a .args .course) l (a .args .interest) _ _ (amounts .0) p (a .pre .0 .0) (λ h. omega arith) (within p (l .balance) (bounds .0) (bounds .1) ∙ rw (amounts .1))
+    (rw (← left-as-it-is (l .balance) p (a .good .0 .1 .1 .1 .1 .1 .1 .0 .1) (a .good .1 .1 .1 .0 .1) (bounds .0) (bounds .1)) (c .month-of .ensures .0)) (c .month-of .ensures .1)
 
 pub ordinary-month-spec : {M : Type 1} → statement M
 ordinary-month-spec = tie.close (tie.spec month-of-requires returns)
