@@ -22,7 +22,7 @@ use Rattle.steps.specs.Steps.{laid}
 use Rattle.mortgage.specs.declared.Loan.{Loan}
 use Rattle.mortgage.specs.declared.draws.Portion.{Portion}
 use Rattle.mortgage.specs.Row.{width, places}
-use Rattle.mortgage.specs.Kinds.{Way, level, interestOnly, balloon, adjustable, laterYears, entriesRead, badAdjustment, kindLines}
+use Rattle.mortgage.specs.Kinds.{Way, level, interestOnly, balloon, adjustable, laterYears, entriesRead, badAdjustment, badEnd, kindLines}
 use Rattle.mortgage.specs.Month.{endMonth, due, rowOf}
 use Rattle.mortgage.specs.Rows.{rows, stateLines}
 use Rattle.mortgage.specs.Draws.{drawLines, portion, drawn, filledBy, filled}
@@ -56,13 +56,22 @@ fits-listed (adjustable a index) term f =
     let single = alone-none (badInitial (a .initial) || badCap (a .cap) || badCap (a .lifetime) || tooFewEntries (laterYears term) (length index)) (map badEntry (entriesRead index term)) (none-is (passed tt tt (badAdjustment a index term) [] f .0) 0) in
     ltb-false (length index) (laterYears term) (neither (badInitial (a .initial) || badCap (a .cap) || badCap (a .lifetime)) (tooFewEntries (laterYears term) (length index)) single .1)
 
+pub fits-end : (way : Way) (term : ℕ) → Fits way term → badEnd way term ≡ false
+fits-end level term f = refl
+fits-end (interestOnly months) term f = refl
+fits-end (balloon month) term f = one-none 16 (badBalloon month term) f
+fits-end (adjustable a index) term f = refl
+
 -- it ends within the term
-pub fits-ends : (way : Way) (l : Loan) → Fits way (l .term) → endMonth way l ≤ l .term
+pub ends-within : (way : Way) (l : Loan) → badEnd way (l .term) ≡ false → endMonth way l ≤ l .term
 unfolding endMonth badBalloon
-fits-ends level l f = omega arith
-fits-ends (interestOnly months) l f = omega arith
-fits-ends (balloon month) l f = ltb-false (l .term) month (neither (eqb month 0) (ltb (l .term) month) (one-none 16 (badBalloon month (l .term)) f) .1)
-fits-ends (adjustable a index) l f = omega arith
+ends-within level l b = omega arith
+ends-within (interestOnly months) l b = omega arith
+ends-within (balloon month) l b = ltb-false (l .term) month (neither (eqb month 0) (ltb (l .term) month) b .1)
+ends-within (adjustable a index) l b = omega arith
+
+pub fits-ends : (way : Way) (l : Loan) → Fits way (l .term) → endMonth way l ≤ l .term
+fits-ends way l f = ends-within way l (fits-end way (l .term) f)
 
 not-zero : (n : ℕ) (b : Bool) → (eqb n 0 || b) ≡ false → 0 < n
 not-zero n b e = let h = eqb-false n 0 (neither (eqb n 0) b e .0) in omega arith

@@ -25,7 +25,7 @@ use Rattle.steps.proofs.Calls as calls
 use Rattle.mortgage.specs.declared.Loan.{Loan}
 use Rattle.mortgage.specs.declared.draws.Portion.{Portion}
 use Rattle.mortgage.specs.Row.{width, principalPlace, interestPlace, balancePlace}
-use Rattle.mortgage.specs.Kinds.{Way, level}
+use Rattle.mortgage.specs.Kinds.{Way, level, badEnd}
 use Rattle.mortgage.specs.Payment.{payment, loanOf, openedWith, opened}
 use Rattle.mortgage.specs.Openings.{payingTerms, kindOpenedWith, kindOpened}
 use Rattle.mortgage.specs.Month.{endMonth, due, rowOf, nextOf}
@@ -38,7 +38,7 @@ use Rattle.mortgage.specs.inner.RoomRows.{withRows}
 use Rattle.mortgage.specs.Level as of-level
 use Rattle.mortgage.specs.Summary.{Kept, wroteWithYears, keptAfter, filedWithYears, kept, yearsBegun, SumsUp}
 use Rattle.mortgage.proofs.RowLaws.{term-after, end-after, done-after, due-after}
-use Rattle.mortgage.proofs.DrawCases.{rowPlaces, wide, Fits, fits-ends}
+use Rattle.mortgage.proofs.DrawCases.{rowPlaces, wide, Fits, fits-end, fits-ends}
 use Rattle.mortgage.proofs.DrawLaws.{length-rows, written-within, hands-on}
 use Rattle.mortgage.proofs.Sequences.{starting-term, loan-opened, lines-passed, opened-level}
 use Rattle.mortgage.proofs.Demand3.{as-opened-of-any-kind}
@@ -150,7 +150,7 @@ module _ (way : Way) where
       line-of-year = of-its-rows ∙ definition-is
 
     -- and a lookup gives it, or is refused
-    module _ (good : badTerm (l .term) ≡ false) (most : n ≤ endMonth way l) (in-term : n ≤ l .term) (enough : startedYears (l .term) * yearWidth ≤ length years) where
+    module _ (good : badTerm (l .term) ≡ false) (most : n ≤ endMonth way l) (ends : badEnd way (l .term) ≡ false) (enough : startedYears (l .term) * yearWidth ≤ length years) where
       abbrev m : Loan
       m = after way n l
 
@@ -177,7 +177,7 @@ module _ (way : Way) where
         looked-up = λ year some begun. found year some (as-begun year begun);
         no-row-drawn = λ year other. elim other [
           | inl z ↦ sym (lookup-year-0 way m lines year good-still enough-still not-past z)
-          | inr h ↦ sym (lookup-no-row way m lines year good-still enough-still not-past (λ z. omega arith) (omega (arith, as-not-begun year h, done-is)))
+          | inr h ↦ sym (lookup-no-row way m lines year good-still enough-still not-past (λ z. omega arith) (rw done-is (as-not-begun year h)))
         ];
       }
         where
@@ -189,7 +189,7 @@ module _ (way : Way) where
 
           found : (year : ℕ) → 0 < year → year ≤ startedYears n → lookedUp way m lines year ≡ accepted (yearLine numbers year)
           found year some begun =
-              sym (lookup-found way m lines year good-still enough-still not-past (λ z. omega arith) (omega (arith, begun, done-is, in-term, term-after way n l))) ∙ ap accepted (line-of-year year some begun)
+              sym (lookup-found way m lines year good-still enough-still not-past (λ z. omega arith) (rw done-is begun) (rw (term-after way n l) ends)) ∙ ap accepted (line-of-year year some begun)
 
   -- ---- from an opening, whatever the rooms
   module _ (t : Terms) (pay : Float) (l : Loan) (e : kindOpenedWith way t pay ≡ accepted l) (years : List Float) where
@@ -211,11 +211,12 @@ module _ (way : Way) where
         let none : l .done ≡ 0 = ap (λ (x : Loan). x .done) is in
         let f = all-move rooms (l, years) in
         let n : ℕ = f .many in
-        let ends : endMonth way l ≤ l .term = fits-ends way l (subst (Fits way) (sym term) (lines .2)) in
+        let kind-fits : Fits way (l .term) = subst (Fits way) (sym term) (lines .2) in
+        let ends : endMonth way l ≤ l .term = fits-ends way l kind-fits in
         let most : n ≤ endMonth way l = omega (arith, f .within) in
         let lent : startedYears (l .term) * yearWidth ≤ length years = rw term enough in
         let good : badTerm (l .term) ≡ false = ap badTerm term ∙ lines .1 in
-        rw (f .state, stepped-is n (l, years), f .by-the-rule, written-are n (l, years)) (sums-up l none years n (omega arith) good most (omega (arith, most, ends)) lent)
+        rw (f .state, stepped-is n (l, years), f .by-the-rule, written-are n (l, years)) (sums-up l none years n (omega arith) good most (fits-end way (l .term) kind-fits) lent)
 
   pub summed-up-of-any-kind-worked-out : (t : Terms) (l : Loan) → kindOpened way t ≡ accepted l → (years : List Float) → startedYears (t .term) * yearWidth ≤ length years
       → (rooms : List (List Float)) → SumsUp way (kept way (l, years) rooms) (filedWithYears way (l, years) rooms)

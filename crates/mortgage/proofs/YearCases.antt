@@ -2,7 +2,7 @@
 use mathlib.Core.Path.{_≡_, refl, sym, ap, _∙_}
 use mathlib.Core.Bool.{true, false}
 use mathlib.Core.List.{List}
-use Prim.Native.Nat.{ℕ, _+_, _-_, _*_, _/_, _<_, _≤_, min}
+use Prim.Native.Nat.{ℕ, _+_, _-_, _*_, _/_, _<_, _≤_}
 use native.Mathlib.Omega.{arith}
 use lib.ListN.{length}
 use lib.Ieee.{Float}
@@ -16,7 +16,7 @@ use Rattle.steps.specs.Steps.{laid}
 use Rattle.mortgage.specs.declared.Loan.{Loan}
 use Rattle.mortgage.specs.declared.draws.Portion.{Portion}
 use Rattle.mortgage.specs.Row.{width}
-use Rattle.mortgage.specs.Kinds.{Way}
+use Rattle.mortgage.specs.Kinds.{Way, badEnd}
 use Rattle.mortgage.specs.Month.{endMonth, due}
 use Rattle.mortgage.specs.Rows.{rows}
 use Rattle.mortgage.specs.Draws.{drawLines, portion, drawn, filledBy, filled}
@@ -63,13 +63,18 @@ module _ (way : Way) where
       unfolding lookedUp judged firstOr pastEnd noRowDrawn
       lookup-year-0 h z = rw (t, f, le-ltb (endMonth way l) (l .done) h, eq-eqb year 0 z)
 
-      pub lookup-no-row : l .done ≤ endMonth way l → (year ≡ 0 → ⊥) → startedYears (min (l .done) (l .term)) < year → refused 14 0 ≡ lookedUp way l years year
+      pub lookup-no-row : l .done ≤ endMonth way l → (year ≡ 0 → ⊥) → startedYears (l .done) < year → refused 14 0 ≡ lookedUp way l years year
       unfolding lookedUp judged firstOr pastEnd noRowDrawn
       lookup-no-row h z n = rw (t, f, le-ltb (endMonth way l) (l .done) h, ne-eqb year 0 z, lt-ltb _ _ n)
 
-      pub lookup-found : l .done ≤ endMonth way l → (year ≡ 0 → ⊥) → year ≤ startedYears (min (l .done) (l .term)) → accepted (yearAt years (year - 1)) ≡ lookedUp way l years year
-      unfolding lookedUp judged firstOr pastEnd noRowDrawn
-      lookup-found h z n = rw (t, f, le-ltb (endMonth way l) (l .done) h, ne-eqb year 0 z, le-ltb (startedYears (min (l .done) (l .term))) year n)
+      module _ (h : l .done ≤ endMonth way l) (z : year ≡ 0 → ⊥) (n : year ≤ startedYears (l .done)) where
+        pub lookup-bad-end : badEnd way (l .term) ≡ true → refused 16 0 ≡ lookedUp way l years year
+        unfolding lookedUp judged firstOr pastEnd noRowDrawn
+        lookup-bad-end b = rw (t, f, le-ltb (endMonth way l) (l .done) h, ne-eqb year 0 z, le-ltb (startedYears (l .done)) year n, b)
+
+        pub lookup-found : badEnd way (l .term) ≡ false → accepted (yearAt years (year - 1)) ≡ lookedUp way l years year
+        unfolding lookedUp judged firstOr pastEnd noRowDrawn
+        lookup-found b = rw (t, f, le-ltb (endMonth way l) (l .done) h, ne-eqb year 0 z, le-ltb (startedYears (l .done)) year n, b)
 
   -- ---- the draw
   module _ (l : Loan) (room years : List Float) where

@@ -1,7 +1,7 @@
 -- The kinds of a loan: document 01's level loan, and those that document 02 (K4) gives rows: interest-only, balloon and adjustable. What each needs, which months it has, and line 16 of the
 -- table as it meets it. Definitions only. Assumes nothing.
 use Prim.Native.Nat.{ℕ, _-_}
-use mathlib.Core.Bool.{_||_}
+use mathlib.Core.Bool.{Bool, false, _||_}
 use mathlib.Core.List.{List, [], _∷_, map}
 use lib.ListN.{length, take}
 use lib.Ieee.{Float}
@@ -55,3 +55,10 @@ kindLines level term = []
 kindLines (interestOnly months) term = line 16 (badPeriod months term) ∷ []
 kindLines (balloon month) term = line 16 (badBalloon month term) ∷ []
 kindLines (adjustable a index) term = badAdjustment a index term ∷ []
+
+-- the part of it that asks about the month which ends the loan: a balloon's
+abbrev pub badEnd : Way → ℕ → Bool
+badEnd level term = false
+badEnd (interestOnly months) term = false
+badEnd (balloon month) term = badBalloon month term
+badEnd (adjustable a index) term = false

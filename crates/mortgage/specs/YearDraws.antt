@@ -1,6 +1,6 @@
 -- A draw with year-end lines beside its rows, and the lookup of a year: what they answer, and what the lent lines hold after a draw, for a loan in hand of any kind, every room and all
 -- lent lines, made-up ones too. Definitions only. Assumes nothing.
-use Prim.Native.Nat.{ℕ, _-_, _/_, min}
+use Prim.Native.Nat.{ℕ, _-_, _/_}
 use mathlib.Core.Bool.{Bool, _||_}
 use mathlib.Core.List.{List, [], _∷_}
 use lib.ListN.{length}
@@ -12,7 +12,7 @@ use Rattle.mortgage.specs.declared.draws.Portion.{Portion}
 use Rattle.mortgage.specs.declared.years.Year.{Year}
 use Rattle.mortgage.specs.declared.years.YearAnswer.{YearAnswer}
 use Rattle.mortgage.specs.declared.years.YearAnswer.the-variants as year-is
-use Rattle.mortgage.specs.Kinds.{Way, kindLines}
+use Rattle.mortgage.specs.Kinds.{Way, kindLines, badEnd}
 use Rattle.mortgage.specs.Row.{width}
 use Rattle.mortgage.specs.Month.{endMonth, due, rowOf}
 use Rattle.mortgage.specs.Rows.{after}
@@ -47,11 +47,10 @@ module _ (way : Way) where
   unfoldable pub summed : Loan → List Float → List Float → List Float
   summed l room years = yearsBy (drawnWithYears l room years) l years
 
-  -- ---- the lookup by year, counted from 1: the line as it stands, where a row of that year is drawn; it reads nothing that 16 asks about. No row past the term is ever drawn, since 16 refuses a
-  -- balloon there at every draw
+  -- ---- the lookup by year, counted from 1: the line as it stands, where a row of that year is drawn; of a kind it reads the month that ends the loan alone
   abbrev pub lookupLines : Loan → ℕ → ℕ → List Line
   lookupLines l years year =
-      line 2 (badTerm (l .term)) ∷ line 3 (fewerThanStarted l years) ∷ line 10 (pastEnd (endMonth way l) (l .done)) ∷ line 14 (noRowDrawn year (startedYears (min (l .done) (l .term)))) ∷ []
+      line 2 (badTerm (l .term)) ∷ line 3 (fewerThanStarted l years) ∷ line 10 (pastEnd (endMonth way l) (l .done)) ∷ line 14 (noRowDrawn year (startedYears (l .done))) ∷ line 16 (badEnd way (l .term)) ∷ []
 
   unfoldable pub lookedUp : Loan → List Float → ℕ → Outcome Year
   lookedUp l years year = judged (lookupLines l (length years) year) (yearAt years (year - 1))

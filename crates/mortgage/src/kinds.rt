@@ -8,7 +8,7 @@ ghost use lib.Ieee.{Float};
 ghost use Rattle.refusals.specs.Outcome.{judged};
 ghost use Rattle.refusals.specs.Table.{badPeriod, badBalloon, badInitial, badCap, tooFewEntries, badEntry};
 ghost use Rattle.refusals.specs.Answers.{verdictOutcome};
-ghost use Rattle.mortgage.specs.Kinds.{wayOf, courseOf, laterYears, badAdjustment, kindLines};
+ghost use Rattle.mortgage.specs.Kinds.{wayOf, courseOf, laterYears, badAdjustment, badEnd, kindLines};
 use refusals::Verdict;
 
 // Of an adjustable loan: the rate of year 1, by how much a year's rate may differ from the last year's, and by how much any may be above the first.
@@ -146,5 +146,15 @@ pub fn judge_kind(kind: Kind, term: u32, index: &[f64]) -> Verdict
             }
         }
         Kind::Adjustable(adjustment) => judge_adjustment(adjustment, term, index),
+    }
+}
+
+// Line 16, asked of the month that ends the loan alone: a balloon's.
+pub(crate) fn bad_end(kind: Kind, term: u32) -> bool
+    ensures { λ r. ⌜ ((index : List Float) → r ≡ badEnd (wayOf kind index) term) ⌝ }
+{
+    match kind {
+        Kind::Balloon(month) => bad_balloon(month, term),
+        _ => false,
     }
 }

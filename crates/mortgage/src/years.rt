@@ -196,7 +196,7 @@ pub fn draw_with_years(loan: Loan, room: &mut [f64], years: &mut [f64]) -> Drawi
     draw_kind_with_years(Kind::Level, loan, &[0.0; 1], room, years)
 }
 
-// The line of a year, counted from 1, once a row of that year is drawn; no kind's list is read. A balloon past the term is refused at every draw, so that no row past the term is one.
+// The line of a year, counted from 1, once a row of that year is drawn; of a kind the month that ends the loan is read alone.
 pub fn look_up_kind_year(kind: Kind, loan: Loan, years: &[f64], year: u32) -> YearAnswer
     ensures { λ r. ⌜ ((index : List Float) → yearOutcome r ≡ lookedUp (wayOf kind index) loan (now (years .entry)) year) ⌝ }
 {
@@ -212,8 +212,11 @@ pub fn look_up_kind_year(kind: Kind, loan: Loan, years: &[f64], year: u32) -> Ye
     if year == 0 {
         return YearAnswer::Refused(refusals::refuse(14));
     }
-    if started_years(fewer(loan.done, loan.term as usize)) < year {
+    if started_years(loan.done) < year {
         return YearAnswer::Refused(refusals::refuse(14));
+    }
+    if crate::kinds::bad_end(kind, loan.term) {
+        return YearAnswer::Refused(refusals::refuse(16));
     }
     let place = (year - 1) as usize * YEAR_WIDTH;
     YearAnswer::Found(line_from(years, place))

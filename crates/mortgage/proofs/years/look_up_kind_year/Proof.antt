@@ -1,5 +1,7 @@
 -- `mortgage::years::look_up_kind_year` meets its contract: each way out is a case of the definition. Assumes nothing.
 use mathlib.Core.Path.{sym, ap, _∙_}
+use mathlib.Core.List.{[]}
+use Prim.Native.Nat.{_≤_}
 use native.Mathlib.Omega.{arith}
 use lib.ListN.{length}
 use denote.Ref.{now}
@@ -8,7 +10,8 @@ use Rattle.refusals.specs.Outcome.{accepted}
 use Rattle.refusals.proofs.Verdicts.{refused-as}
 use Rattle.mortgage.specs.Kinds.{wayOf}
 use Rattle.mortgage.proofs.RowsLaid.{end-is}
-use Rattle.mortgage.proofs.YearCases.{lookup-bad-term, lookup-too-few, lookup-past, lookup-year-0, lookup-no-row, lookup-found, enough-for-begun}
+use Rattle.mortgage.proofs.DrawCases.{ends-within}
+use Rattle.mortgage.proofs.YearCases.{lookup-bad-term, lookup-too-few, lookup-past, lookup-year-0, lookup-no-row, lookup-bad-end, lookup-found, enough-for-begun}
 use Rattle.mortgage.proofs.years.look_up_kind_year.Statement.{statement}
 use Rattle.mortgage.proofs.years.look_up_kind_year.Tie as tie
 
@@ -69,12 +72,6 @@ returns-4 c index =
     let e = end-is (wayOf (a .kind) index) (a .loan) _ (o .course-of .ensures index) in
     refused-as 14 _ _ (c .refuse4 .ensures) (lookup-year-0 (wayOf (a .kind) index) (a .loan) (now (a .years)) (a .year) t f (rw (← e) (c .before .before .if3 .left)) (c .before .if4 .taken))
 
-cast-fewer : tie.Need-cast-fewer
-cast-fewer c = search needs
-
-fewer-requires : tie.Need-fewer-requires
-fewer-requires c κs = search needs
-
 started-years-requires : tie.Need-started-years-requires
 started-years-requires c κs = search needs
 
@@ -83,6 +80,23 @@ refuse-requires-5 c κs = search needs
 
 returns-5 : tie.Need-returns-5
 returns-5 c index =
+    let o = c .before .before .before .before .before .before .before in
+    let few = o .before .before in
+    let b = few .before .before in
+    let a = b .before .before .args in
+    let t = sym (b .bad-term .ensures) ∙ few .before .if1 .left in
+    let f = sym (few .too-few .ensures) ∙ o .before .if2 .left in
+    let e = end-is (wayOf (a .kind) index) (a .loan) _ (o .course-of .ensures index) in
+    refused-as 14 _ _ (c .refuse5 .ensures) (lookup-no-row (wayOf (a .kind) index) (a .loan) (now (a .years)) (a .year) t f (rw (← e) (c .before .before .before .before .if3 .left)) (c .before .before .before .if4 .left) (omega (arith, c .before .if5 .taken, c .before .before .started-years .ensures)))
+
+bad-end-requires : tie.Need-bad-end-requires
+bad-end-requires c κs = search needs
+
+refuse-requires-6 : tie.Need-refuse-requires-6
+refuse-requires-6 c κs = search needs
+
+returns-6 : tie.Need-returns-6
+returns-6 c index =
     let o = c .before .before .before .before .before .before .before .before .before in
     let few = o .before .before in
     let b = few .before .before in
@@ -90,8 +104,8 @@ returns-5 c index =
     let t = sym (b .bad-term .ensures) ∙ few .before .if1 .left in
     let f = sym (few .too-few .ensures) ∙ o .before .if2 .left in
     let e = end-is (wayOf (a .kind) index) (a .loan) _ (o .course-of .ensures index) in
-    refused-as 14 _ _ (c .refuse5 .ensures)
-    (lookup-no-row (wayOf (a .kind) index) (a .loan) (now (a .years)) (a .year) t f (rw (← e) (c .before .before .before .before .before .before .if3 .left)) (c .before .before .before .before .before .if4 .left) (omega (arith, c .before .if5 .taken, c .before .before .started-years .ensures, c .before .before .before .fewer .ensures)))
+    refused-as 16 _ _ (c .refuse6 .ensures)
+    (lookup-bad-end (wayOf (a .kind) index) (a .loan) (now (a .years)) (a .year) t f (rw (← e) (c .before .before .before .before .before .before .if3 .left)) (c .before .before .before .before .before .if4 .left) (omega (arith, c .before .before .before .if5 .left, c .before .before .before .before .started-years .ensures)) (sym (c .before .before .bad-end .ensures index) ∙ c .before .if6 .taken))
 
 sub-place : tie.Need-sub-place
 sub-place c = search needs
@@ -104,14 +118,17 @@ mul-place c = search needs
 
 line-from-requires : tie.Need-line-from-requires
 line-from-requires c κs =
-    let few = c .before .before .before .before .before .before .before .before .before .before in
+    let o = c .before .before .before .before .before .before .before .before in
+    let few = o .before .before in
     let a = few .before .before .before .before .args in
-    let f = sym (few .too-few .ensures) ∙ c .before .before .before .before .before .before .before .before .before .if2 .left in
-    let m = c .before .before .fewer in
-    omega (arith, enough-for-begun (a .loan) (length (now (a .years))) (m .result) f (omega (arith, m .ensures)), c .before .started-years .ensures, c .if5 .left, c .before .before .before .before .if4 .left)
+    let f = sym (few .too-few .ensures) ∙ o .before .if2 .left in
+    let e = end-is (wayOf (a .kind) []) (a .loan) _ (o .course-of .ensures []) in
+    let within = ends-within (wayOf (a .kind) []) (a .loan) (sym (c .before .bad-end .ensures []) ∙ c .if6 .left) in
+    let most : a .loan .done ≤ a .loan .term = omega (arith, within, e, c .before .before .before .before .before .if3 .left) in
+    omega (arith, enough-for-begun (a .loan) (length (now (a .years))) (a .loan .done) f most, c .before .before .before .started-years .ensures, c .before .before .if5 .left, c .before .before .before .before .if4 .left)
 
-returns-6 : tie.Need-returns-6
-returns-6 c index =
+returns-7 : tie.Need-returns-7
+returns-7 c index =
     let o = c .before .before .before .before .before .before .before .before .before in
     let few = o .before .before in
     let b = few .before .before in
@@ -120,7 +137,7 @@ returns-6 c index =
     let f = sym (few .too-few .ensures) ∙ o .before .if2 .left in
     let e = end-is (wayOf (a .kind) index) (a .loan) _ (o .course-of .ensures index) in
     ap accepted (c .line-from .ensures)
-    ∙ lookup-found (wayOf (a .kind) index) (a .loan) (now (a .years)) (a .year) t f (rw (← e) (c .before .before .before .before .before .before .if3 .left)) (c .before .before .before .before .before .if4 .left) (omega (arith, c .before .if5 .left, c .before .before .started-years .ensures, c .before .before .before .fewer .ensures))
+    ∙ lookup-found (wayOf (a .kind) index) (a .loan) (now (a .years)) (a .year) t f (rw (← e) (c .before .before .before .before .before .before .if3 .left)) (c .before .before .before .before .before .if4 .left) (omega (arith, c .before .before .before .if5 .left, c .before .before .before .before .started-years .ensures)) (sym (c .before .before .bad-end .ensures index) ∙ c .before .if6 .left)
 
 pub look-up-kind-year-spec : {M : Type 1} → statement M
 look-up-kind-year-spec =
@@ -137,13 +154,14 @@ look-up-kind-year-spec =
     returns-3
     refuse-requires-4
     returns-4
-    cast-fewer
-    fewer-requires
     started-years-requires
     refuse-requires-5
     returns-5
+    bad-end-requires
+    refuse-requires-6
+    returns-6
     sub-place
     cast-place
     mul-place
     line-from-requires
-    returns-6)
+    returns-7)
