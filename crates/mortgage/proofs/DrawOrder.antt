@@ -1,5 +1,5 @@
 -- A draw in the order in which the code goes: the lines of the table, one after the other, and then the rows that are due and that the room holds, by the kind. Assumes nothing.
-use mathlib.Core.Path.{_≡_, sym, ap, _∙_, subst}
+use mathlib.Core.Path.{_≡_, sym, ap, _∙_}
 use mathlib.Core.Logic.{_⊎_, inl, inr, ⊎-elim}
 use mathlib.Core.Bool.{true, false}
 use mathlib.Core.List.{List, _∷_}
@@ -17,13 +17,16 @@ use Rattle.refusals.proofs.Verdicts.{verdict}
 use Rattle.steps.specs.Steps.{laid}
 use Rattle.mortgage.specs.declared.Loan.{Loan}
 use Rattle.mortgage.specs.declared.kinds.Adjustment.{Adjustment}
+use Rattle.mortgage.specs.declared.kinds.Kind.{Kind}
+use Rattle.mortgage.specs.declared.kinds.Kind.the-variants as kind-is
 use Rattle.mortgage.specs.Row.{width}
-use Rattle.mortgage.specs.Kinds.{Way, adjustable, laterYears, kindLines}
+use Rattle.mortgage.specs.Kinds.{Way, wayOf, adjustable, laterYears, kindLines}
 use Rattle.mortgage.specs.Month.{endMonth, due}
 use Rattle.mortgage.specs.Rows.{after, rows}
 use Rattle.mortgage.specs.Draws.{drawLines, portion}
 use Rattle.mortgage.specs.inner.Coming.{Listed}
 use Rattle.mortgage.proofs.DrawCases.{draw-clear, fits-listed}
+use Rattle.mortgage.proofs.KindLaws.{adjustable-listed}
 use Rattle.mortgage.proofs.YearByYear.{not-second}
 
 -- ---- the lines
@@ -84,14 +87,14 @@ module _ (way : Way) (l : Loan) (room : ℕ) where
     portion-is l′ el = rw (el, en, eo)
 
 -- ---- an adjustable loan: what its rows need, and that they are the kind's
-module _ (way : Way) (a : Adjustment) (index : List Float) (is : way ≡ adjustable a index) (l : Loan) where
-  pub adjustable-needs : (n : ℕ) → n ≤ endMonth way l → Listed way (l .term) → (n ≤ l .term) × (laterYears (l .term) ≤ length index)
+module _ (kind : Kind) (a : Adjustment) (index : List Float) (is : kind ≡ kind-is.Adjustable a) (l : Loan) where
+  abbrev its : Way
+  its = wayOf kind index
+
+  pub adjustable-needs : (n : ℕ) → n ≤ endMonth its l → Listed its (l .term) → (n ≤ l .term) × (laterYears (l .term) ≤ length index)
   unfolding endMonth
-  adjustable-needs n h listed =
-      let e : n ≤ endMonth (adjustable a index) l = subst (λ (w : Way). n ≤ endMonth w l) is h in
-      let f : Listed (adjustable a index) (l .term) = subst (λ (w : Way). Listed w (l .term)) is listed in
-      (e, f)
+  adjustable-needs n h listed = (rw is at h, adjustable-listed kind a index (l .term) is listed)
 
   pub adjustable-laid : (n : ℕ) (l′ : Loan) (room room′ : List Float)
-      → l′ ≡ after (adjustable a index) n l → room′ ≡ laid width n (rows (adjustable a index) n l) room → (l′ ≡ after way n l) × (room′ ≡ laid width n (rows way n l) room)
-  adjustable-laid n l′ room room′ el er = (el ∙ ap (λ (w : Way). after w n l) (sym is), er ∙ ap (λ (w : Way). laid width n (rows w n l) room) (sym is))
+      → l′ ≡ after (adjustable a index) n l → room′ ≡ laid width n (rows (adjustable a index) n l) room → (l′ ≡ after its n l) × (room′ ≡ laid width n (rows its n l) room)
+  adjustable-laid n l′ room room′ el er = (el ∙ ap (λ (k : Kind). after (wayOf k index) n l) (sym is), er ∙ ap (λ (k : Kind). laid width n (rows (wayOf k index) n l) room) (sym is))

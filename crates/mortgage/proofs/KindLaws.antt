@@ -148,12 +148,12 @@ module _ (ls : List Line) (x b : Bool) (is : ls ≡ line 16 x ∷ []) (asked : b
   cause-not-met e = all-clear tt 16 x (sym asked ∙ e) ∙ ap verdict (sym is)
 
 -- ---- what an adjustable loan is given
--- the first month of a later year is behind 12 at least
-behind-a-year : (done : ℕ) → beginsLaterYear done ≡ true → 11 < done
-behind-a-year done e = go (ltb 0 done) (eqb (done % 12) 0) (ltb-true 0 done) (eqb-true (done % 12) 0) e
+-- which months begin a later year
+pub later-year : (done : ℕ) → beginsLaterYear done ≡ true → (0 < done) × (done % 12 ≡ 0)
+later-year done e = go (ltb 0 done) (eqb (done % 12) 0) (ltb-true 0 done) (eqb-true (done % 12) 0) e
   where
-    go : (s t : Bool) → (s ≡ true → 0 < done) → (t ≡ true → done % 12 ≡ 0) → (s && t) ≡ true → 11 < done
-    go true true f g h = let p = f refl in let q = g refl in omega arith
+    go : (s t : Bool) → (s ≡ true → 0 < done) → (t ≡ true → done % 12 ≡ 0) → (s && t) ≡ true → (0 < done) × (done % 12 ≡ 0)
+    go true true f g h = (f refl, g refl)
     go true false f g h = let z : _≡_ {A = ℕ} 0 1 = cc in absurd (omega arith)
     go false t f g h = let z : _≡_ {A = ℕ} 0 1 = cc in absurd (omega arith)
 
@@ -168,14 +168,21 @@ module _ (l : Loan) (b : Bool) (begins : b ≡ beginsLaterYear (l .done)) where
   pub year-goes-on : (m : Loan) → b ≡ false → l ≡ cond (beginsLaterYear (l .done)) m l
   year-goes-on m e = rw (sym begins ∙ e)
 
-module _ (a : Adjustment) (l : Loan) (index : List Float) (coming : Coming)
-    (is : 11 < l .done → l .done < l .term → coming ≡ comingBehind a (l .rate) (l .done) (l .term) index) (runs : l .done < l .term) where
+module _ (a : Adjustment) (index : List Float) where
+  -- what the next month's year begins with is at hand, where it begins a later year
+  abbrev pub AtHand : Loan → Coming → Type 0
+  AtHand l coming = beginsLaterYear (l .done) ≡ true → l .done < l .term → coming ≡ comingBehind a (l .rate) (l .done) (l .term) index
+
+  pub at-hand : (l : Loan) (coming : Coming) → (11 < l .done → l .done < l .term → coming ≡ comingBehind a (l .rate) (l .done) (l .term) index) → AtHand l coming
+  at-hand l coming is begins runs = let z = later-year (l .done) begins in is (omega (arith, z .0, z .1)) runs
+
+module _ (a : Adjustment) (l : Loan) (index : List Float) (coming : Coming) (is : AtHand a index l coming) (runs : l .done < l .term) where
   pub coming-grows : beginsLaterYear (l .done) ≡ true → coming .factor ≡ growth (monthlyRate (coming .rate)) (l .term - l .done)
-  coming-grows e = let x = is (behind-a-year (l .done) e) runs in rw x
+  coming-grows e = let x = is e runs in rw x
 
   pub given-is : (kind : Kind) (m : Loan) → kind ≡ kind-is.Adjustable a → m ≡ cond (beginsLaterYear (l .done)) (adjustedTo (coming .rate) l) l → m ≡ inForce (wayOf kind index) l
   unfolding inForce
-  given-is kind m k e = e ∙ rw k (either (beginsLaterYear (l .done)) (λ t. ap (λ (x : Coming). adjustedTo (x .rate) l) (is (behind-a-year (l .done) t) runs)))
+  given-is kind m k e = e ∙ rw k (either (beginsLaterYear (l .done)) (λ t. ap (λ (x : Coming). adjustedTo (x .rate) l) (is t runs)))
     where
       either : (t : Bool) {x y : Loan} → (t ≡ true → x ≡ y) → cond t x l ≡ cond t y l
       either true f = f refl

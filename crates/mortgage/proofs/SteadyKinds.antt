@@ -4,6 +4,7 @@ use mathlib.Core.List.{List}
 use Prim.Native.Nat.{ℕ, zero, suc, _+_, _<_, _≤_}
 use native.Mathlib.Omega.{arith}
 use lib.Ieee.{Float, binary64, mul}
+use Rattle.records.specs.declared.Row.{Row}
 use Rattle.mortgage.specs.declared.Loan.{Loan}
 use Rattle.mortgage.specs.declared.kinds.Course.{Course}
 use Rattle.mortgage.specs.Row.{width}
@@ -15,6 +16,7 @@ use Rattle.mortgage.specs.Month.{course, rowOn, nextOn, endMonth, rowOf,
 use Rattle.mortgage.specs.Rows.{afterOn, rowsOn, after, rows}
 use Rattle.steps.specs.Steps.{stepped, laid}
 use Rattle.mortgage.proofs.RowLaws.{interest-on, before-last, term-after, stretch-after, stretch-rows}
+use Rattle.mortgage.proofs.KindLaws.{month-given}
 use Rattle.mortgage.proofs.RowsLaid.{end-is}
 
 module _ (way : Way) (steady : (l : Loan) → inForce way l ≡ l) where
@@ -57,16 +59,11 @@ level-rows = steady-rows level level-steady
 
 -- a month on the course of the loan that k months led to it from
 module _ (c : Course) (k : ℕ) (l₀ l : Loan) (ec : c ≡ courseOf level (l₀ .term)) (e : l ≡ after level k l₀) where
-  course-kept : c ≡ course level l
+  pub course-kept : c ≡ course level l
   course-kept = ec ∙ ap (courseOf level) (sym (ap (λ (m : Loan). m .term) e ∙ term-after level k l₀))
 
-  pub level-row : rowOn c l ≡ rowOf level l
-  unfolding rowOf inForce
-  level-row = ap (λ (d : Course). rowOn d l) course-kept
-
-  pub level-next : nextOn c l ≡ nextOf level l
-  unfolding nextOf inForce
-  level-next = ap (λ (d : Course). nextOn d l) course-kept
+  pub level-month : (row : Row) (next : Loan) → (row ≡ rowOn c l) × (next ≡ nextOn c l) → (row ≡ rowOf level l) × (next ≡ nextOf level l)
+  level-month = month-given level l c course-kept l (sym (level-steady l))
 
   -- it is k months on along the course
   along : l ≡ afterOn c k l₀

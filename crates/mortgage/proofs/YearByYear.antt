@@ -1,20 +1,21 @@
 -- The rows of an adjustable loan, laid year by year: between two years the room begins with the rows so far, the loan stands after them, and what a next year would begin with is at hand.
 -- Assumes nothing.
 use mathlib.Core.Path.{_≡_, refl, sym, ap, _∙_}
-use mathlib.Core.Bool.{Bool, true, false, cond, _&&_, true≢false}
+use mathlib.Core.Bool.{Bool, true, false, cond, _&&_}
 use mathlib.Core.List.{List, _++_}
 use Prim.Native.Nat.{ℕ, _+_, _-_, _*_, _%_, _<_, _≤_, min}
 use native.Mathlib.Omega.{arith}
 use lib.Dec.{eqb, ltb}
 use lib.ListN.{length, take, drop, length-append, length-drop}
 use lib.Ieee.{Float}
-use borrow.Author.Tests.{ltb-true, eqb-true, ne-eqb}
+use borrow.Author.Tests.{ne-eqb}
 use Rattle.steps.specs.Steps.{laid}
 use Rattle.steps.proofs.Laying as laying
 use Rattle.steps.proofs.Portions.{length-written, room-left, joined}
 use Rattle.mortgage.specs.declared.Loan.{Loan}
 use Rattle.mortgage.specs.declared.kinds.Adjustment.{Adjustment}
 use Rattle.mortgage.specs.declared.kinds.Course.{Course}
+use Rattle.mortgage.specs.declared.kinds.Kind.the-variants as kind-is
 use Rattle.mortgage.specs.declared.rates.Coming.{Coming}
 use Rattle.mortgage.specs.Payment.{monthlyRate, growth}
 use Rattle.mortgage.specs.Row.{width}
@@ -24,20 +25,13 @@ use Rattle.mortgage.specs.Month.{nextOf}
 use Rattle.mortgage.specs.Rows.{afterOn, rowsOn, after, rows}
 use Rattle.mortgage.specs.inner.Coming.{comingBehind}
 use Rattle.mortgage.proofs.RowLaws.{term-on, rate-on, in-force-term, in-force-done, term-after, done-after, Steady, stretch-after, stretch-rows}
+use Rattle.mortgage.proofs.KindLaws.{later-year, AtHand, at-hand, coming-grows, given-is}
 use Rattle.mortgage.proofs.DrawCases.{rowPlaces, wide}
 
--- ---- which months begin a later year
-both : (x y : Bool) → (x && y) ≡ true → (x ≡ true) × (y ≡ true)
-both true true e = (refl, refl)
-both true false e = absurd (true≢false (sym e))
-both false y e = absurd (true≢false (sym e))
-
+-- ---- months that begin no later year
 pub not-second : (x y : Bool) → y ≡ false → (x && y) ≡ false
 not-second true y e = e
 not-second false y e = refl
-
-pub later-year : (done : ℕ) → beginsLaterYear done ≡ true → (0 < done) × (done % 12 ≡ 0)
-later-year done e = let b = both (ltb 0 done) (eqb (done % 12) 0) e in (ltb-true 0 done (b .0), eqb-true (done % 12) 0 (b .1))
 
 pub within-a-year : (done i : ℕ) → 0 < i → done % 12 + i < 12 → beginsLaterYear (done + i) ≡ false
 within-a-year done i h b = not-second (ltb 0 (done + i)) (eqb ((done + i) % 12) 0) (ne-eqb ((done + i) % 12) 0 (λ e. absurd (omega arith)))
@@ -45,20 +39,6 @@ within-a-year done i h b = not-second (ltb 0 (done + i)) (eqb ((done + i) % 12) 
 module _ (a : Adjustment) (index : List Float) where
   abbrev way : Way
   way = adjustable a index
-
-  -- what the next month's year begins with is at hand, where it begins a later year
-  abbrev pub AtHand : Loan → Coming → Type 0
-  AtHand l coming = beginsLaterYear (l .done) ≡ true → l .done < l .term → coming ≡ comingBehind a (l .rate) (l .done) (l .term) index
-
-  -- so the loan with it is the kind's
-  pub begun-is : (l : Loan) (coming : Coming) → l .done < l .term → AtHand l coming → cond (beginsLaterYear (l .done)) (adjustedTo (coming .rate) l) l ≡ inForce way l
-  unfolding inForce
-  begun-is l coming h at = go (beginsLaterYear (l .done)) (λ e. at e h)
-    where
-      go : (b : Bool) → (b ≡ true → coming ≡ comingBehind a (l .rate) (l .done) (l .term) index)
-          → cond b (adjustedTo (coming .rate) l) l ≡ cond b (adjustedTo (comingBehind a (l .rate) (l .done) (l .term) index .rate) l) l
-      go true e = ap (λ (x : Coming). adjustedTo (x .rate) l) (e refl)
-      go false e = refl
 
   -- behind the first of its months a year gives nothing new
   given : (m : Loan) → beginsLaterYear (m .done) ≡ false → inForce way m ≡ m
@@ -73,12 +53,12 @@ module _ (a : Adjustment) (index : List Float) where
   module _ (l₀ : Loan) (room₀ : List Float) (count : ℕ) where
     abbrev pub Underway : List Float → Loan → Coming → ℕ → Type 0
     Underway room l coming k =
-        (room ≡ laid width k (rows way k l₀) room₀) × (l ≡ after way k l₀) × (k ≤ count) × (length room ≡ length room₀) × AtHand l coming
+        (room ≡ laid width k (rows way k l₀) room₀) × (l ≡ after way k l₀) × (k ≤ count) × (length room ≡ length room₀) × AtHand a index l coming
 
     pub none-yet : (coming : Coming) → (11 < l₀ .done → l₀ .done < l₀ .term → coming ≡ comingBehind a (l₀ .rate) (l₀ .done) (l₀ .term) index) → Underway room₀ l₀ coming 0
     none-yet coming e =
         let b = laying.begun (nextOf way) (rowPlaces way) width count room₀ l₀ in
-        (b .0, b .1, b .3, b .4, λ y h. let z = later-year (l₀ .done) y in e (omega (arith, z .0, z .1)) h)
+        (b .0, b .1, b .3, b .4, at-hand a index l₀ coming e)
 
     length-laid : (m : ℕ) → m * width ≤ length room₀ → length (laid width m (rows way m l₀) room₀) ≡ length room₀
     length-laid m h =
@@ -96,11 +76,11 @@ module _ (a : Adjustment) (index : List Float) where
       another = omega (arith, term-here, done-here)
 
       pub growth-at-hand : beginsLaterYear (l .done) ≡ true → coming .factor ≡ growth (monthlyRate (coming .rate)) (l .term - l .done)
-      growth-at-hand y = rw (i .4 y another)
+      growth-at-hand = coming-grows a l index coming (i .4) another
 
       module _ (begun : Loan) (eb : begun ≡ cond (beginsLaterYear (l .done)) (adjustedTo (coming .rate) l) l) where
         in-force : begun ≡ inForce way l
-        in-force = eb ∙ begun-is l coming another (i .4)
+        in-force = given-is a l index coming (i .4) another (kind-is.Adjustable a) begun refl eb
 
         pub begun-term : begun .term ≡ l₀ .term
         begun-term = ap (λ (m : Loan). m .term) in-force ∙ in-force-term way l ∙ term-here
@@ -143,7 +123,7 @@ module _ (a : Adjustment) (index : List Float) where
             module _ (l′ : Loan) (el : l′ ≡ afterOn c n begun) (coming′ : Coming) where
               pub next-at-hand : (11 < begun .done + (12 - begun .done % 12) → begun .done + (12 - begun .done % 12) < begun .term
                   → coming′ ≡ comingBehind a (begun .rate) (begun .done + (12 - begun .done % 12)) (begun .term) index)
-                  → AtHand l′ coming′
+                  → AtHand a index l′ coming′
               next-at-hand e y b =
                   let z = later-year (l′ .done) y in
                   let t : l′ .term ≡ begun .term = ap (λ (m : Loan). m .term) el ∙ term-on c n begun in

@@ -1,8 +1,7 @@
 -- `mortgage::draws::lay_kind` meets its contract: an adjustable loan's rows are laid year by year, and every other kind's are those of its course. Assumes nothing.
-use mathlib.Core.Path.{_≡_, ap}
+use mathlib.Core.Path.{_≡_}
 use mathlib.Core.Logic.{⊎-elim}
 use mathlib.Core.List.{List, [], _∷_}
-use Prim.Native.Nat.{ℕ}
 use native.Mathlib.Omega.{arith}
 use lib.Ieee.{Float}
 use denote.Ref.{now}
@@ -35,8 +34,7 @@ lay-years-requires : tie.Need-lay-years-requires
 lay-years-requires c κs =
     let s = c .before .before .before .before .before .before in
     let a = s .args in
-    let is = ap (λ (k : Kind). wayOf k (now (a .index))) (c .before .before .kind .given .1) in
-    let n = adjustable-needs (wayOf (a .kind) (now (a .index))) _ (now (a .index)) is (a .loan) _ (s .pre .0 .1) (s .pre .0 .2) in
+    let n = adjustable-needs (a .kind) _ (now (a .index)) (c .before .before .kind .given .1) (a .loan) _ (s .pre .0 .1) (s .pre .0 .2) in
     ((s .pre .0 .0, n .0, n .1), s .pre .1)
 
 course-of-requires : tie.Need-course-of-requires
@@ -56,8 +54,7 @@ returns c =
     let y = c .before .before .lay-years in
     let s = c .before .before .before .before .before .before .before .before .before in
     let a = s .args in
-    let is = ap (λ (k : Kind). wayOf k (now (a .index))) (c .before .before .before .before .before .kind .given .1) in
-    adjustable-laid (wayOf (a .kind) (now (a .index))) _ (now (a .index)) is (a .loan) (a .count) (y .result) (now (a .room)) _ (y .ensures .0) (y .ensures .1)
+    adjustable-laid (a .kind) _ (now (a .index)) (c .before .before .before .before .before .kind .given .1) (a .loan) (a .count) (y .result) (now (a .room)) _ (y .ensures .0) (y .ensures .1)
 
 same-length-2 : tie.Need-same-length-2
 same-length-2 c = search needs

@@ -1,11 +1,9 @@
 -- `mortgage::draws::lay_years` meets its contract: after each turn the room begins with the rows so far, up to a year's end or to the last that is asked for. Assumes nothing.
 use mathlib.Core.Path.{_≡_, refl}
-use Prim.Native.Nat.{_+_, _-_, _≤_, zero-le}
+use Prim.Native.Nat.{_-_, zero-le}
 use native.Mathlib.Omega.{arith}
-use lib.ListN.{length}
 use denote.Ref.{now}
 use borrow.Author.Needs.{needs}
-use Rattle.mortgage.specs.Kinds.{laterYears}
 use Rattle.mortgage.proofs.YearByYear.{Underway, none-yet, another, growth-at-hand, begun-term, begun-done, of-a-year, stretch-fits, a-year}
 use Rattle.mortgage.proofs.draws.lay_years.Statement.{statement}
 use Rattle.mortgage.proofs.draws.lay_years.Tie as tie

@@ -8,7 +8,7 @@ use Rattle.steps.proofs.Pairs.{Underway, begun, a-turn}
 use Rattle.mortgage.specs.Row.{width, places}
 use Rattle.mortgage.specs.Kinds.{level}
 use Rattle.mortgage.specs.Month.{nextOf}
-use Rattle.mortgage.proofs.SteadyKinds.{interest-along, no-last-along, level-row, level-next}
+use Rattle.mortgage.proofs.SteadyKinds.{interest-along, no-last-along, level-month}
 use Rattle.mortgage.proofs.DrawCases.{rowPlaces, wide}
 use Rattle.mortgage.proofs.pairs.pair_rows.Statement.{statement}
 use Rattle.mortgage.proofs.pairs.pair_rows.Tie as tie
@@ -101,12 +101,12 @@ loop-again c =
     let s = h .before .before .before .before .before .before in
     let xc = h .before .before .before .before .level-course in
     let yc = h .before .before .before .level-course2 in
-    let i = h .loop .inv in
+    let xm = level-month (xc .result) (h .loop .k) (s .args .first) (h .loop .x) (xc .ensures) (h .loop .inv .1) (x .result .row) (x .result .next) (x .ensures) in
+    let ym = level-month (yc .result) (h .loop .k) (s .args .second) (h .loop .y) (yc .ensures) (h .loop .inv .2) (y .result .row) (y .result .next) (y .ensures) in
     a-turn (nextOf level) (rowPlaces level) width (wide level) (now (s .args .room)) (s .args .a) (s .args .b) (s .args .first) (s .args .second) (s .args .most) (h .loop .room) (first .last .0) (second .last .0)
     (h .loop .x) (h .loop .y) (x .result .next) (y .result .next) (h .loop .x-at) (h .loop .y-at) (h .loop .k) (places (x .result .row)) (places (y .result .row))
     (s .pre .0 .1) (h .loop .inv) (c .before .before .before .before .before .before .before .before .before .before .before .before .before .before .before .before .before .before .before .before .before .before .before .before .loop-test .taken)
-    (ap places (x .ensures .0 ∙ level-row (xc .result) (h .loop .k) (s .args .first) (h .loop .x) (xc .ensures) (i .1))) (x .ensures .1 ∙ level-next (xc .result) (h .loop .k) (s .args .first) (h .loop .x) (xc .ensures) (i .1))
-    (ap places (y .ensures .0 ∙ level-row (yc .result) (h .loop .k) (s .args .second) (h .loop .y) (yc .ensures) (i .2))) (y .ensures .1 ∙ level-next (yc .result) (h .loop .k) (s .args .second) (h .loop .y) (yc .ensures) (i .2))
+    (ap places (xm .0)) (xm .1) (ap places (ym .0)) (ym .1)
     (first .ensures) (second .ensures) (second .kept .0 ∙ first .kept .0)
 
 same-length : tie.Need-same-length Inv-loop μ-loop

@@ -1,7 +1,7 @@
 -- `mortgage::rates::in_force` meets its contract: only an adjustable loan is given anything new. Assumes nothing.
 use borrow.Author.Needs.{needs}
 use Rattle.mortgage.specs.Rates.{inForce}
-use Rattle.mortgage.proofs.KindLaws.{adjustable-listed, coming-grows, given-is}
+use Rattle.mortgage.proofs.KindLaws.{adjustable-listed, at-hand, coming-grows, given-is}
 use Rattle.mortgage.proofs.rates.in_force.Statement.{statement}
 use Rattle.mortgage.proofs.rates.in_force.Tie as tie
 
@@ -21,7 +21,7 @@ coming-behind-requires : tie.Need-coming-behind-requires
 coming-behind-requires c κs = let start = c .before .before .before .before in adjustable-listed _ _ _ _ (c .before .kind3 .given .1) (start .pre .1)
 
 with-coming-requires : tie.Need-with-coming-requires
-with-coming-requires c κs = let start = c .before .before .before .before .before in (start .pre .0, λ b. coming-grows _ (start .args .loan) (start .args .index .now) _ (c .coming-behind .ensures) (start .pre .0) b)
+with-coming-requires c κs = let start = c .before .before .before .before .before in (start .pre .0, λ b. coming-grows _ (start .args .loan) (start .args .index .now) _ (at-hand (c .before .before .kind3 .given .0 .0) (start .args .index .now) (start .args .loan) _ (c .coming-behind .ensures)) (start .pre .0) b)
 
 returns : tie.Need-returns
 unfolding inForce
@@ -40,7 +40,7 @@ returns-4 c =
     let told = c .before .before in
     let start = told .before .before .before .before in
     let a = start .args in
-    given-is _ (a .loan) (a .index .now) _ (c .before .coming-behind .ensures) (start .pre .0) (a .kind) _ (told .before .kind3 .given .1) (c .with-coming .ensures)
+    given-is _ (a .loan) (a .index .now) _ (at-hand (told .before .kind3 .given .0 .0) (a .index .now) (a .loan) _ (c .before .coming-behind .ensures)) (start .pre .0) (a .kind) _ (told .before .kind3 .given .1) (c .with-coming .ensures)
 
 pub in-force-spec : {M : Type 1} → statement M
 in-force-spec =
