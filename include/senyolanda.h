@@ -690,8 +690,8 @@ senyolanda_result senyolanda_next_balloon_row(
     uint8_t record[SENYOLANDA_FILLED SENYOLANDA_ROW_BYTES],
     uint32_t *SENYOLANDA_RESTRICT written, uint32_t *SENYOLANDA_RESTRICT owed) SENYOLANDA_CHECKED;
 
-/* The line of a year, as senyolanda_look_up_year; more months done than the named month counts are 10, and 16 is not asked.
-   Refuses 2, 3, 10, 14. */
+/* The line of a year, as senyolanda_look_up_year; more months done than the named month counts are 10, and a named month that is
+   none of the term's is 16. Refuses 2, 3, 10, 14, 16. */
 senyolanda_result senyolanda_look_up_balloon_year(
     uint32_t month,
     const uint32_t counts[SENYOLANDA_READ SENYOLANDA_LOAN_COUNTS],
@@ -900,7 +900,7 @@ static inline SENYOLANDA_CHECKED senyolanda_result senyolanda_balloon_next_row(
     return result;
 }
 
-/* The line of a year, as senyolanda_loan_year. Refuses 2, 3, 10, 14. */
+/* The line of a year, as senyolanda_loan_year. Refuses 2, 3, 10, 14, 16. */
 static inline SENYOLANDA_CHECKED senyolanda_result senyolanda_balloon_year(
     const struct senyolanda_balloon *balloon, const double *years, size_t year_places, uint32_t year,
     struct senyolanda_year *SENYOLANDA_RESTRICT line) {

@@ -15,7 +15,7 @@ static const struct claim matrix[] = {
     CLAIM(draw_balloon,              ". 2 3 . . . . . . 10 .. .. .. .. .. 16"),
     CLAIM(draw_balloon_with_years,   ". 2 3 . . . . . . 10 .. .. .. .. .. 16"),
     CLAIM(next_balloon_row,          ". 2 . . . . . . . 10 .. .. .. .. .. 16"),
-    CLAIM(look_up_balloon_year,      ". 2 3 . . . . . . 10 .. .. .. 14 .. .."),
+    CLAIM(look_up_balloon_year,      ". 2 3 . . . . . . 10 .. .. .. 14 .. 16"),
     END_OF_MATRIX,
 };
 
@@ -57,7 +57,7 @@ static const struct cause hand_causes[] = {
     END_OF_CAUSES,
 };
 
-/* At rest all 12 months are drawn and year 1 is asked for; the lines are those of the term, and 16 is not asked. */
+/* At rest all 12 months are drawn and year 1 is asked for; the lines are those of the term. */
 static const struct cause lookup_causes[] = {
     CAUSE(2, WHOLE(loan.term, 0)),
     CAUSE(2, WHOLE(loan.term, 1201)),
@@ -74,9 +74,12 @@ static const struct cause lookup_causes[] = {
     CAUSE(14, WHOLE(year, UINT32_MAX)),
     CAUSE(14, WHOLE(balloon, 0), WHOLE(drawn, 0)),
     CAUSE(14, WHOLE(year, 2), WHOLE(drawn, 12), WHOLE(loan.term, 24)),
+    CAUSE(16, WHOLE(balloon, 13)),
+    CAUSE(16, WHOLE(balloon, 13), WHOLE(drawn, 13)),
+    CAUSE(16, WHOLE(balloon, UINT32_MAX)),
+    CAUSE(16, WHOLE(balloon, 2), WHOLE(loan.term, 1), WHOLE(drawn, 1)),
     TAKEN(WHOLE(drawn, 1)),
     TAKEN(WHOLE(balloon, 5), WHOLE(drawn, 5)),
-    TAKEN(WHOLE(balloon, UINT32_MAX)),
     TAKEN(WHOLE(year_places, 2 * YEAR_WIDTH), WHOLE(loan.term, 24)),
     TAKEN(NUMBER(years[0], NAN)),
     TAKEN(NUMBER(balance, NAN)),
@@ -158,8 +161,10 @@ static void lookup_past_the_lines(void) {
     desk.balloon = desk.drawn = 13;
     desk.year_places = YEAR_WIDTH;
     desk.year = 1;
-    ACCEPTED(call_look_up_balloon_year);
+    REFUSED(call_look_up_balloon_year, 16, 0);
     desk.year = 2;
+    REFUSED(call_look_up_balloon_year, 16, 0);
+    desk.year = 3;
     REFUSED(call_look_up_balloon_year, 14, 0);
 }
 
