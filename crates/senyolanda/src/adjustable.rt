@@ -1,10 +1,8 @@
 // Adjustable loans: an initial rate and two caps, with a lent list of index rates, year 2's first.
 ghost use mathlib.Core.Path.{_≡_};
-ghost use mathlib.Core.List.{List};
-ghost use lib.Ieee.{Float};
 ghost use Rattle.refusals.specs.Outcome.{andThen};
 ghost use Rattle.records.specs.Kinds.{readTerms};
-ghost use Rattle.mortgage.specs.Kinds.{adjustable, wayOf};
+ghost use Rattle.mortgage.specs.Kinds.{adjustable};
 ghost use Rattle.mortgage.specs.Openings.{kindOpened};
 ghost use Rattle.mortgage.specs.Rows.{nextRow};
 ghost use Rattle.mortgage.specs.Draws.{drawn, filled};
@@ -20,17 +18,6 @@ use crate::loans::COUNTS;
 use mortgage::kinds::Adjustment;
 use mortgage::kinds::Kind;
 
-// What an adjustable loan is named by.
-fn adjusting(initial: f64, cap: f64, lifetime: f64) -> Kind
-    ensures { λ r. ⌜ ((index : List Float) → wayOf r index ≡ adjustable (adjustmentOf initial cap lifetime) index) ⌝ }
-{
-    Kind::Adjustable(Adjustment {
-        initial,
-        cap,
-        lifetime,
-    })
-}
-
 // Opens a loan whose first year runs at the initial rate, with the worked-out payment.
 #[no_mangle]
 pub extern "C" fn senyolanda_open_adjustable(
@@ -44,13 +31,12 @@ pub extern "C" fn senyolanda_open_adjustable(
 ) -> u64
     ensures { λ r. ⌜ (r, (now (counts .exit), now (amounts .exit))) ≡ told loanNumbers (andThen (readTerms (now («record» .entry))) (kindOpened (adjustable (adjustmentOf initial cap lifetime) (now (index .entry))))) (now (counts .entry), now (amounts .entry)) ⌝ }
 {
-    open_kind(
-        record,
-        adjusting(initial, cap, lifetime),
-        index,
-        counts,
-        amounts,
-    )
+    let kind = Kind::Adjustable(Adjustment {
+        initial,
+        cap,
+        lifetime,
+    });
+    open_kind(record, kind, index, counts, amounts)
 }
 
 // Writes as many rows as the room holds and the loan still owes.
@@ -69,15 +55,12 @@ pub extern "C" fn senyolanda_draw_adjustable(
     ensures { λ r. ⌜ (r, (now (counts .exit), now (amounts .exit), now (written .exit), now (owed .exit))) ≡ told portionNumbers (drawn (adjustable (adjustmentOf initial cap lifetime) (now (index .entry))) (loanIn (now (counts .entry)) (now (amounts .entry))) (now (room .entry))) (now (counts .entry), now (amounts .entry), now (written .entry), now (owed .entry)) ⌝ }
     ensures { λ _. ⌜ now (room .exit) ≡ filled (adjustable (adjustmentOf initial cap lifetime) (now (index .entry))) (loanIn (now (counts .entry)) (now (amounts .entry))) (now (room .entry)) ⌝ }
 {
-    draw_kind(
-        adjusting(initial, cap, lifetime),
-        index,
-        counts,
-        amounts,
-        room,
-        written,
-        owed,
-    )
+    let kind = Kind::Adjustable(Adjustment {
+        initial,
+        cap,
+        lifetime,
+    });
+    draw_kind(kind, index, counts, amounts, room, written, owed)
 }
 
 // The same, and enters them into their years' lines.
@@ -98,16 +81,12 @@ pub extern "C" fn senyolanda_draw_adjustable_with_years(
     ensures { λ _. ⌜ now (room .exit) ≡ filledWithYears (adjustable (adjustmentOf initial cap lifetime) (now (index .entry))) (loanIn (now (counts .entry)) (now (amounts .entry))) (now (room .entry)) (now (years .entry)) ⌝ }
     ensures { λ _. ⌜ now (years .exit) ≡ summed (adjustable (adjustmentOf initial cap lifetime) (now (index .entry))) (loanIn (now (counts .entry)) (now (amounts .entry))) (now (room .entry)) (now (years .entry)) ⌝ }
 {
-    draw_kind_with_years(
-        adjusting(initial, cap, lifetime),
-        index,
-        counts,
-        amounts,
-        room,
-        years,
-        written,
-        owed,
-    )
+    let kind = Kind::Adjustable(Adjustment {
+        initial,
+        cap,
+        lifetime,
+    });
+    draw_kind_with_years(kind, index, counts, amounts, room, years, written, owed)
 }
 
 // Writes the next row alone, as a kind 3 record.
@@ -125,13 +104,10 @@ pub extern "C" fn senyolanda_next_adjustable_row(
 ) -> u64
     ensures { λ r. ⌜ (r, (now (counts .exit), now (amounts .exit), now («record» .exit), now (written .exit), now (owed .exit))) ≡ told (kindNextNumbers (adjustable (adjustmentOf initial cap lifetime) (now (index .entry))) (now (counts .entry)) (now (amounts .entry)) (now («record» .entry))) (nextRow (adjustable (adjustmentOf initial cap lifetime) (now (index .entry))) (loanIn (now (counts .entry)) (now (amounts .entry)))) (now (counts .entry), now (amounts .entry), now («record» .entry), now (written .entry), now (owed .entry)) ⌝ }
 {
-    next_kind_row(
-        adjusting(initial, cap, lifetime),
-        index,
-        counts,
-        amounts,
-        record,
-        written,
-        owed,
-    )
+    let kind = Kind::Adjustable(Adjustment {
+        initial,
+        cap,
+        lifetime,
+    });
+    next_kind_row(kind, index, counts, amounts, record, written, owed)
 }
