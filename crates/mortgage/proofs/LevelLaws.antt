@@ -1,7 +1,7 @@
 -- Document 01's loan by its own names, for the crates that speak of no other: what its rows leave as it was and move on, its draws case by case, and what an accepted one wrote. Each is a law
 -- of any kind, at the level one; and its rate and payment stay. Assumes nothing.
-use mathlib.Core.Path.{_≡_, refl, sym, ap, _∙_}
-use mathlib.Core.Bool.{true, false}
+use mathlib.Core.Path.{_≡_, refl, ap, _∙_}
+use mathlib.Core.Bool.{false}
 use mathlib.Core.List.{List, [], _∷_}
 use Prim.Native.Nat.{ℕ, _+_, _-_, _*_, _/_, _<_, _≤_, min}
 use native.Mathlib.Omega.{arith}
@@ -18,7 +18,10 @@ use Rattle.mortgage.specs.Kinds.{level, courseOf}
 use Rattle.mortgage.specs.Month as of-kinds
 use Rattle.mortgage.specs.Draws as draws
 use Rattle.mortgage.specs.Demand3.{rowsIn}
-use Rattle.mortgage.specs.Level.{endMonth, due, after, rows, count, portion, drawn}
+use Rattle.mortgage.specs.Payment.{monthlyRate}
+use Rattle.mortgage.specs.RowRule.{leftOf}
+use Rattle.mortgage.specs.Rates.{inForce}
+use Rattle.mortgage.specs.Level.{endMonth, due, nextOf, after, rows, count, portion, drawn}
 use Rattle.steps.specs.Steps.{stepped}
 use Rattle.mortgage.proofs.RowLaws as any-rows
 use Rattle.mortgage.proofs.SteadyKinds.{level-after}
@@ -58,6 +61,11 @@ rate-after k l = ap (λ (m : Loan). m .rate) (level-after k l) ∙ any-rows.rate
 
 pub payment-after : (k : ℕ) (l : Loan) → after k l .payment ≡ l .payment
 payment-after k l = ap (λ (m : Loan). m .payment) (level-after k l) ∙ any-rows.payment-on (courseOf level (l .term)) k l
+
+-- what a month leaves is the row rule's
+pub balance-by-the-rule : (l : Loan) → nextOf l .balance ≡ leftOf (of-kinds.last (of-kinds.course level l) l) (l .payment) (monthlyRate (l .rate)) (l .balance)
+unfolding of-kinds.nextOf of-kinds.nextOn of-kinds.remaining of-kinds.principal of-kinds.interestAlone inForce leftOf
+balance-by-the-rule l = rw (le-ltb (l .done) 0 (omega arith))
 
 -- ---- its draws
 module _ (l : Loan) (room : List Float) (t : badTerm (l .term) ≡ false) where

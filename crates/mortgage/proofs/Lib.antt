@@ -23,7 +23,6 @@ pub mod Worked
 pub mod YearsWorked
 pub mod InterestOnly
 pub mod Balloon
-pub mod Adjustable
 pub mod KindsWorked
 pub mod RowColumns
 pub mod PayingDown

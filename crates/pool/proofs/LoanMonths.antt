@@ -16,11 +16,12 @@ use Rattle.mortgage.specs.Payment.{monthlyRate, payment, loanOf}
 use Rattle.mortgage.specs.Rates as any-rates
 use Rattle.mortgage.specs.Month as of-month
 use Rattle.mortgage.specs.Level.{endMonth, rowOf, nextOf, after}
-use Rattle.mortgage.specs.Month.{last}
+use Rattle.mortgage.specs.Kinds.{level}
+use Rattle.mortgage.specs.Month.{course, last}
 use Rattle.mortgage.specs.RowRule.{interestOf, principalOf, leftOf}
 use Rattle.steps.specs.Steps.{stepped}
 use Rattle.mortgage.specs.Totals.{balanceAfter}
-use Rattle.mortgage.proofs.LevelLaws.{end-after, rate-after, payment-after, done-after}
+use Rattle.mortgage.proofs.LevelLaws.{end-after, rate-after, payment-after, done-after, balance-by-the-rule}
 use Rattle.mortgage.proofs.RuleLaws.{other-principal, ordinary-principal, left-is}
 use Rattle.pool.specs.declared.months.Month.{Month}
 use Rattle.pool.specs.Months.{loanMonth, plus, balanceBefore, withLoan}
@@ -65,15 +66,18 @@ module _ (t : Terms) (k : ℕ) (b : Float) (due : k < t .term) (carried : b ≡ 
       let g : lt plusZero (after k (loanOf t (payment t)) .balance) ≡ false = rw (sym carried) h in
       rw (in-term, shown-at-most (loanOf t (payment t)) k (amount-finite (t .principal) a) g)
 
-  not-last : suc k < t .term → last (after k (loanOf t (payment t))) ≡ false
+  not-last : suc k < t .term → last (course level (after k (loanOf t (payment t)))) (after k (loanOf t (payment t))) ≡ false
   unfolding last of-month.endMonth loanOf
   not-last h =
       let l = after k (loanOf t (payment t)) in
       ne-eqb (l .done + 1) (endMonth l) (λ e. omega (arith, done-after k (loanOf t (payment t)), end-after k (loanOf t (payment t))))
 
   pub next-balance : (p : Float) → p ≡ principalOf false (payment t) (monthlyRate (t .rate)) b → k + 1 < t .term → sub binary64 b p ≡ after (k + 1) (loanOf t (payment t)) .balance
-  unfolding stepped of-month.nextOf of-month.nextOn of-month.remaining of-month.principal of-month.interestAlone any-rates.inForce leftOf
-  next-balance p ep h = rw (add-one k, not-last (omega arith), rate-loan, payment-loan, sym carried, ep)
+  unfolding stepped leftOf
+  next-balance p ep h =
+      let m = after k (loanOf t (payment t)) in
+      let e : leftOf (last (course level m) m) (m .payment) (monthlyRate (m .rate)) (m .balance) ≡ sub binary64 b p = rw (not-last (omega arith), rate-loan, payment-loan, sym carried, ep) in
+      sym (ap (λ (n : ℕ). after n (loanOf t (payment t)) .balance) (add-one k) ∙ balance-by-the-rule m ∙ e)
     where
       rate-loan : after k (loanOf t (payment t)) .rate ≡ t .rate
       rate-loan = rate-after k (loanOf t (payment t)) ∙ rate-of t (payment t)
