@@ -14,6 +14,7 @@ use Rattle.mortgage.specs.Rates as any-rates
 use Rattle.mortgage.specs.Month as any-month
 use Rattle.mortgage.specs.Rows as any-rows
 use Rattle.mortgage.specs.Draws as any-draws
+use Rattle.mortgage.specs.Kinds.{level}
 use Rattle.mortgage.specs.Level.{endMonth, due, rowOf, nextOf, nextRow, portion, drawn, filled}
 use Rattle.mortgage.specs.Month.{last}
 use Rattle.mortgage.specs.RowRule.{interestOf, principalOf, paymentOf, leftOf}
@@ -49,12 +50,12 @@ pub opens : openAnswer bytes before ≡ (0, loan)
 unfolding told readTerms badRecord termsIn floatAt wholeAt valueOf judged firstOr opened openedWith badAmount badTerm loanOf payment monthlyRate eq div lt ofInt ofBits
 opens = refl
 
-pub to-the-end : due (inHand (kept loan calls)) ≡ 0
+pub to-the-end : due (inHand (kept level loan calls)) ≡ 0
 unfolding left keptAfter told any-rows.nextRow any-draws.drawn judged firstOr badTerm noRoom pastEnd any-draws.portion any-month.due any-month.endMonth stepped any-month.nextOf any-month.nextOn any-month.remaining any-month.principal any-month.interestAlone any-rates.inForce
 to-the-end = refl
 
 -- "1 4079000000000000 4079000000000000 0000000000000000 4089000000000000", and so on, with the month as a number
-pub listing : filed loan calls ≡ map number
+pub listing : filed level loan calls ≡ map number
     (0x3ff0_0000_0000_0000 ∷ 0x4079_0000_0000_0000 ∷ 0x4079_0000_0000_0000 ∷ 0 ∷ 0x4089_0000_0000_0000
     ∷ 0x4000_0000_0000_0000 ∷ 0x4079_0000_0000_0000 ∷ 0x4079_0000_0000_0000 ∷ 0 ∷ 0x4079_0000_0000_0000
     ∷ 0x4008_0000_0000_0000 ∷ 0x4079_0000_0000_0000 ∷ 0x4079_0000_0000_0000 ∷ 0 ∷ 0 ∷ [])
@@ -93,6 +94,6 @@ unfolding linesOver hexDigits
 listing-text = rw listed-text
 
 -- ---- the theorem, of this loan and these calls
-pub repaid-by-the-calls : Repaid (number 0x4092_c000_0000_0000) 3 (filed loan calls)
+pub repaid-by-the-calls : Repaid (number 0x4092_c000_0000_0000) 3 (filed level loan calls)
 unfolding told readTerms badRecord termsIn floatAt wholeAt valueOf judged firstOr opened openedWith badAmount badTerm loanOf payment monthlyRate eq div lt ofInt ofBits
 repaid-by-the-calls = demand3-at-the-door bytes before refl calls to-the-end .1

@@ -18,6 +18,7 @@ use Rattle.mortgage.specs.Rates as any-rates
 use Rattle.mortgage.specs.Month as any-month
 use Rattle.mortgage.specs.Draws as any-draws
 use Rattle.mortgage.specs.YearDraws as any-years
+use Rattle.mortgage.specs.Kinds.{level}
 use Rattle.mortgage.specs.Level.{endMonth, due, rowOf, nextOf, portion, drawnWithYears, filledWithYears, summed, lookedUp}
 use Rattle.mortgage.specs.Month.{last}
 use Rattle.mortgage.specs.Years.{yearWidth, withRow, goesOnFrom, entered, enteredUpTo}
@@ -51,11 +52,11 @@ abbrev handed : Kept → ℕ → ℕ → List ℕ × List Float × ℕ × ℕ
 handed k written owed = (k .0, k .1, written, owed)
 
 abbrev drawWithYearsAnswer : Kept → List Float → List Float → ℕ × (List ℕ × List Float × ℕ × ℕ)
-drawWithYearsAnswer k room years = yearDrawAnswer (k, years) (room, 9, 9)
+drawWithYearsAnswer k room years = yearDrawAnswer level (k, years) (room, 9, 9)
 
 -- a line's months, interest, principal and balance
 abbrev lookUpYearAnswer : Kept → List Float → ℕ → ℕ × List Float
-lookUpYearAnswer k years year = lookupAnswer (k, years) year (lent yearWidth)
+lookUpYearAnswer k years year = lookupAnswer level (k, years) year (lent yearWidth)
 
 -- the lines once the first year is full: that year's, the second year's, and one place more than they take
 abbrev linesWith : List ℕ → List Float

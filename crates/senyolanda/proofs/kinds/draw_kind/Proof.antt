@@ -1,33 +1,31 @@
+-- `senyolanda::kinds::draw_kind` meets its contract. Assumes nothing.
+use Rattle.mortgage.specs.declared.Loan.{Loan}
+use Rattle.mortgage.specs.Kinds.{Way, wayOf}
+use Rattle.mortgage.specs.Draws.{drawn, filled}
+use Rattle.senyolanda.proofs.Handed.{of-loan, told-as}
 use borrow.Author.Needs.{needs}
 use Rattle.senyolanda.proofs.kinds.draw_kind.Statement.{statement}
 use Rattle.senyolanda.proofs.kinds.draw_kind.Tie as tie
-use Rattle.senyolanda.proofs.kinds.draw_kind.Reads as reads
-use Rattle.senyolanda.proofs.kinds.draw_kind.Lts as lts
-use Rattle.mortgage.proofs.draws.draw_kind.Reads as draw-kind-reads
-use Rattle.senyolanda.proofs.loans.loan_in.Reads as loan-in-reads
-use Rattle.senyolanda.proofs.loans.put_portion.Reads as put-portion-reads
 
--- src/kinds.rt:57:52
 loan-in-requires : tie.Need-loan-in-requires
 loan-in-requires c κs = search needs
 
--- src/kinds.rt:57:9
 draw-kind-requires : tie.Need-draw-kind-requires
 draw-kind-requires c κs = search needs
 
--- src/kinds.rt:58:5
 put-portion-requires : tie.Need-put-portion-requires
 put-portion-requires c κs = search needs
 
--- src/kinds.rt:45:1
 same-length : tie.Need-same-length
 same-length c = search needs
 
--- src/kinds.rt:45:1
 returns : tie.Need-returns
-returns c = ?
+returns c =
+    let d = c .before .before .before .before .before .before .before in
+    let l = d .before .before .loan-in .ensures in
+    let a = d .before .before .before .before .before .before .before .args in
+    let way : Way = wayOf (a .kind) (a .index .now) in
+    (told-as _ _ _ _ _ (c .put-portion .ensures) (of-loan (λ (m : Loan). drawn way m (a .room .now)) l (d .draw-kind .ensures .0)), of-loan (λ (m : Loan). filled way m (a .room .now)) l (d .draw-kind .ensures .1))
 
 pub draw-kind-spec : {M : Type 1} → statement M
-draw-kind-spec =
-    tie.close
-    (tie.spec loan-in-requires draw-kind-requires put-portion-requires same-length returns)
+draw-kind-spec = tie.close (tie.spec loan-in-requires draw-kind-requires put-portion-requires same-length returns)
