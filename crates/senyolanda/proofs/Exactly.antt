@@ -23,6 +23,8 @@ use Rattle.mortgage.specs.Payment.{monthlyPayment, opened, openedWith}
 use Rattle.mortgage.specs.Totals.{totalInterest, remainingBalance, loanToValue}
 use Rattle.mortgage.specs.Savings.{prepaymentSavings}
 use Rattle.mortgage.specs.BreakEven.{breakEvenLines, refinanceBreakeven}
+use Rattle.mortgage.specs.Kinds.{Way}
+use Rattle.mortgage.specs.Openings.{openingLines, kindOpenedWith, kindOpened}
 use Rattle.mortgage.proofs.Exactly as loans
 use Rattle.listing.specs.Listing.{loanLines, listed, listedSize}
 use Rattle.bond.specs.declared.Bond.{Bond}
@@ -49,7 +51,7 @@ use Rattle.senyolanda.specs.Loans.{at, breakevenOf}
 use Rattle.senyolanda.specs.Bonds.{bondOf, uncodedLines, bondRead, ofBond}
 use Rattle.senyolanda.specs.Dates.{datedFractionBy, writtenLines}
 use Rattle.senyolanda.specs.Swaps.{swapOf, swapRead, ofSwap, datedSwapOf, datedSwapRead, ofDatedSwap}
-use Rattle.senyolanda.specs.RecordLines.{afterRecord, afterCode, loanRecordLines, breakEvenRecordLines, bondRecordLines, swapRecordLines, datedSwapRecordLines}
+use Rattle.senyolanda.specs.RecordLines.{afterRecord, afterCode, loanRecordLines, kindRecordLines, breakEvenRecordLines, bondRecordLines, swapRecordLines, datedSwapRecordLines}
 use Rattle.senyolanda.proofs.CodeWaits.{waits}
 
 -- ---- what is refused before it is asked, is refused alike
@@ -102,10 +104,21 @@ module _ {R A B : Type 0} (bad : Bool) (held : R) (badCoded : R → Bool) (other
       (code-next (badCoded held) (others held) (made held) asked lines up ex))
 
 -- ---- loans
-module _ {B : Type 0} (bytes : List ℕ) (asked : Terms → Outcome B) (ex : (t : Terms) → ExactlyWhen (termsLines t) (asked t)) where
-  of-loan : ExactlyWhen (loanRecordLines bytes) (andThen (readTerms bytes) asked)
+module _ {B : Type 0} (bytes : List ℕ) (lines : Terms → List Line) (asked : Terms → Outcome B) (ex : (t : Terms) → ExactlyWhen (lines t) (asked t)) where
+  of-terms : ExactlyWhen (afterRecord (badRecord termsKind termsSize bytes) (lines (termsIn bytes))) (andThen (readTerms bytes) asked)
   unfolding readTerms
-  of-loan = record-first (badRecord termsKind termsSize bytes) (termsIn bytes) asked (termsLines (termsIn bytes)) (ex (termsIn bytes))
+  of-terms = record-first (badRecord termsKind termsSize bytes) (termsIn bytes) asked (lines (termsIn bytes)) (ex (termsIn bytes))
+
+of-loan : {B : Type 0} (bytes : List ℕ) (asked : Terms → Outcome B) → ((t : Terms) → ExactlyWhen (termsLines t) (asked t)) → ExactlyWhen (loanRecordLines bytes) (andThen (readTerms bytes) asked)
+of-loan bytes = of-terms bytes termsLines
+
+-- openings of any kind; their draws are refused by the lines of a draw, as the level loan's
+module _ (way : Way) (bytes : List ℕ) where
+  pub open-of-any-kind-refused-exactly : ExactlyWhen (kindRecordLines way bytes) (andThen (readTerms bytes) (kindOpened way))
+  open-of-any-kind-refused-exactly = of-terms bytes (openingLines way) (kindOpened way) (loans.opening-of-any-kind-refused-exactly way)
+
+  pub open-of-any-kind-with-payment-refused-exactly : (given : Float) → ExactlyWhen (kindRecordLines way bytes) (andThen (readTerms bytes) (λ (t : Terms). kindOpenedWith way t given))
+  open-of-any-kind-with-payment-refused-exactly given = of-terms bytes (openingLines way) _ (λ t. loans.opening-of-any-kind-with-payment-refused-exactly way t given)
 
 module _ (bytes : List ℕ) where
   pub payment-refused-exactly : ExactlyWhen (loanRecordLines bytes) (andThen (readTerms bytes) monthlyPayment)

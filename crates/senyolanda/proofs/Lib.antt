@@ -13,5 +13,6 @@ pub mod SpeedCodes
 pub mod ThreeNumbers
 pub mod Worked
 pub mod YearsAtTheDoor
+pub mod KindAnswers
 pub mod YearsWorked
 pub mod tight

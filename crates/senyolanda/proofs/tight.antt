@@ -14,3 +14,4 @@ pub mod RecordBytes
 pub mod Spreads
 pub mod SwapValues
 pub mod Years
+pub mod Kinds

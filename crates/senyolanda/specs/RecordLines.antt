@@ -8,6 +8,8 @@ use Rattle.refusals.specs.Outcome.{Line, line, lineOfTwo}
 use Rattle.refusals.specs.Table.{badRecord, badCode}
 use Rattle.records.specs.Kinds.{termsKind, termsSize, termsIn, bondKind, bondSize, bondIn, swapKind, swapSize, swapIn, datedSwapKind, datedSwapSize, datedSwapIn}
 use Rattle.mortgage.specs.Terms.{termsLines}
+use Rattle.mortgage.specs.Kinds.{Way}
+use Rattle.mortgage.specs.Openings.{openingLines}
 use Rattle.mortgage.specs.BreakEven.{breakEvenLines}
 use Rattle.bond.specs.Codes.{lastCode as lastFrequency}
 use Rattle.swaps.specs.Codes.{lastCode as lastDayCount}
@@ -27,6 +29,10 @@ afterCode bad others lines = cond bad (others ++ line 11 true ∷ []) lines
 -- ---- a loan's record
 abbrev pub loanRecordLines : List ℕ → List Line
 loanRecordLines bytes = afterRecord (badRecord termsKind termsSize bytes) (termsLines (termsIn bytes))
+
+-- of a loan of any kind
+abbrev pub kindRecordLines : Way → List ℕ → List Line
+kindRecordLines way bytes = afterRecord (badRecord termsKind termsSize bytes) (openingLines way (termsIn bytes))
 
 -- two of them: the old loan's at 0, the new one's at 1
 abbrev pub breakEvenRecordLines : List ℕ → List ℕ → Float → List Line
