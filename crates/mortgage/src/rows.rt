@@ -79,6 +79,7 @@ fn principal_within(amount: f64, balance: f64) -> f64
 }
 
 // A month with this payment and this principal, whose balance's column is raised to 0.
+// A balance less 0 is no work to the compiler, and a NaN that signals would be raised by an instruction which hands it on; the sum with 0 makes it a plain one.
 fn paying(loan: Loan, payment: f64, principal: f64, interest: f64) -> Month
     requires { ⌜ loan .done < 4294967295 ⌝ }
     ensures { λ r. ⌜ r .row ≡ record { month = loan .done + 1; payment = payment; principal = principal; interest = interest; balance = raised (sub binary64 (loan .balance) principal) } ⌝ }
@@ -91,7 +92,7 @@ fn paying(loan: Loan, payment: f64, principal: f64, interest: f64) -> Month
         principal,
         interest,
         left,
-        numbers::clamps::raise_to_zero(left),
+        numbers::clamps::raise_to_zero(left + 0.0),
     )
 }
 
