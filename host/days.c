@@ -114,7 +114,7 @@ static enum status run(char **words) {
     return put_days(words, dates);
 }
 
-static struct option no_options[] = {{NULL, NULL, NULL}};
+static struct option no_options[] = {{.name = NULL}};
 
 const struct command days_command = {
     "days", "count the days between two dates, by actual days and by 30/360", help, no_options, run};

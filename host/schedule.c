@@ -52,6 +52,6 @@ static enum status run(char **words) {
     return status;
 }
 
-static struct option no_options[] = {{NULL, NULL, NULL}};
+static struct option no_options[] = {{.name = NULL}};
 
 const struct command schedule_command = {"schedule", "list the schedule of one loan's record, to the bit", help, no_options, run};

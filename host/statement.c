@@ -60,18 +60,18 @@ enum {
 };
 
 static struct option options[OPTIONS + 1] = {
-    [ALL] = {"--all", NULL, NULL},
-    [AS_ADJUSTABLE] = {"--adjustable", "an initial rate, a cap and a lifetime cap, as in 0.05 0.02 0.06", NULL, .is_three = true},
-    [AS_BALLOON] = {"--balloon", "a month", NULL},
-    [AS_BITS] = {"--bits", NULL, NULL},
-    [AS_CSV] = {"--csv", NULL, NULL},
-    [AS_INTEREST_ONLY] = {"--interest-only", "a number of months", NULL},
-    [GIVEN_PAYMENT] = {"--payment", "an amount", NULL},
-    [INDEX] = {"--index", "index rates, as in 0.05,0.055,0.06", NULL},
-    [RECORDS] = {"--records", "a file's name", NULL},
-    [SEPARATORS] = {"--separators", NULL, NULL},
-    [TOTAL] = {"--total", NULL, NULL},
-    [YEARS] = {"--years", NULL, NULL},
+    [ALL] = {.name = "--all"},
+    [AS_ADJUSTABLE] = {.name = "--adjustable", .wants = "an initial rate, a cap and a lifetime cap, as in 0.05 0.02 0.06", .is_three = true},
+    [AS_BALLOON] = {.name = "--balloon", .wants = "a month"},
+    [AS_BITS] = {.name = "--bits"},
+    [AS_CSV] = {.name = "--csv"},
+    [AS_INTEREST_ONLY] = {.name = "--interest-only", .wants = "a number of months"},
+    [GIVEN_PAYMENT] = {.name = "--payment", .wants = "an amount"},
+    [INDEX] = {.name = "--index", .wants = "index rates, as in 0.05,0.055,0.06"},
+    [RECORDS] = {.name = "--records", .wants = "a file's name"},
+    [SEPARATORS] = {.name = "--separators"},
+    [TOTAL] = {.name = "--total"},
+    [YEARS] = {.name = "--years"},
 };
 
 static bool is_given(int option) {
