@@ -5001,7 +5001,8 @@
 .LBB17_9:                               // %then.1.i.i
                                         //   in Loop: Header=BB17_11 Depth=1
 	movi	d7, #0000000000000000
-	fmaxnm	d16, d2, d7
+	fadd	d6, d2, d7
+	fmaxnm	d16, d6, d7
 	add	w9, w9, #1
 	fmov	d6, d5
 .LBB17_10:                              // %"mortgage::rows::any_month.exit.i"
@@ -5028,7 +5029,8 @@
 	fadd	d6, d2, d5
 	fmov	d7, d2
 	fsub	d2, d2, d2
-	fmaxnm	d16, d2, d4
+	fadd	d16, d2, d4
+	fmaxnm	d16, d16, d4
 	mov	w9, w12
 	b	.LBB17_10
 .LBB17_14:                              // %join.6.i.i
@@ -5038,7 +5040,8 @@
 	fcmp	d6, d2
 	fcsel	d7, d6, d2, mi
 	fsub	d2, d2, d7
-	fmaxnm	d16, d2, d4
+	fadd	d6, d2, d4
+	fmaxnm	d16, d6, d4
 	fmov	d6, d1
 	b	.LBB17_10
 .LBB17_15:                              // %"mortgage::draws::any_rows.exit.loopexit"
@@ -5178,7 +5181,8 @@
 .LBB18_12:                              // %then.1.i.i.i17.i.i
                                         //   in Loop: Header=BB18_14 Depth=1
 	movi	d7, #0000000000000000
-	fmaxnm	d16, d2, d7
+	fadd	d6, d2, d7
+	fmaxnm	d16, d6, d7
 	add	w9, w9, #1
 	fmov	d6, d5
 .LBB18_13:                              // %"mortgage::rows::any_month.exit.i.i.i.i"
@@ -5205,7 +5209,8 @@
 	fadd	d6, d2, d5
 	fmov	d7, d2
 	fsub	d2, d2, d2
-	fmaxnm	d16, d2, d4
+	fadd	d16, d2, d4
+	fmaxnm	d16, d16, d4
 	mov	w9, w13
 	b	.LBB18_13
 .LBB18_17:                              // %join.6.i.i.i.i.i
@@ -5215,7 +5220,8 @@
 	fcmp	d6, d2
 	fcsel	d7, d6, d2, mi
 	fsub	d2, d2, d7
-	fmaxnm	d16, d2, d4
+	fadd	d6, d2, d4
+	fmaxnm	d16, d6, d4
 	fmov	d6, d1
 	b	.LBB18_13
 .LBB18_18:                              // %join.9.i
@@ -5738,7 +5744,8 @@
 	b.hs	.LBB19_43
 // %bb.24:                              // %then.1.i.i
 	movi	d16, #0000000000000000
-	fmaxnm	d17, d2, d16
+	fadd	d4, d2, d16
+	fmaxnm	d17, d4, d16
 	add	w12, w9, #1
 	fmov	d7, d3
 	b	.LBB19_47
@@ -5859,7 +5866,8 @@
 	fmov	d16, d2
 	fsub	d2, d2, d2
 	movi	d4, #0000000000000000
-	fmaxnm	d17, d2, d4
+	fadd	d5, d2, d4
+	fmaxnm	d17, d5, d4
 	b	.LBB19_47
 .LBB19_46:                              // %join.6.i.i
 	fsub	d4, d1, d3
@@ -5868,7 +5876,8 @@
 	fcmp	d4, d2
 	fcsel	d16, d4, d2, mi
 	fsub	d2, d2, d16
-	fmaxnm	d17, d2, d5
+	fadd	d4, d2, d5
+	fmaxnm	d17, d4, d5
 	fmov	d7, d1
 .LBB19_47:                              // %"mortgage::rows::month_due.exit"
 	lsl	x10, x12, #32
@@ -24611,6 +24620,7 @@ senyolanda_remaining_balance:           // @senyolanda_remaining_balance
 	b	.LBB125_13
 .LBB125_16:                             // %join.4.loopexit.i.i
 	movi	d1, #0000000000000000
+	fadd	d0, d0, d1
 	fmaxnm	d0, d0, d1
 .LBB125_17:                             // %arm.2.i.i
 	mov	x8, xzr

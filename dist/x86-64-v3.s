@@ -5533,18 +5533,19 @@
 .LBB17_14:                              # %then.1.i.i
                                         #   in Loop: Header=BB17_16 Depth=1
 	vxorpd	%xmm6, %xmm6, %xmm6
-	vmaxsd	%xmm6, %xmm1, %xmm7
+	vaddsd	%xmm6, %xmm1, %xmm7
+	vmaxsd	%xmm6, %xmm7, %xmm8
 	incl	%esi
-	vmovapd	%xmm5, %xmm8
+	vmovapd	%xmm5, %xmm7
 .LBB17_15:                              # %"mortgage::rows::any_month.exit.i"
                                         #   in Loop: Header=BB17_16 Depth=1
 	movl	%esi, %r10d
 	vcvtsi2sd	%r10, %xmm15, %xmm9
 	vmovsd	%xmm9, -32(%rcx)
-	vmovsd	%xmm8, -24(%rcx)
+	vmovsd	%xmm7, -24(%rcx)
 	vmovsd	%xmm6, -16(%rcx)
 	vmovsd	%xmm5, -8(%rcx)
-	vmovsd	%xmm7, (%rcx)
+	vmovsd	%xmm8, (%rcx)
 	addq	$40, %rcx
                                         # implicit-def: $r11d
 	decl	%r8d
@@ -5561,10 +5562,11 @@
 	jne	.LBB17_19
 # %bb.18:                               # %then.4.i.i
                                         #   in Loop: Header=BB17_16 Depth=1
-	vaddsd	%xmm5, %xmm1, %xmm8
+	vaddsd	%xmm5, %xmm1, %xmm7
 	vmovapd	%xmm1, %xmm6
 	vsubsd	%xmm1, %xmm1, %xmm1
-	vmaxsd	%xmm4, %xmm1, %xmm7
+	vaddsd	%xmm4, %xmm1, %xmm8
+	vmaxsd	%xmm4, %xmm8, %xmm8
 	movl	%r9d, %esi
 	jmp	.LBB17_15
 	.p2align	4
@@ -5574,8 +5576,9 @@
 	vmaxsd	%xmm4, %xmm6, %xmm6
 	vminsd	%xmm1, %xmm6, %xmm6
 	vsubsd	%xmm6, %xmm1, %xmm1
-	vmaxsd	%xmm4, %xmm1, %xmm7
-	vmovapd	%xmm2, %xmm8
+	vaddsd	%xmm4, %xmm1, %xmm7
+	vmaxsd	%xmm4, %xmm7, %xmm8
+	vmovapd	%xmm2, %xmm7
 	jmp	.LBB17_15
 .LBB17_5:
 	movl	%ebx, %esi
@@ -5884,18 +5887,19 @@
 .LBB18_22:                              # %then.1.i.i.i17.i.i
                                         #   in Loop: Header=BB18_24 Depth=1
 	vxorpd	%xmm6, %xmm6, %xmm6
-	vmaxsd	%xmm6, %xmm0, %xmm7
+	vaddsd	%xmm6, %xmm0, %xmm7
+	vmaxsd	%xmm6, %xmm7, %xmm8
 	incl	%r9d
-	vmovapd	%xmm5, %xmm8
+	vmovapd	%xmm5, %xmm7
 .LBB18_23:                              # %"mortgage::rows::any_month.exit.i.i.i.i"
                                         #   in Loop: Header=BB18_24 Depth=1
 	movl	%r9d, %esi
 	vcvtsi2sd	%rsi, %xmm15, %xmm9
 	vmovsd	%xmm9, -32(%r14)
-	vmovsd	%xmm8, -24(%r14)
+	vmovsd	%xmm7, -24(%r14)
 	vmovsd	%xmm6, -16(%r14)
 	vmovsd	%xmm5, -8(%r14)
-	vmovsd	%xmm7, (%r14)
+	vmovsd	%xmm8, (%r14)
 	addq	$40, %r14
                                         # implicit-def: $esi
 	decl	%r12d
@@ -5912,10 +5916,11 @@
 	jne	.LBB18_27
 # %bb.26:                               # %then.4.i.i.i.i.i
                                         #   in Loop: Header=BB18_24 Depth=1
-	vaddsd	%xmm5, %xmm0, %xmm8
+	vaddsd	%xmm5, %xmm0, %xmm7
 	vmovapd	%xmm0, %xmm6
 	vsubsd	%xmm0, %xmm0, %xmm0
-	vmaxsd	%xmm4, %xmm0, %xmm7
+	vaddsd	%xmm4, %xmm0, %xmm8
+	vmaxsd	%xmm4, %xmm8, %xmm8
 	movl	%eax, %r9d
 	jmp	.LBB18_23
 .LBB18_27:                              # %join.6.i.i.i.i.i
@@ -5924,8 +5929,9 @@
 	vmaxsd	%xmm4, %xmm6, %xmm6
 	vminsd	%xmm0, %xmm6, %xmm6
 	vsubsd	%xmm6, %xmm0, %xmm0
-	vmaxsd	%xmm4, %xmm0, %xmm7
-	vmovapd	%xmm3, %xmm8
+	vaddsd	%xmm4, %xmm0, %xmm7
+	vmaxsd	%xmm4, %xmm7, %xmm8
+	vmovapd	%xmm3, %xmm7
 	jmp	.LBB18_23
 .LBB18_28:                              # %then.1.i.i.i
 	movl	%r13d, (%rsp)
@@ -6335,7 +6341,8 @@
 	jae	.LBB19_40
 # %bb.10:                               # %then.1.i.i
 	vxorpd	%xmm5, %xmm5, %xmm5
-	vmaxsd	%xmm5, %xmm2, %xmm6
+	vaddsd	%xmm5, %xmm2, %xmm4
+	vmaxsd	%xmm5, %xmm4, %xmm6
 	incl	%r8d
 	vmovapd	%xmm3, %xmm4
 	jmp	.LBB19_44
@@ -6499,7 +6506,8 @@
 	vmovapd	%xmm2, %xmm5
 	vsubsd	%xmm2, %xmm2, %xmm2
 	vxorpd	%xmm6, %xmm6, %xmm6
-	vmaxsd	%xmm6, %xmm2, %xmm6
+	vaddsd	%xmm6, %xmm2, %xmm7
+	vmaxsd	%xmm6, %xmm7, %xmm6
 	jmp	.LBB19_44
 .LBB19_43:                              # %join.6.i.i
 	vsubsd	%xmm3, %xmm1, %xmm4
@@ -6507,7 +6515,8 @@
 	vmaxsd	%xmm6, %xmm4, %xmm4
 	vminsd	%xmm2, %xmm4, %xmm5
 	vsubsd	%xmm5, %xmm2, %xmm2
-	vmaxsd	%xmm6, %xmm2, %xmm6
+	vaddsd	%xmm6, %xmm2, %xmm4
+	vmaxsd	%xmm6, %xmm4, %xmm6
 	vmovapd	%xmm1, %xmm4
 .LBB19_44:                              # %"mortgage::rows::month_due.exit"
 	movq	%r8, %rdx
@@ -28697,6 +28706,7 @@ senyolanda_remaining_balance:           # @senyolanda_remaining_balance
 	vsubsd	%xmm3, %xmm0, %xmm0
 .LBB126_30:                             # %join.4.loopexit.i.i
 	vxorpd	%xmm1, %xmm1, %xmm1
+	vaddsd	%xmm1, %xmm0, %xmm0
 	vmaxsd	%xmm1, %xmm0, %xmm0
 .LBB126_31:                             # %arm.2.i.i
 	vmovsd	%xmm0, (%rcx)

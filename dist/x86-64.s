@@ -6241,20 +6241,21 @@
 .LBB17_14:                              # %then.1.i.i
                                         #   in Loop: Header=BB17_16 Depth=1
 	xorpd	%xmm6, %xmm6
-	movapd	%xmm1, %xmm8
-	maxsd	%xmm6, %xmm8
+	movapd	%xmm1, %xmm7
+	addsd	%xmm6, %xmm7
+	maxsd	%xmm6, %xmm7
 	incl	%esi
-	movapd	%xmm5, %xmm7
+	movapd	%xmm5, %xmm8
 .LBB17_15:                              # %"mortgage::rows::any_month.exit.i"
                                         #   in Loop: Header=BB17_16 Depth=1
 	movl	%esi, %r10d
 	xorps	%xmm9, %xmm9
 	cvtsi2sd	%r10, %xmm9
 	movsd	%xmm9, -32(%rcx)
-	movsd	%xmm7, -24(%rcx)
+	movsd	%xmm8, -24(%rcx)
 	movsd	%xmm6, -16(%rcx)
 	movsd	%xmm5, -8(%rcx)
-	movsd	%xmm8, (%rcx)
+	movsd	%xmm7, (%rcx)
 	addq	$40, %rcx
                                         # implicit-def: $ebx
 	decl	%r8d
@@ -6272,12 +6273,13 @@
 	jne	.LBB17_19
 # %bb.18:                               # %then.4.i.i
                                         #   in Loop: Header=BB17_16 Depth=1
-	movapd	%xmm1, %xmm7
-	addsd	%xmm5, %xmm7
+	movapd	%xmm1, %xmm8
+	addsd	%xmm5, %xmm8
 	movapd	%xmm1, %xmm6
 	subsd	%xmm1, %xmm1
-	movapd	%xmm1, %xmm8
-	maxsd	%xmm4, %xmm8
+	movapd	%xmm1, %xmm7
+	addsd	%xmm4, %xmm7
+	maxsd	%xmm4, %xmm7
 	movl	%r9d, %esi
 	jmp	.LBB17_15
 	.p2align	4
@@ -6288,9 +6290,10 @@
 	maxsd	%xmm4, %xmm6
 	minsd	%xmm1, %xmm6
 	subsd	%xmm6, %xmm1
-	movapd	%xmm1, %xmm8
-	maxsd	%xmm4, %xmm8
-	movapd	%xmm2, %xmm7
+	movapd	%xmm1, %xmm7
+	addsd	%xmm4, %xmm7
+	maxsd	%xmm4, %xmm7
+	movapd	%xmm2, %xmm8
 	jmp	.LBB17_15
 .LBB17_5:
 	movl	%r11d, %esi
@@ -6614,20 +6617,21 @@
 .LBB18_22:                              # %then.1.i.i.i17.i.i
                                         #   in Loop: Header=BB18_24 Depth=1
 	xorpd	%xmm6, %xmm6
-	movapd	%xmm0, %xmm8
-	maxsd	%xmm6, %xmm8
+	movapd	%xmm0, %xmm7
+	addsd	%xmm6, %xmm7
+	maxsd	%xmm6, %xmm7
 	incl	%r9d
-	movapd	%xmm5, %xmm7
+	movapd	%xmm5, %xmm8
 .LBB18_23:                              # %"mortgage::rows::any_month.exit.i.i.i.i"
                                         #   in Loop: Header=BB18_24 Depth=1
 	movl	%r9d, %esi
 	xorps	%xmm9, %xmm9
 	cvtsi2sd	%rsi, %xmm9
 	movsd	%xmm9, -32(%r14)
-	movsd	%xmm7, -24(%r14)
+	movsd	%xmm8, -24(%r14)
 	movsd	%xmm6, -16(%r14)
 	movsd	%xmm5, -8(%r14)
-	movsd	%xmm8, (%r14)
+	movsd	%xmm7, (%r14)
 	addq	$40, %r14
                                         # implicit-def: $esi
 	decl	%r12d
@@ -6645,12 +6649,13 @@
 	jne	.LBB18_27
 # %bb.26:                               # %then.4.i.i.i.i.i
                                         #   in Loop: Header=BB18_24 Depth=1
-	movapd	%xmm0, %xmm7
-	addsd	%xmm5, %xmm7
+	movapd	%xmm0, %xmm8
+	addsd	%xmm5, %xmm8
 	movapd	%xmm0, %xmm6
 	subsd	%xmm0, %xmm0
-	movapd	%xmm0, %xmm8
-	maxsd	%xmm4, %xmm8
+	movapd	%xmm0, %xmm7
+	addsd	%xmm4, %xmm7
+	maxsd	%xmm4, %xmm7
 	movl	%eax, %r9d
 	jmp	.LBB18_23
 .LBB18_27:                              # %join.6.i.i.i.i.i
@@ -6660,9 +6665,10 @@
 	maxsd	%xmm4, %xmm6
 	minsd	%xmm0, %xmm6
 	subsd	%xmm6, %xmm0
-	movapd	%xmm0, %xmm8
-	maxsd	%xmm4, %xmm8
-	movapd	%xmm3, %xmm7
+	movapd	%xmm0, %xmm7
+	addsd	%xmm4, %xmm7
+	maxsd	%xmm4, %xmm7
+	movapd	%xmm3, %xmm8
 	jmp	.LBB18_23
 .LBB18_28:                              # %then.1.i.i.i
 	movl	%r13d, (%rsp)
@@ -7086,6 +7092,7 @@
 # %bb.10:                               # %then.1.i.i
 	xorpd	%xmm4, %xmm4
 	movapd	%xmm2, %xmm6
+	addsd	%xmm4, %xmm6
 	maxsd	%xmm4, %xmm6
 	incl	%r8d
 	movapd	%xmm3, %xmm5
@@ -7265,6 +7272,7 @@
 	subsd	%xmm2, %xmm2
 	xorpd	%xmm7, %xmm7
 	movapd	%xmm2, %xmm6
+	addsd	%xmm7, %xmm6
 	maxsd	%xmm7, %xmm6
 	jmp	.LBB19_44
 .LBB19_43:                              # %join.6.i.i
@@ -7275,6 +7283,7 @@
 	minsd	%xmm2, %xmm4
 	subsd	%xmm4, %xmm2
 	movapd	%xmm2, %xmm6
+	addsd	%xmm5, %xmm6
 	maxsd	%xmm5, %xmm6
 	movapd	%xmm0, %xmm5
 .LBB19_44:                              # %"mortgage::rows::month_due.exit"
@@ -29119,6 +29128,7 @@ senyolanda_remaining_balance:           # @senyolanda_remaining_balance
 	jmp	.LBB124_22
 .LBB124_23:                             # %join.4.loopexit.i.i
 	xorpd	%xmm1, %xmm1
+	addsd	%xmm1, %xmm0
 	maxsd	%xmm1, %xmm0
 .LBB124_24:                             # %arm.2.i.i
 	movsd	%xmm0, (%rcx)

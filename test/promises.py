@@ -15,7 +15,7 @@ HEADING = "## What is proved\n"
 ALTERED = [
     ("`exactly` in `crates/refusals", "`exactly-so` in `crates/refusals"),
     ("crates/refusals/proofs/Judging.antt", "crates/refusals/proofs/Judged.antt"),
-    ("(`draw-spec` in `crates/mortgage/proofs/draws/draw/Proof.antt`)", ""),
+    ("(`draw-kind-spec` in `crates/mortgage/proofs/draws/draw_kind/Proof.antt`)", ""),
     (HEADING, "## What holds\n"),
 ]
 

@@ -170,11 +170,11 @@ pub(crate) fn put_next(
             *owed = 0;
             ACCEPTED
         }
-        Next::Due(row, loan) => {
+        Next::Due(row, after) => {
             records::row_record::write_row(row, record);
-            hand_back(loan, counts, amounts);
+            hand_back(after, counts, amounts);
             *written = 1;
-            *owed = mortgage::rows::kind_rows_due(kind, loan);
+            *owed = mortgage::rows::kind_rows_due(kind, after);
             ACCEPTED
         }
     }
