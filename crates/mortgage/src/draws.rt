@@ -162,6 +162,21 @@ fn lay_course(loan: Loan, course: Course, room: &mut [f64], count: u32) -> Loan
     lay_stretch(next, course, &mut room[at..], rest)
 }
 
+// The next rows of one year: ordinary months first, here, where the loan goes through no memory from one year to the next, then what is left.
+fn lay_year(loan: Loan, course: Course, room: &mut [f64], count: u32) -> Loan
+    requires { ⌜ (count * width ≤ length (now room)) × (course .only ≤ loan .done) × (loan .done + count ≤ course .end) ⌝ }
+    requires { ⌜ 0 < count ⌝ }
+    ensures { λ r. ⌜ r ≡ afterOn course count loan ⌝ }
+    ensures { λ _. ⌜ now (room .exit) ≡ laid width count (rowsOn course count loan) (now (room .entry)) ⌝ }
+{
+    let most = fewer(course.end - loan.done - 1, count as usize);
+    let run = ordinary_rows(loan, course, room, most);
+    let k = run.count;
+    let next = run.loan;
+    let at = k as usize * WIDTH;
+    lay_stretch(next, course, &mut room[at..], count - k)
+}
+
 // The next rows of an adjustable loan, year by year: what the next year begins with is worked out before this year's rows, which it does not wait for.
 fn lay_years(
     adjustment: Adjustment,
@@ -193,7 +208,7 @@ fn lay_years(
             begun.term,
             index,
         );
-        l = lay_stretch(begun, course, &mut room[k as usize * WIDTH..], n);
+        l = lay_year(begun, course, &mut room[k as usize * WIDTH..], n);
         k += n;
     }
     l

@@ -55,31 +55,32 @@ coming-behind-requires-2 c κs =
     let a = s .args in
     rw (begun-term (a .adjustment) (now (a .index)) (a .loan) (now (a .room)) (a .count) (s .pre .0 .0) (s .pre .0 .1) (h .loop .room) (h .loop .l) (h .loop .coming) (h .loop .k) (h .loop .inv) (c .before .before .before .before .loop-test .taken) (c .before .before .before .with-coming .result) (c .before .before .before .with-coming .ensures)) (s .pre .0 .2)
 
-cast-lay-stretch : tie.Need-cast-lay-stretch Inv-loop μ-loop
-cast-lay-stretch c = search needs
+cast-lay-year : tie.Need-cast-lay-year Inv-loop μ-loop
+cast-lay-year c = search needs
 
-mul-lay-stretch : tie.Need-mul-lay-stretch Inv-loop μ-loop
-mul-lay-stretch c = omega arith
+mul-lay-year : tie.Need-mul-lay-year Inv-loop μ-loop
+mul-lay-year c = omega arith
 
-mul-lay-stretch-2 : tie.Need-mul-lay-stretch-2 Inv-loop μ-loop
-mul-lay-stretch-2 c = omega arith
+mul-lay-year-2 : tie.Need-mul-lay-year-2 Inv-loop μ-loop
+mul-lay-year-2 c = omega arith
 
-sub-lay-stretch : tie.Need-sub-lay-stretch Inv-loop μ-loop
-sub-lay-stretch c = omega arith
+sub-lay-year : tie.Need-sub-lay-year Inv-loop μ-loop
+sub-lay-year c = omega arith
 
-part-lay-stretch-start : tie.Need-part-lay-stretch-start Inv-loop μ-loop
-part-lay-stretch-start c = omega arith
+part-lay-year-start : tie.Need-part-lay-year-start Inv-loop μ-loop
+part-lay-year-start c = omega arith
 
-part-lay-stretch-end : tie.Need-part-lay-stretch-end Inv-loop μ-loop
-part-lay-stretch-end c = omega arith
+part-lay-year-end : tie.Need-part-lay-year-end Inv-loop μ-loop
+part-lay-year-end c = omega arith
 
-lay-stretch-requires : tie.Need-lay-stretch-requires Inv-loop μ-loop
-lay-stretch-requires c κs =
+lay-year-requires : tie.Need-lay-year-requires Inv-loop μ-loop
+lay-year-requires c κs =
     let h = c .before .before .before .before .before .before .before in
     let s = h .before .before .before .before in
     let a = s .args in
     let y = stretch-fits (a .adjustment) (now (a .index)) (a .loan) (now (a .room)) (a .count) (s .pre .0 .0) (s .pre .0 .1) (h .loop .room) (h .loop .l) (h .loop .coming) (h .loop .k) (h .loop .inv) (c .before .before .before .before .before .before .loop-test .taken) (c .before .before .before .before .before .with-coming .result) (c .before .before .before .before .before .with-coming .ensures) (c .before .before .before .fewer .result) (c .before .before .before .fewer .ensures) in
-    (y .0, zero-le, y .1)
+    let o = of-a-year (a .adjustment) (now (a .index)) (a .loan) (now (a .room)) (a .count) (s .pre .0 .0) (s .pre .0 .1) (h .loop .room) (h .loop .l) (h .loop .coming) (h .loop .k) (h .loop .inv) (c .before .before .before .before .before .before .loop-test .taken) (c .before .before .before .before .before .with-coming .result) (c .before .before .before .before .before .with-coming .ensures) (c .before .before .before .fewer .result) (c .before .before .before .fewer .ensures) in
+    ((y .0, zero-le, y .1), o .0)
 
 add-k : tie.Need-add-k Inv-loop μ-loop
 add-k c =
@@ -102,7 +103,7 @@ loop-again c =
     let h = c .before .before .before .before .before .before .before .before .before .before in
     let s = h .before .before .before .before in
     let a = s .args in
-    let y = c .before .before .lay-stretch in
+    let y = c .before .before .lay-year in
     let b = c .before .before .before .before .coming-behind2 in
     a-year (a .adjustment) (now (a .index)) (a .loan) (now (a .room)) (a .count) (s .pre .0 .0) (s .pre .0 .1) (h .loop .room) (h .loop .l) (h .loop .coming) (h .loop .k) (h .loop .inv) (c .before .before .before .before .before .before .before .before .before .loop-test .taken) (c .before .before .before .before .before .before .before .before .with-coming .result) (c .before .before .before .before .before .before .before .before .with-coming .ensures) (c .before .before .before .before .before .before .fewer .result) (c .before .before .before .before .before .before .fewer .ensures) _ refl
     (y .result) (y .ensures .0) (b .result) (y .last .1 .1 .0) (y .ensures .1) (b .ensures)
@@ -131,13 +132,13 @@ lay-years-spec =
     fewer-requires
     add-coming-behind
     coming-behind-requires-2
-    cast-lay-stretch
-    mul-lay-stretch
-    mul-lay-stretch-2
-    sub-lay-stretch
-    part-lay-stretch-start
-    part-lay-stretch-end
-    lay-stretch-requires
+    cast-lay-year
+    mul-lay-year
+    mul-lay-year-2
+    sub-lay-year
+    part-lay-year-start
+    part-lay-year-end
+    lay-year-requires
     add-k
     loop-less
     loop-again
