@@ -1410,12 +1410,12 @@ static inline SENYOLANDA_CHECKED senyolanda_result senyolanda_flows_duration_con
  *     21984 dated_duration_convexity           488 bond_macaulay_duration_at_price    16 zero_curve_discount_factor
  *     21936 dated_pv                           488 bond_modified_duration_at_price     8 bond_cash_flows
  *     20384 z_spread                           488 bond_price_change                   8 yield_curve_forward_rate
- *      9824 pool_cash_flows                    456 bond_macaulay_duration              0 bond_current_yield
- *      7856 bootstrap                          456 bond_modified_duration              0 bond_dv01
- *      5768 value_dated_swap                   448 draw_balloon                        0 bond_price
- *      5704 value_swap                         448 draw_interest_only                  0 day_count_fraction
- *      5672 dated_swap_dv01                    432 draw                                0 day_number
- *      5608 swap_dv01                          432 draw_adjustable                     0 discount_curve_rate
+ *      9824 pool_cash_flows                    464 draw_balloon                        0 bond_current_yield
+ *      7856 bootstrap                          464 draw_interest_only                  0 bond_dv01
+ *      5768 value_dated_swap                   456 bond_macaulay_duration              0 bond_price
+ *      5704 value_swap                         456 bond_modified_duration              0 day_count_fraction
+ *      5672 dated_swap_dv01                    448 draw_adjustable                     0 day_number
+ *      5608 swap_dv01                          432 draw                                0 discount_curve_rate
  *      4632 dated_swap_npv                     416 draw_book                           0 linear_interpolate
  *      4600 dated_par_swap_rate                360 bond_yield_to_maturity              0 ln
  *      4600 dated_swap_duration                344 next_adjustable_row                 0 look_up_year
@@ -1436,10 +1436,10 @@ static inline SENYOLANDA_CHECKED senyolanda_result senyolanda_flows_duration_con
  *       928 yield_curve_discount_factor_each    48 read_swap                           0 swap_curve_rate
  *       928 zero_curve_discount_factor_each     40 days_30_360                         0 total_interest
  *       784 exp_each                            32 look_up_balloon_year                0 write_bond
- *       736 draw_adjustable_with_years          32 monthly_smm                         0 write_loan
- *       736 draw_balloon_with_years             32 read_row                            0 write_row
- *       736 draw_interest_only_with_years       32 refinance_breakeven                 0 write_swap
- *       720 draw_with_years                     24 pool_totals                         0 zero_curve_rate
+ *       752 draw_adjustable_with_years          32 monthly_smm                         0 write_loan
+ *       752 draw_balloon_with_years             32 read_row                            0 write_row
+ *       752 draw_interest_only_with_years       32 refinance_breakeven                 0 write_swap
+ *       736 draw_with_years                     24 pool_totals                         0 zero_curve_rate
  *       520 bond_convexity_at_price             24 read_bond
  *       508 discount_curve_rate_each            16 discount_curve_factor
  */
