@@ -169,7 +169,8 @@ fn lay_year(loan: Loan, course: Course, room: &mut [f64], count: u32) -> Loan
     ensures { λ r. ⌜ r ≡ afterOn course count loan ⌝ }
     ensures { λ _. ⌜ now (room .exit) ≡ laid width count (rowsOn course count loan) (now (room .entry)) ⌝ }
 {
-    let most = fewer(course.end - loan.done - 1, count as usize);
+    let due = course.end - loan.done;
+    let most = fewer(due - 1, count as usize);
     let run = ordinary_rows(loan, course, room, most);
     let k = run.count;
     let next = run.loan;

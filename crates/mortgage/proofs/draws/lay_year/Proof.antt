@@ -11,11 +11,11 @@ use Rattle.mortgage.proofs.RowsLaid.{placesOn, wide-on}
 use Rattle.mortgage.proofs.draws.lay_year.Statement.{statement}
 use Rattle.mortgage.proofs.draws.lay_year.Tie as tie
 
+sub-due : tie.Need-sub-due
+sub-due c = search needs
+
 sub-fewer : tie.Need-sub-fewer
 sub-fewer c = search needs
-
-sub-fewer-2 : tie.Need-sub-fewer-2
-sub-fewer-2 c = search needs
 
 fewer-requires : tie.Need-fewer-requires
 fewer-requires c κs = search needs
@@ -70,8 +70,8 @@ pub lay-year-spec : {M : Type 1} → statement M
 lay-year-spec =
     tie.close
     (tie.spec
+    sub-due
     sub-fewer
-    sub-fewer-2
     fewer-requires
     ordinary-rows-requires
     cast-at
