@@ -5,7 +5,7 @@ use mathlib.Core.List.{List, [], _∷_, map}
 use Prim.Native.Nat.{ℕ, _<_, _≤_}
 use native.Mathlib.Omega.{arith}
 use lib.Dec.{eqb, ltb}
-use lib.ListN.{length, getD}
+use lib.ListN.{length}
 use lib.Ieee.{Float}
 use borrow.Author.Tests.{le-ltb, ltb-false, eqb-false}
 use Rattle.refusals.specs.declared.Verdict.{Verdict}
@@ -14,7 +14,7 @@ use Rattle.refusals.specs.declared.Refusal.{Refusal}
 use Rattle.refusals.specs.Answers.{verdictOutcome}
 use Rattle.refusals.specs.Outcome.{Outcome, refused, accepted, line, alone}
 use Rattle.refusals.specs.Table.{badTerm, noRoom, pastEnd, badBalloon, badInitial, badCap, tooFewEntries, badEntry}
-use Rattle.refusals.proofs.Causes.{neither}
+use Rattle.refusals.proofs.Causes.{neither, alone-clear}
 use Rattle.refusals.proofs.Judging.{none-is, passed}
 use Rattle.refusals.proofs.OneCause.{clear}
 use Rattle.refusals.proofs.Verdicts.{verdict, refused-by, accepted-by, accepted-alike}
@@ -39,13 +39,9 @@ wide way l = refl
 abbrev pub Fits : Way → ℕ → Type 0
 Fits way term = accepted tt ≡ verdict (kindLines way term)
 
--- where a line's only cause, or its single one beside those of a list, is not there
+-- where a line's only cause is not there
 one-none : (k : ℕ) (b : Bool) → accepted tt ≡ verdict (line k b ∷ []) → b ≡ false
 one-none k b e = none-is (passed tt tt (line k b) [] e .0) 0
-
-alone-none : (b : Bool) (causes : List Bool) → getD (alone b causes) 0 false ≡ false → b ≡ false
-alone-none b [] e = e
-alone-none b (c ∷ causes) e = neither b c e .0
 
 pub fits-listed : (way : Way) (term : ℕ) → Fits way term → Listed way term
 unfolding tooFewEntries
@@ -53,7 +49,7 @@ fits-listed level term f = tt
 fits-listed (interestOnly months) term f = tt
 fits-listed (balloon month) term f = tt
 fits-listed (adjustable a index) term f =
-    let single = alone-none (badInitial (a .initial) || badCap (a .cap) || badCap (a .lifetime) || tooFewEntries (laterYears term) (length index)) (map badEntry (entriesRead index term)) (none-is (passed tt tt (badAdjustment a index term) [] f .0) 0) in
+    let single = alone-clear (badInitial (a .initial) || badCap (a .cap) || badCap (a .lifetime) || tooFewEntries (laterYears term) (length index)) (map badEntry (entriesRead index term)) (none-is (passed tt tt (badAdjustment a index term) [] f .0)) .0 in
     ltb-false (length index) (laterYears term) (neither (badInitial (a .initial) || badCap (a .cap) || badCap (a .lifetime)) (tooFewEntries (laterYears term) (length index)) single .1)
 
 pub fits-end : (way : Way) (term : ℕ) → Fits way term → badEnd way term ≡ false

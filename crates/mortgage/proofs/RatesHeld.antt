@@ -17,11 +17,10 @@ use Rattle.numbers.proofs.Order.{amount-by-tests}
 use Rattle.numbers.proofs.Comparing.{clash, finite-real, first-real, second-real, at-or-below-real, lt-le, le-trans, le-itself, compared-itself, finite-within}
 use Rattle.numbers.proofs.Growing.{sum-not-below, difference-not-above}
 use Rattle.numbers.specs.Clamps.{plusZero}
-use Rattle.refusals.specs.Outcome.{accepted, line, alone, judged}
-use Rattle.refusals.specs.Table.{badAmount, badTerm, badInitial, badCap, tooFewEntries, badEntry}
-use Rattle.refusals.proofs.Causes.{neither}
-use Rattle.refusals.proofs.Judging.{none-is, past-none, passed}
-use Rattle.refusals.proofs.Verdicts.{accepted-value}
+use Rattle.refusals.specs.Outcome.{accepted, line}
+use Rattle.refusals.specs.Table.{badInitial, badCap, tooFewEntries, badEntry}
+use Rattle.refusals.proofs.Causes.{neither, alone-clear}
+use Rattle.refusals.proofs.Judging.{none-is, passed}
 use Rattle.records.specs.declared.Terms.{Terms}
 use Rattle.mortgage.specs.declared.Loan.{Loan}
 use Rattle.mortgage.specs.declared.kinds.Adjustment.{Adjustment}
@@ -29,11 +28,12 @@ use Rattle.mortgage.specs.Payment.{monthlyRate, payment, loanOf}
 use Rattle.mortgage.specs.RowRule.{interestOf}
 use Rattle.mortgage.specs.Kinds.{Way, adjustable, laterYears, entriesRead, badAdjustment}
 use Rattle.mortgage.specs.Rates.{lowest, highest, top, heldWithin, notAbove, nextRate, entryBehind, rateOfYear, HeldByCaps, beginsLaterYear, adjustedTo, inForce}
-use Rattle.mortgage.specs.Openings.{startingTerms, openingLines, kindOpenedWith}
+use Rattle.mortgage.specs.Openings.{startingTerms, kindOpenedWith}
 use Rattle.mortgage.specs.Month.{rowOn, nextOn, rowOf, nextOf}
 use Rattle.steps.specs.Steps.{stepped}
 use Rattle.mortgage.specs.Rows.{after}
 use Rattle.mortgage.proofs.RowLaws.{in-force-balance, done-after, term-after}
+use Rattle.mortgage.proofs.Sequences.{loan-opened, lines-passed}
 use Rattle.mortgage.proofs.DrawCases.{Fits, fits-listed}
 
 -- ---- a number held within two bounds and then not above a third, where a finite number lies within all three
@@ -139,14 +139,6 @@ unfolding lt sub add ofBits
 may-pass-the-cap = refl
 
 -- ---- what line 16 says where it has no cause
-alone-clear : (b : Bool) (causes : List Bool) → ((q : ℕ) → getD (alone b causes) q false ≡ false) → (b ≡ false) × ((q : ℕ) → getD causes q false ≡ false)
-alone-clear b [] none = (none 0, λ q. refl)
-alone-clear b (c ∷ causes) none = (neither b c (none 0) .0, go)
-  where
-    go : (q : ℕ) → getD (c ∷ causes) q false ≡ false
-    go zero = neither b c (none 0) .1
-    go (suc q) = none (suc q)
-
 entry-clear : (n : ℕ) (index : List Float) → n ≤ length index → ((q : ℕ) → getD (map badEntry (take n index)) q false ≡ false) → (y : ℕ) → y < n → badEntry (getD index y nan) ≡ false
 entry-clear zero index h none y l = absurd (omega arith)
 entry-clear (suc n) [] h none y l = absurd (omega arith)
@@ -314,8 +306,7 @@ module _ (a : Adjustment) (index : List Float) where
   -- ---- of a loan that an opening accepted
   module _ (t : Terms) (pay : Float) (l : Loan) (opened : kindOpenedWith way t pay ≡ accepted l) where
     is-opened : l ≡ loanOf (startingTerms way t) pay
-    unfolding kindOpenedWith
-    is-opened = accepted-value (openingLines way t) (loanOf (startingTerms way t) pay) l opened
+    is-opened = loan-opened way t pay l opened
 
     opened-done : l .done ≡ 0
     unfolding loanOf
@@ -331,12 +322,7 @@ module _ (a : Adjustment) (index : List Float) where
 
     -- line 16 has no cause
     pub opened-fits : Fits way (t .term)
-    unfolding kindOpenedWith judged
-    opened-fits =
-        let v = loanOf (startingTerms way t) pay in
-        let first = passed v l (line 1 (badAmount (t .principal))) (line 2 (badTerm (t .term)) ∷ badAdjustment a index (t .term) ∷ []) (sym opened) in
-        let second = passed v l (line 2 (badTerm (t .term))) (badAdjustment a index (t .term) ∷ []) (first .1) in
-        sym (past-none 16 (accepted tt) 0 (passed v l (badAdjustment a index (t .term)) [] (second .1) .0))
+    opened-fits = lines-passed way t pay l opened .2
 
     -- the month k + 1 has the rate of its year, and its interest is by that rate
     pub rate-in-month : (k : ℕ) → inForce way (after way k l) .rate ≡ rateOfYear a index (k / 12)

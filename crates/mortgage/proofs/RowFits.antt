@@ -4,7 +4,7 @@ use mathlib.Core.Bool.{Bool, true, false, cond}
 use Prim.Native.Nat.{ℕ, zero, suc}
 use lib.Dec.{T}
 use lib.IntN.{pos}
-use lib.Ieee.{Float, binary64, sub, div, eq, fits, lt, ofInt, ofBits}
+use lib.Ieee.{Float, binary64, div, eq, fits, lt, ofInt, ofBits}
 use lib.Ieee.Fits.{cond-fits, add-fits, sub-fits, mul-fits, div-fits}
 use Rattle.numbers.specs.Clamps.{plusZero, raised, lowered}
 use Rattle.records.specs.declared.Row.{Row}

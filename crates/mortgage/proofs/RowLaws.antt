@@ -1,8 +1,7 @@
 -- Laws of a loan's rows: what stays from row to row, on a course and of any kind; that months which a kind gives one rate and one payment are those of its course; and that a month made of
 -- the amounts of interest alone, of the last month, or of any other, is the rule's. Assumes nothing.
-use mathlib.Core.Path.{_≡_, refl, sym, ap, _∙_}
+use mathlib.Core.Path.{_≡_, refl, ap, _∙_}
 use mathlib.Core.Bool.{Bool, true, false, cond}
-use mathlib.Core.List.{List}
 use Prim.Native.Nat.{ℕ, zero, suc, _+_, _-_, _<_, _≤_}
 use native.Mathlib.Omega.{arith}
 use lib.Ieee.{Float, binary64, add, sub, mul}

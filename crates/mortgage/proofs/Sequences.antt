@@ -2,15 +2,15 @@
 -- in between change nothing, portions to the end are the rows of one draw, and as many rooms with a whole row as rows are due finish the loan. Assumes nothing.
 use mathlib.Core.Path.{_≡_, refl, sym, ap, _∙_, subst}
 use mathlib.Core.Bool.{false}
-use mathlib.Core.List.{List, [], _∷_}
+use mathlib.Core.List.{List, _∷_}
 use Prim.Native.Nat.{ℕ, _-_, _*_, _≤_}
 use native.Mathlib.Omega.{arith}
 use lib.ListN.{length}
 use lib.Ieee.{Float}
-use Rattle.refusals.specs.Outcome.{refused, accepted, Line, line, judged}
+use Rattle.refusals.specs.Outcome.{refused, accepted, line}
 use Rattle.refusals.specs.Table.{badAmount, badTerm}
-use Rattle.refusals.proofs.Judging.{none-is, past-none, passed}
-use Rattle.refusals.proofs.Verdicts.{accepted-value, verdict}
+use Rattle.refusals.proofs.Judging.{none-is, passed}
+use Rattle.refusals.proofs.Verdicts.{accepted-value, accepts-whatever}
 use Rattle.records.specs.declared.Terms.{Terms}
 use Rattle.steps.specs.Calls.{roomy}
 use Rattle.steps.proofs.Calls as calls
@@ -27,14 +27,6 @@ use Rattle.mortgage.specs.Level as of-level
 use Rattle.mortgage.proofs.RowLaws.{term-after, due-after}
 use Rattle.mortgage.proofs.DrawCases.{rowPlaces, Fits}
 use Rattle.mortgage.proofs.DrawLaws.{wrote-is, rows-within, rows-drawn, handed-back}
-
--- lines that accept some value accept any
-verdict-accepts : {Value : Type 0} (ls : List Line) (v d : Value) → accepted d ≡ judged ls v → accepted tt ≡ verdict ls
-unfolding judged
-verdict-accepts [] v d e = refl
-verdict-accepts (l ∷ ls) v d e =
-    let p = passed v d l ls e in
-    verdict-accepts ls v d (p .1) ∙ sym (past-none (l .number) (verdict ls) 0 (p .0))
 
 module _ (way : Way) where
   -- ---- the next so many rows of a loan in hand, no more than are due, and the loan after them: whatever calls wrote them
@@ -119,7 +111,7 @@ module _ (way : Way) where
           let v = loanOf (startingTerms way t) pay in
           let first = passed v l (line 1 (badAmount (t .principal))) (line 2 (badTerm (t .term)) ∷ kindLines way (t .term)) (sym e) in
           let second = passed v l (line 2 (badTerm (t .term))) (kindLines way (t .term)) (first .1) in
-          (none-is (first .0) 0, none-is (second .0) 0, verdict-accepts (kindLines way (t .term)) v l (second .1))
+          (none-is (first .0) 0, none-is (second .0) 0, accepts-whatever (kindLines way (t .term)) v l (second .1))
 
       -- "Since a draw with room writes at least one row, n draws are enough", n the rows due
       pub enough-draws-of-any-kind : (rooms : List (List Float)) → rowsDue way t ≤ roomy width rooms → due way (left way l rooms) ≡ 0

@@ -1,5 +1,5 @@
 -- The cases of the lookup of a year and of a draw with year-end lines, in the order in which the code tests: what is answered, and what the room and the lines hold then. Assumes nothing.
-use mathlib.Core.Path.{_≡_, refl, sym, ap, _∙_}
+use mathlib.Core.Path.{_≡_, sym, ap, _∙_}
 use mathlib.Core.Bool.{true, false}
 use mathlib.Core.List.{List}
 use Prim.Native.Nat.{ℕ, _+_, _-_, _*_, _/_, _<_, _≤_}
@@ -8,10 +8,10 @@ use lib.ListN.{length}
 use lib.Ieee.{Float}
 use borrow.Author.Tests.{lt-ltb, le-ltb, ltb-false, eq-eqb, ne-eqb}
 use Rattle.refusals.specs.declared.Refusal.{Refusal}
-use Rattle.refusals.specs.Outcome.{Outcome, refused, accepted, Line, firstOr, judged}
+use Rattle.refusals.specs.Outcome.{Outcome, refused, accepted, firstOr, judged}
 use Rattle.refusals.specs.Table.{badTerm, noRoom, tooFewLines, pastEnd, noRowDrawn}
 use Rattle.refusals.proofs.Causes.{or-true, or-false, term-within}
-use Rattle.refusals.proofs.Verdicts.{verdict, refused-alike, refused-as}
+use Rattle.refusals.proofs.Verdicts.{refused-as, accepts-whatever}
 use Rattle.steps.specs.Steps.{laid}
 use Rattle.mortgage.specs.declared.Loan.{Loan}
 use Rattle.mortgage.specs.declared.draws.Portion.{Portion}
@@ -26,14 +26,6 @@ use Rattle.mortgage.specs.inner.RoomRows.{rowsFrom}
 use Rattle.mortgage.proofs.DrawCases.{Drawable, draw-clear, fits-ends}
 use Rattle.mortgage.proofs.DrawLaws.{written-is, filled-is, written-within}
 use Rattle.mortgage.proofs.EnteringRows.{entered-from-room}
-
--- lines that accept a value accept, whatever they judge
-lines-accept : {Value : Type 0} (ls : List Line) (v d : Value) → accepted d ≡ judged ls v → accepted tt ≡ verdict ls
-lines-accept ls v d e = go (verdict ls) refl
-  where
-    go : (o : Outcome Unit) → o ≡ verdict ls → accepted tt ≡ verdict ls
-    go (accepted u) h = h
-    go (refused k p) h = let r = refused-alike ls v k p h in let z : _≡_ {A = ℕ} 0 1 = cc in absurd (omega arith)
 
 -- lines enough are a whole line for each started year, and so for each year that rows have begun
 pub enough-lines : (l : Loan) (years : ℕ) → fewerThanStarted l years ≡ false → startedYears (l .term) * yearWidth ≤ years
@@ -116,7 +108,7 @@ module _ (way : Way) where
         -- drawn: the months done and the rows written are within the loan, and so are the lines
         drawable : Drawable way l
         unfolding drawn
-        drawable = draw-clear way l (length room) (lines-accept (drawLines way l (length room)) (portion way l (length room)) d e)
+        drawable = draw-clear way l (length room) (accepts-whatever (drawLines way l (length room)) (portion way l (length room)) d e)
 
         months-within : l .done + d .written ≤ l .term
         unfolding due

@@ -62,3 +62,11 @@ pub accepted-value : {Value : Type 0} (ls : List Line) (v d : Value) → judged 
 unfolding judged
 accepted-value [] v d e = cc
 accepted-value (l ∷ ls) v d e = accepted-value ls v d (first-accepts (l .number) 0 (l .causes) (judged ls v) d e)
+
+-- ---- lines that accept some value accept, whatever they judge
+pub accepts-whatever : {Value : Type 0} (ls : List Line) (v d : Value) → accepted d ≡ judged ls v → accepted tt ≡ verdict ls
+accepts-whatever ls v d e = go (verdict ls) refl
+  where
+    go : (o : Outcome Unit) → o ≡ verdict ls → accepted tt ≡ verdict ls
+    go (accepted u) h = h
+    go (refused k p) h = let r = refused-alike ls v k p h in let z : _≡_ {A = ℕ} 0 1 = cc in absurd (omega arith)
