@@ -231,7 +231,7 @@ fn lay_kind(kind: Kind, loan: Loan, index: &[f64], room: &mut [f64], count: u32)
     }
 }
 
-// The lines of the table that a draw meets, by rising number.
+// The lines of the table that a draw meets: past the end no row is due, so that 3 and 10 are never both there.
 fn judge_draw(kind: Kind, loan: Loan, index: &[f64], places: usize) -> Verdict
     ensures { λ r. ⌜ verdictOutcome r ≡ judged (drawLines (wayOf kind (now (index .entry))) loan places) tt ⌝ }
 {

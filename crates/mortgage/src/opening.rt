@@ -82,7 +82,7 @@ fn months_behind(term: u32, months: u32) -> u32
     if term < months { 0 } else { term - months }
 }
 
-// A loan of any kind, with a payment that it is worth looking at once its lines have no cause.
+// Opens a loan of any kind with a payment.
 fn open_kind_with_payment(kind: Kind, terms: Terms, payment: f64, index: &[f64]) -> Opening
     ensures { λ r. ⌜ openingOutcome r ≡ kindOpenedWith (wayOf kind (now (index .entry))) terms payment ⌝ }
 {
