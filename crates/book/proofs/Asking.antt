@@ -4,16 +4,14 @@ use mathlib.Core.Bool.{false}
 use mathlib.Core.List.{List}
 use Prim.Native.Nat.{ℕ, _*_, _≤_, _<_}
 use native.Mathlib.Omega.{arith}
-use lib.Dec.{eqb, ltb}
 use lib.ListN.{length}
-use borrow.Author.Tests.{eqb-false}
 use Rattle.refusals.specs.declared.Refusal.{Refusal}
 use Rattle.refusals.specs.declared.Verdict.{Verdict}
 use Rattle.refusals.specs.declared.Verdict.the-variants as verdict-is
 use Rattle.refusals.specs.Answers.{verdictOutcome}
 use Rattle.refusals.specs.Outcome.{Outcome, refused, accepted, andThen, judged}
 use Rattle.refusals.specs.Table.{badTerm}
-use Rattle.refusals.proofs.Causes.{neither}
+use Rattle.refusals.proofs.Causes.{some-term}
 use Rattle.refusals.proofs.Judging.{passed, none-is}
 use Rattle.refusals.proofs.Verdicts.{refused-by, accepted-by, accepted-value}
 use Rattle.records.specs.declared.Terms.{Terms}
@@ -79,10 +77,6 @@ fresh bytes i l e = go (readTerms (recordAt termsSize bytes i)) e
     go (accepted t) g = fresh-terms t l g
 
 -- so that some month is due
-some-term : (n : ℕ) → badTerm n ≡ false → 0 < n
-unfolding badTerm
-some-term n e = let h : n ≡ 0 → ⊥ = eqb-false n 0 (neither (eqb n 0) (ltb 1200 n) e .0) in omega (arith, h)
-
 pub some-due : (l : Loan) → Fresh l → l .done < endMonth l
 unfolding any-month.endMonth
 some-due l new = omega (arith, some-term (l .term) (new .good), new .unstarted)

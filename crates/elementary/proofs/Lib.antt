@@ -1,5 +1,6 @@
 -- What the proofs of several functions and of later crates use.
 pub mod Turns
+pub mod WholePowers
 pub mod Tables
 pub mod Horners
 pub mod Sizes

@@ -1,24 +1,25 @@
 -- Where rounding changes nothing: x·1 is x, x/x is 1, and a zero added to a value other than 0 leaves it. A zero times a finite number is a zero, and so is a zero over a value other than 0.
 -- Assumes nothing.
 use mathlib.Core.Path.{_≡_, refl, sym, ap, _∙_, subst}
-use mathlib.Core.Bool.{Bool, true, false}
+use mathlib.Core.Bool.{Bool, true, false, _||_, Bool·beq}
 use Prim.Native.Nat.{ℕ, zero, suc, _+_, _-_, _*_, _^_, _<_}
 use native.Mathlib.Nat.{mul-pos, zero-lt-suc, le-of-lt}
 use native.Mathlib.Omega.{arith}
 use lib.IntN.{ℤ, pos}
-use lib.Dec.{T, eqb}
-use lib.Ieee.{Float, nan, inf, fin, Format, binary64, low, up, down, fits, unlike, round, sum, add, mul, div, lt, sub, ofBits}
-use lib.Ieee.Fits.{up-pos, down-pos}
+use lib.Dec.{T, eqb, eqb→eq}
+use lib.Ieee.{Float, nan, inf, fin, Format, binary64, low, up, down, fits, unlike, round, sum, add, mul, div, lt, eq, sub, ofBits}
+use lib.Ieee.Fits.{up-pos, down-pos, and-l, and-r}
 use lib.Ieee.Scale.{finite}
 use borrow.Author.Tests.{le-ltb, lt-ltb, ne-eqb}
 use Rattle.numbers.specs.Literals.{one}
 use Rattle.numbers.specs.Clamps.{plusZero}
 use Rattle.numbers.specs.Units.{count}
 use Rattle.numbers.proofs.Zeros.{round-nothing}
-use Rattle.numbers.proofs.Amounts.{amount, one-count}
+use Rattle.numbers.proofs.Amounts.{passes, amount, one-count}
 use Rattle.numbers.proofs.Order.{zero-amount, lt-amount}
 use Rattle.numbers.proofs.Differences.{difference, left-above-amounts}
-use Rattle.numbers.proofs.Values.{round-itself}
+use Rattle.numbers.proofs.Values.{same-value, round-itself}
+use Rattle.numbers.proofs.Comparing.{clash}
 
 -- ---- the zeros, and values other than 0
 abbrev pub nought : Bool → Float
@@ -53,6 +54,32 @@ above-nonzero f (fin s (suc m) e) t h = tt
 pub nonzero-between : (f : Format) (x y : Float) → T (amount f x) → T (amount f y) → T (lt y x) → T (nonzero (sub f x y))
 nonzero-between f x y p q l = above-nonzero f (sub f x y) (difference f x y p q (le-of-lt (lt-amount f y x q p .0 l)) .is-amount) (left-above-amounts f x y p q l)
 
+-- ---- numbers that are equal, and not 0, are the same
+pub equal-same : (f : Format) (x y : Float) → T (fits f x) → T (fits f y) → T (nonzero y) → eq x y ≡ true → x ≡ y
+unfolding eq
+equal-same f nan y t u n h = clash h
+equal-same f (inf s) nan t u n h = clash h
+equal-same f (inf s) (inf r) t u n h = absurd n
+equal-same f (inf s) (fin r k d) t u n h = clash h
+equal-same f (fin s m e) nan t u n h = clash h
+equal-same f (fin s m e) (inf r) t u n h = clash h
+equal-same f (fin s m e) (fin r zero d) t u n h = absurd n
+equal-same f (fin s m e) (fin r (suc k) d) t u n h =
+    let A = m * up e * down d in
+    let B = suc k * up d * down e in
+    let level = eqb→eq A B (and-l (eqb A B) (Bool·beq s r || eqb A 0) (passes h)) in
+    let sign = one-sign s r (ne-eqb A 0 (λ z. some B (mul-pos (mul-pos (zero-lt-suc k) (up-pos d)) (down-pos e)) (sym level ∙ z))) (and-r (eqb A B) (Bool·beq s r || eqb A 0) (passes h)) in
+    same-value f (fin s m e) (fin r (suc k) d) r (m * up e) (down e) (suc k * up d) (down d) (down-pos e) (down-pos d) t u (sign, refl) (refl, refl) level
+  where
+    some : (B : ℕ) → 0 < B → B ≡ 0 → ⊥
+    some B l z = omega arith
+
+    one-sign : (s r : Bool) {z : Bool} → z ≡ false → T (Bool·beq s r || z) → s ≡ r
+    one-sign false false e h = refl
+    one-sign true true e h = refl
+    one-sign false true e h = absurd (rw e at h)
+    one-sign true false e h = absurd (rw e at h)
+
 -- ---- x + 0 and 0 + x
 nothing-more : (f : Format) (s z : Bool) (A c : ℕ) → 0 < A → sum f s A z 0 c ≡ round f s A c
 unfolding sum
@@ -68,21 +95,39 @@ more-than-nothing f true true A c h = ap (λ (n : ℕ). round f true n c) (omega
 more-than-nothing f false true A c h = rw (lt-ltb 0 A h) (ap (λ (n : ℕ). round f true n c) (omega arith))
 more-than-nothing f true false A c h = rw (lt-ltb 0 A h) (ap (λ (n : ℕ). round f false n c) (omega arith))
 
-pub add-nought : (f : Format) (x : Float) (z : Bool) → T (fits f x) → T (nonzero x) → add f x (nought z) ≡ x
-unfolding add
-add-nought f nan z t n = absurd n
-add-nought f (inf s) z t n = absurd n
-add-nought f (fin s zero e) z t n = absurd n
-add-nought f (fin s (suc m) e) z t n =
-    ap (λ (b : ℕ). sum f s (suc m * up e * 1) z b (down e * 1)) (none (down e))
-    ∙ nothing-more f s z (suc m * up e * 1) (down e * 1) (mul-pos (mul-pos (zero-lt-suc m) (up-pos e)) (zero-lt-suc 0))
-    ∙ round-itself f s (suc m) e (suc m * up e * 1) (down e * 1) t (mul-pos (down-pos e) (zero-lt-suc 0)) (turn (suc m * up e) (down e))
+-- y is a zero, however it is written
+no-size : (y : Float) → eq y plusZero ≡ true → (z : Bool) × (n : ℕ) × (d : ℤ) × (y ≡ fin z n d) × (n * up d ≡ 0)
+unfolding eq ofBits
+no-size nan q = clash q
+no-size (inf z) q = clash q
+no-size (fin z n d) q = (z, n, d, refl, none (n * up d) (down d) (eqb→eq (n * up d * 1) (0 * 1 * down d) (and-l (eqb (n * up d * 1) (0 * 1 * down d)) _ (passes q))))
   where
-    none : (d : ℕ) → 0 * 1 * d ≡ 0
-    none d = omega arith
+    none : (N d : ℕ) → N * 1 ≡ 0 * 1 * d → N ≡ 0
+    none N d h = omega arith
 
-    turn : (M d : ℕ) → M * 1 * d ≡ M * (d * 1)
-    turn M d = omega arith
+pub add-zero : (f : Format) (x y : Float) → T (fits f x) → T (nonzero x) → eq y plusZero ≡ true → add f x y ≡ x
+unfolding add
+add-zero f nan y t n q = absurd n
+add-zero f (inf s) y t n q = absurd n
+add-zero f (fin s zero e) y t n q = absurd n
+add-zero f (fin s (suc m) e) y t n q =
+    let w = no-size y q in
+    let d = w .2 in
+    ap (add f (fin s (suc m) e)) (w .3)
+    ∙ ap (λ (b : ℕ). sum f s (suc m * up e * down d) (w .0) b (down e * down d)) (none (w .1 * up d) (down e) (w .4))
+    ∙ nothing-more f s (w .0) (suc m * up e * down d) (down e * down d) (mul-pos (mul-pos (zero-lt-suc m) (up-pos e)) (down-pos d))
+    ∙ round-itself f s (suc m) e (suc m * up e * down d) (down e * down d) t (mul-pos (down-pos e) (down-pos d)) (turn (suc m * up e) (down e) (down d))
+  where
+    none : (N d : ℕ) → N ≡ 0 → N * d ≡ 0
+    none N d h = rw h (omega arith)
+
+    turn : (M d c : ℕ) → M * c * d ≡ M * (d * c)
+    turn M d c = omega arith
+
+pub add-nought : (f : Format) (x : Float) (z : Bool) → T (fits f x) → T (nonzero x) → add f x (nought z) ≡ x
+unfolding eq ofBits
+add-nought f x false t n = add-zero f x (nought false) t n refl
+add-nought f x true t n = add-zero f x (nought true) t n refl
 
 pub nought-add : (f : Format) (z : Bool) (x : Float) → T (fits f x) → T (nonzero x) → add f (nought z) x ≡ x
 unfolding add

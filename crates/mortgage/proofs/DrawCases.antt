@@ -7,14 +7,14 @@ use native.Mathlib.Omega.{arith}
 use lib.Dec.{eqb, ltb}
 use lib.ListN.{length}
 use lib.Ieee.{Float}
-use borrow.Author.Tests.{le-ltb, ltb-false, eqb-false}
+use borrow.Author.Tests.{le-ltb, ltb-false}
 use Rattle.refusals.specs.declared.Verdict.{Verdict}
 use Rattle.refusals.specs.declared.Verdict.the-variants as verdict-is
 use Rattle.refusals.specs.declared.Refusal.{Refusal}
 use Rattle.refusals.specs.Answers.{verdictOutcome}
 use Rattle.refusals.specs.Outcome.{Outcome, refused, accepted, line, alone}
 use Rattle.refusals.specs.Table.{badTerm, noRoom, pastEnd, badBalloon, badInitial, badCap, tooFewEntries, badEntry}
-use Rattle.refusals.proofs.Causes.{neither, alone-clear}
+use Rattle.refusals.proofs.Causes.{neither, not-zero, alone-clear}
 use Rattle.refusals.proofs.Judging.{none-is, passed}
 use Rattle.refusals.proofs.OneCause.{clear}
 use Rattle.refusals.proofs.Verdicts.{verdict, refused-by, accepted-by, accepted-alike}
@@ -68,9 +68,6 @@ ends-within (adjustable a index) l b = omega arith
 
 pub fits-ends : (way : Way) (l : Loan) → Fits way (l .term) → endMonth way l ≤ l .term
 fits-ends way l f = ends-within way l (fits-end way (l .term) f)
-
-not-zero : (n : ℕ) (b : Bool) → (eqb n 0 || b) ≡ false → 0 < n
-not-zero n b e = let h = eqb-false n 0 (neither (eqb n 0) b e .0) in omega arith
 
 -- and no sooner than with its first month
 pub fits-some : (way : Way) (l : Loan) → badTerm (l .term) ≡ false → Fits way (l .term) → 0 < endMonth way l

@@ -1,3 +1,4 @@
+pub mod PaymentLaws
 pub mod RuleLaws
 pub mod RowLaws
 pub mod KindLaws

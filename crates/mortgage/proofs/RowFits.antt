@@ -3,21 +3,21 @@
 use mathlib.Core.Bool.{Bool, true, false, cond}
 use Prim.Native.Nat.{ℕ, zero, suc}
 use lib.Dec.{T}
-use lib.IntN.{pos}
-use lib.Ieee.{Float, binary64, div, eq, fits, lt, ofInt, ofBits}
-use lib.Ieee.Fits.{cond-fits, add-fits, sub-fits, mul-fits, div-fits}
+use lib.Ieee.{Float, binary64, fits, lt, ofBits}
+use lib.Ieee.Fits.{cond-fits, add-fits, sub-fits, mul-fits}
 use Rattle.numbers.specs.Clamps.{plusZero, raised, lowered}
 use Rattle.records.specs.declared.Row.{Row}
 use Rattle.records.specs.declared.Terms.{Terms}
 use Rattle.mortgage.specs.declared.Loan.{Loan}
 use Rattle.mortgage.specs.declared.kinds.Course.{Course}
-use Rattle.mortgage.specs.Payment.{monthlyRate, growth, payment, levelPayment}
+use Rattle.mortgage.specs.Payment.{monthlyRate}
 use Rattle.mortgage.specs.RowRule.{interestOf, principalOf, paymentOf}
 use Rattle.mortgage.specs.Kinds.{Way, level, interestOnly, balloon, adjustable}
 use Rattle.mortgage.specs.Rates.{nextRate, entryBehind, beginsLaterYear, adjustedTo, inForce}
 use Rattle.mortgage.specs.Month.{interestAlone, last, byTheRule, interest, principal, paid, remaining, rowOn, nextOn, course, rowOf, nextOf}
 use Rattle.steps.specs.Steps.{stepped}
 use Rattle.mortgage.specs.Rows.{after}
+use Rattle.mortgage.proofs.PaymentLaws.{payment-held}
 
 -- the machine holds it
 abbrev pub Held : Float → Type 0
@@ -32,13 +32,6 @@ raised-held x h = cond-fits binary64 (lt plusZero x) x plusZero h nothing-held
 
 lowered-held : (p b : Float) → Held p → Held b → Held (lowered p b)
 lowered-held p b h g = cond-fits binary64 (lt p b) p b h g
-
--- ---- the payment that is worked out
-pub payment-held : (t : Terms) → Held (payment t)
-unfolding payment levelPayment
-payment-held t =
-    cond-fits binary64 (eq (monthlyRate (t .rate)) plusZero) (div binary64 (t .principal) (ofInt binary64 (pos (t .term))))
-    (levelPayment (t .principal) (monthlyRate (t .rate)) (growth (monthlyRate (t .rate)) (t .term))) (div-fits binary64 _ _) (div-fits binary64 _ _)
 
 -- ---- a loan in hand, and a row
 pub record LoanHeld (l : Loan) : Type 0 where

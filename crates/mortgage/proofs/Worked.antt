@@ -5,12 +5,13 @@ use Prim.Native.Nat.{ℕ, _-_, _*_}
 use native.Mathlib.Omega.{arith}
 use lib.ListN.{replicate}
 use lib.Ieee.{Float, nan, binary64, add, sub, mul, div, lt, eq, fits, ofInt, ofBits}
+use Rattle.elementary.specs.WholePower.{turns, wholePower}
 use Rattle.refusals.specs.Outcome.{refused, accepted, firstOr, judged}
 use Rattle.refusals.specs.Table.{badAmount, badTerm, noRoom, pastEnd}
 use Rattle.records.specs.declared.Terms.{Terms}
 use Rattle.mortgage.specs.declared.Loan.{Loan}
 use Rattle.mortgage.specs.Row.{width}
-use Rattle.mortgage.specs.Payment.{monthlyRate, payment, loanOf, openedWith, opened}
+use Rattle.mortgage.specs.Payment.{monthlyRate, growth, evenPayment, payment, loanOf, openedWith, opened}
 use Rattle.mortgage.specs.Rates.{inForce}
 use Rattle.mortgage.specs.Month as months
 use Rattle.mortgage.specs.Month.{interestAlone, last, principal, paid, remaining, rowOn, nextOn}
@@ -47,7 +48,7 @@ abbrev pub rooms : List (List Float)
 rooms = one ∷ none ∷ two ∷ []
 
 pub opens : opened terms ≡ accepted loan
-unfolding opened openedWith judged firstOr badAmount badTerm loanOf payment monthlyRate eq div lt ofInt ofBits
+unfolding opened openedWith judged firstOr badAmount badTerm loanOf payment growth evenPayment wholePower turns monthlyRate add mul div eq lt ofInt ofBits
 opens = refl
 
 -- the theorem, of this loan

@@ -4,7 +4,6 @@ use mathlib.Core.Bool.{cond}
 use lib.IntN.{pos}
 use lib.Ieee.{Float, binary64, add, sub, mul, div, eq, ofInt}
 use Rattle.numbers.specs.Literals.{one, twelve}
-use Rattle.numbers.specs.Clamps.{plusZero}
 use Rattle.elementary.specs.WholePower.{wholePower}
 use Rattle.refusals.specs.Outcome.{Outcome, refused, accepted, judged}
 use Rattle.records.specs.declared.Terms.{Terms}
@@ -25,9 +24,13 @@ growth r n = wholePower (add binary64 one r) n
 unfoldable pub levelPayment : Float → Float → Float → Float
 levelPayment P r f = div binary64 (mul binary64 (mul binary64 P r) f) (sub binary64 f one)
 
--- "If r is 0, P/n; else P·r·f/(f-1)", over n months with the factor f
+-- "P/n"
+unfoldable pub evenPayment : Float → ℕ → Float
+evenPayment P n = div binary64 P (ofInt binary64 (pos n))
+
+-- "Whenever the factor equals 1 the payment becomes P/n", else it is document 01's: over n months with the factor f. At a rate of 0 the factor is 1 (`zero-rate` in proofs/VanishingRates).
 abbrev pub paymentBy : Float → Float → ℕ → Float → Float
-paymentBy P r n f = cond (eq r plusZero) (div binary64 P (ofInt binary64 (pos n))) (levelPayment P r f)
+paymentBy P r n f = cond (eq f one) (evenPayment P n) (levelPayment P r f)
 
 unfoldable pub payment : Terms → Float
 payment t = paymentBy (t .principal) (monthlyRate (t .rate)) (t .term) (growth (monthlyRate (t .rate)) (t .term))

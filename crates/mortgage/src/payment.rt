@@ -26,11 +26,11 @@ pub(crate) fn growth(r: f64, months: u32) -> f64
     elementary::whole_power::whole_power(1.0 + r, months)
 }
 
-// The payment over so many months, whose growth is the factor.
+// The payment over so many months, whose growth is the factor: where nothing grows, equal parts.
 pub(crate) fn payment_by(principal: f64, r: f64, months: u32, factor: f64) -> f64
     ensures { λ p. ⌜ p ≡ paymentBy principal r months factor ⌝ }
 {
-    if r == 0.0 {
+    if factor == 1.0 {
         return principal / months as f64;
     }
     level_payment(principal, r, factor)

@@ -191,6 +191,14 @@ pub lt-le : (x y : Float) → lt x y ≡ true → le x y ≡ true
 unfolding le
 lt-le x y h = rw h
 
+pub eq-le : (x y : Float) → eq x y ≡ true → le x y ≡ true
+unfolding le
+eq-le x y h = rw h (or-true (lt x y))
+  where
+    or-true : (b : Bool) → (b || true) ≡ true
+    or-true true = refl
+    or-true false = refl
+
 pub not-above : (x y : Float) → le x y ≡ true → lt y x ≡ false
 not-above x y h = not-true _ (sym (le-is x y (first-real x y h) (second-real x y h)) ∙ h)
 
@@ -200,6 +208,15 @@ not-at-or-below x y h = go (le y x) (not-above y x)
     go : (b : Bool) → (b ≡ true → lt x y ≡ false) → b ≡ false
     go false above = refl
     go true above = clash (sym (above refl) ∙ h)
+
+-- what is at or below a number and at or above it is equal to it
+pub equal-between : (x y : Float) → le x y ≡ true → le y x ≡ true → eq x y ≡ true
+unfolding le
+equal-between x y h k = go (lt x y) (eq x y) h (not-above y x k)
+  where
+    go : (a b : Bool) → (a || b) ≡ true → a ≡ false → b ≡ true
+    go true b p q = clash (sym q)
+    go false b p q = p
 
 -- ---- through a third
 pub le-trans : (x y z : Float) → le x y ≡ true → le y z ≡ true → le x z ≡ true

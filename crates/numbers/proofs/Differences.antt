@@ -45,7 +45,7 @@ module _ (X Y a b L D : ℕ) (c : Common X Y a b L D) (h : b ≤ a) where
       go : (k : ℕ) → k ≡ 0 → k * L ≡ 0 * D
       go k e = rw e (omega arith)
 
-sub-is : (f : Format) (x y : Float) (a b : ℕ) → Counts f x a → Counts f y b → b ≤ a → (u : Bool) × (T u → a - b ≡ 0) × (sub f x y ≡ round f u (a - b) (2 ^ low f))
+pub sub-is : (f : Format) (x y : Float) (a b : ℕ) → Counts f x a → Counts f y b → b ≤ a → (u : Bool) × (T u → a - b ≡ 0) × (sub f x y ≡ round f u (a - b) (2 ^ low f))
 unfolding sub
 sub-is f nan y a b p q h = absurd p
 sub-is f (inf s) y a b p q h = absurd p

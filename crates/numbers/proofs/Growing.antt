@@ -1,22 +1,24 @@
--- Rounding keeps the order of fractions of either sign; so a finite number that its format holds is at or below its sum with an amount, and at or above its difference with one, infinite or not. Assumes nothing.
+-- Rounding keeps the order of fractions of either sign; so a finite number that its format holds is at or below its sum with an amount, and at or above its difference with one, infinite or not;
+-- and a product of two numbers that are 1 or more is no less than the first. Assumes nothing.
 use mathlib.Core.Path.{_≡_, refl, sym, ap, _∙_}
 use mathlib.Core.Bool.{Bool, true, false, not, _&&_, cond}
 use Prim.Native.Nat.{ℕ, zero, suc, _+_, _-_, _*_, _^_, _≤_, _<_}
-use native.Mathlib.Nat.{mul-pos, mul-le-mul-right}
+use native.Mathlib.Nat.{mul-pos, mul-comm, mul-le-mul-right}
 use native.Mathlib.Omega.{arith}
 use lib.IntN.{ℤ, pos}
-use lib.Dec.{T, ltb}
-use lib.Ieee.{Float, nan, inf, fin, Format, prec, emax, low, up, down, odd, units, round, neg, sum, add, sub, below, lt, le, fits}
+use lib.Dec.{T, ltb, eqb}
+use lib.Ieee.{Float, nan, inf, fin, Format, prec, emax, low, up, down, unlike, odd, units, round, neg, sum, add, sub, mul, below, lt, le, eq, fits, ofBits}
 use lib.Ieee.Bits.{is-true}
 use lib.Ieee.Fits.{down-pos, round-is}
 use lib.Ieee.Order.{round-mono, drop, kept}
 use lib.Ieee.Scale.{finite}
-use borrow.Author.Tests.{ltb-true, ltb-false}
+use borrow.Author.Tests.{ltb-true, ltb-false, ne-eqb}
+use Rattle.numbers.specs.Literals.{one}
 use Rattle.numbers.proofs.Amounts.{passes, amount, counts}
 use Rattle.numbers.proofs.Order.{nothing-times}
 use Rattle.numbers.proofs.Zeros.{round-nothing}
 use Rattle.numbers.proofs.Values.{round-itself}
-use Rattle.numbers.proofs.Comparing.{AtMost, Real, first-real, second-real, at-or-below-real, not-above, le-trans}
+use Rattle.numbers.proofs.Comparing.{clash, AtMost, Real, first-real, second-real, at-or-below-real, not-above, le-trans}
 
 -- ---- a fraction below zero is rounded as its size is
 odd-turned : (d q k l : ℕ) → odd d true q k l ≡ neg (odd d false q k l)
@@ -184,3 +186,79 @@ difference-not-above f (fin s m e) (fin u n d) h t p =
     twice : (u : Bool) → T (not (not u)) → T u
     twice true g = g
     twice false g = g
+
+-- ---- what is 1 or more: +infinity, or a fraction whose numerator is no less than its denominator
+abbrev FromOne : Float → Type 0
+FromOne nan = ⊥
+FromOne (inf s) = s ≡ false
+FromOne (fin s m e) = (s ≡ false) × (down e ≤ m * up e)
+
+from-one : (x : Float) → le one x ≡ true → FromOne x
+unfolding lt ofBits
+from-one nan h = second-real one nan h
+from-one (inf false) h = refl
+from-one (inf true) h = clash (sym (not-above one (inf true) h))
+from-one (fin false m e) h = (refl, size (m * up e) (down e) (ltb-false (m * up e * 1) (1 * 1 * down e) (not-above one (fin false m e) h)))
+  where
+    size : (M d : ℕ) → 1 * 1 * d ≤ M * 1 → d ≤ M
+    size M d l = omega arith
+from-one (fin true m e) h = absurd (none (m * up e) (down e) (down-pos e) (ltb-false 0 (m * up e * 1 + 1 * 1 * down e) (not-above one (fin true m e) h)))
+  where
+    none : (M d : ℕ) → 0 < d → M * 1 + 1 * 1 * d ≤ 0 → ⊥
+    none M d p l = omega arith
+
+-- a numerator that is no less than its denominator is not 0
+some-above : (m : ℕ) (e : ℤ) → down e ≤ m * up e → eqb m 0 ≡ false
+some-above zero e l = absurd (none (up e) (down e) (down-pos e) l)
+  where
+    none : (u d : ℕ) → 0 < d → d ≤ 0 * u → ⊥
+    none u d p l = omega arith
+some-above (suc m) e l = ne-eqb (suc m) 0 (λ z. omega arith)
+
+under-infinity : (x : Float) → FromOne x → le x (inf false) ≡ true
+unfolding le lt eq
+under-infinity nan h = absurd h
+under-infinity (inf s) h = rw h
+under-infinity (fin s m e) h = refl
+
+grown : (f : Format) (x y : Float) → T (fits f x) → FromOne x → FromOne y → le x (mul f x y) ≡ true
+unfolding mul
+grown f nan y t p q = absurd p
+grown f (inf s) nan t p q = absurd q
+grown f (inf s) (inf u) t p q = rw (p, q) (under-infinity (inf false) refl)
+grown f (inf s) (fin u n d) t p q = rw (p, q .0, some-above n d (q .1)) (under-infinity (inf false) refl)
+grown f (fin s m e) nan t p q = absurd q
+grown f (fin s m e) (inf u) t p q = rw (p .0, q, some-above m e (p .1)) (under-infinity (fin false m e) (refl, p .1))
+grown f (fin s m e) (fin u n d) t p q = rw (p .0, q .0) (go (rw (p .0) at t))
+  where
+    turn : (M N a b : ℕ) → b ≤ N → M * (a * b) ≤ M * N * a
+    turn M N a b l = omega (arith, mul-le-mul-right (M * a) l)
+
+    go : T (fits f (fin false m e)) → le (fin false m e) (round f false (m * up e * (n * up d)) (down e * down d)) ≡ true
+    go w =
+        let product = round f false (m * up e * (n * up d)) (down e * down d) in
+        ap (λ (z : Float). le z product) (sym (round-itself f false m e (m * up e) (down e) w (down-pos e) refl))
+        ∙ is-true (le (round f false (m * up e) (down e)) product)
+        (round-mono f (m * up e) (down e) (m * up e * (n * up d)) (down e * down d) (down-pos e) (mul-pos (down-pos e) (down-pos d)) (turn (m * up e) (n * up d) (down e) (down d) (q .1)))
+
+pub product-not-below : (f : Format) (x y : Float) → T (fits f x) → le one x ≡ true → le one y ≡ true → le x (mul f x y) ≡ true
+product-not-below f x y t h g = grown f x y t (from-one x h) (from-one y g)
+
+-- the factors of a product may be exchanged
+unlike-turned : (s t : Bool) → unlike s t ≡ unlike t s
+unlike-turned false false = refl
+unlike-turned false true = refl
+unlike-turned true false = refl
+unlike-turned true true = refl
+
+pub product-turned : (f : Format) (x y : Float) → mul f x y ≡ mul f y x
+unfolding mul
+product-turned f nan nan = refl
+product-turned f nan (inf t) = refl
+product-turned f nan (fin t n d) = refl
+product-turned f (inf s) nan = refl
+product-turned f (inf s) (inf t) = ap inf (unlike-turned s t)
+product-turned f (inf s) (fin t n d) = ap (λ (b : Bool). cond (eqb n 0) nan (inf b)) (unlike-turned s t)
+product-turned f (fin s m e) nan = refl
+product-turned f (fin s m e) (inf t) = ap (λ (b : Bool). cond (eqb m 0) nan (inf b)) (unlike-turned s t)
+product-turned f (fin s m e) (fin t n d) = rw (unlike-turned s t, mul-comm (m * up e) (n * up d), mul-comm (down e) (down d))

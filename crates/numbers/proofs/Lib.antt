@@ -14,6 +14,7 @@ pub mod Truncation
 pub mod WholeNumbers
 pub mod Differences
 pub mod Growing
+pub mod Bounded
 pub mod Clamping
 pub mod Sums
 pub mod Repayment

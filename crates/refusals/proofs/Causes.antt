@@ -2,13 +2,13 @@
 use mathlib.Core.Path.{_≡_, refl}
 use mathlib.Core.Bool.{Bool, true, false, not, _||_}
 use mathlib.Core.List.{List, [], _∷_}
-use Prim.Native.Nat.{ℕ, zero, suc, _≤_}
+use Prim.Native.Nat.{ℕ, zero, suc, _≤_, _<_}
 use native.Mathlib.Omega.{arith}
 use lib.Dec.{eqb, ltb}
 use lib.ListN.{getD}
 use lib.Ieee.{Float, lt}
 use lib.Ieee.Scale.{finite}
-use borrow.Author.Tests.{ltb-false, not-false}
+use borrow.Author.Tests.{ltb-false, eqb-false, not-false}
 use Rattle.numbers.specs.Clamps.{plusZero}
 use Rattle.refusals.specs.Outcome.{alone}
 use Rattle.refusals.specs.Table.{badAmount, badTerm}
@@ -39,6 +39,13 @@ alone-clear b (c ∷ causes) none = (neither b c (none 0) .0, go)
 pub amount-finite : (x : Float) → badAmount x ≡ false → finite x ≡ true
 unfolding badAmount
 amount-finite x e = not-false (finite x) (neither (not (finite x)) (lt x plusZero) e .0)
+
+pub not-zero : (n : ℕ) (b : Bool) → (eqb n 0 || b) ≡ false → 0 < n
+not-zero n b e = let h : n ≡ 0 → ⊥ = eqb-false n 0 (neither (eqb n 0) b e .0) in omega (arith, h)
+
+pub some-term : (n : ℕ) → badTerm n ≡ false → 0 < n
+unfolding badTerm
+some-term n = not-zero n (ltb 1200 n)
 
 pub term-within : (n : ℕ) → badTerm n ≡ false → n ≤ 1200
 unfolding badTerm

@@ -38,7 +38,8 @@ use Rattle.mortgage.specs.Draws.{drawLines, drawn, filled}
 use Rattle.mortgage.specs.Demand3.{rowsDue, rowsIn, handedBack, wrote}
 use Rattle.mortgage.proofs.Exactly.{opening-of-any-kind-with-payment-refused-exactly, draw-of-any-kind-refused-exactly, next-row-of-any-kind-refused-exactly}
 use Rattle.mortgage.proofs.RowLaws.{in-force-done, term-after, due-after}
-use Rattle.mortgage.proofs.RowFits.{LoanHeld, payment-held, row-held, after-held}
+use Rattle.mortgage.proofs.PaymentLaws.{payment-held}
+use Rattle.mortgage.proofs.RowFits.{LoanHeld, row-held, after-held}
 use Rattle.mortgage.proofs.DrawCases.{rowPlaces, Fits, fits-ends}
 use Rattle.mortgage.proofs.Sequences.{Moves, draw-moves}
 use Rattle.mortgage.proofs.Demand3.{as-opened-of-any-kind}
