@@ -145,18 +145,14 @@ pub as-before : (t : Terms) → (eq (factorOf t) one ≡ true → eq (rateOf t) 
     → payment t ≡ cond (eq (rateOf t) plusZero) (evenPayment (t .principal) (t .term)) (levelPayment (t .principal) (rateOf t) (factorOf t))
 unfolding payment
 as-before t h =
-    go (eq (rateOf t) plusZero) (eq (factorOf t) one) h
+    same (eq (rateOf t) plusZero) (eq (factorOf t) one) (evenPayment (t .principal) (t .term)) (levelPayment (t .principal) (rateOf t) (factorOf t)) h
     (λ (z : eq (rateOf t) plusZero ≡ true). ap (λ (f : Float). eq f one) (zero-rate (rateOf t) (t .term) z) ∙ eq-itself one (is-true _ one-finite))
   where
-    even level : Float
-    even = evenPayment (t .principal) (t .term)
-    level = levelPayment (t .principal) (rateOf t) (factorOf t)
-
-    go : (z f : Bool) → (f ≡ true → z ≡ true) → (z ≡ true → f ≡ true) → cond f even level ≡ cond z even level
-    go true true a b = refl
-    go false false a b = refl
-    go true false a b = clash (b refl)
-    go false true a b = clash (a refl)
+    same : (z f : Bool) (even level : Float) → (f ≡ true → z ≡ true) → (z ≡ true → f ≡ true) → cond f even level ≡ cond z even level
+    same true true even level a b = refl
+    same false false even level a b = refl
+    same true false even level a b = clash (b refl)
+    same false true even level a b = clash (a refl)
 
 -- r = -2, a rate of -24 a year, with an even term
 pub minus-two-even : (n : ℕ) → n % 2 ≡ 0 → growth (neg two) n ≡ one
