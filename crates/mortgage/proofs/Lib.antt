@@ -1,4 +1,5 @@
 pub mod PaymentLaws
+pub mod FinitePayments
 pub mod RuleLaws
 pub mod RowLaws
 pub mod KindLaws

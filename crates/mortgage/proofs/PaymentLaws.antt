@@ -2,7 +2,7 @@
 -- 1 + r rounds to 1. Elsewhere the payment is document 01's. Assumes nothing.
 use mathlib.Core.Path.{_≡_, refl, sym, ap, _∙_}
 use mathlib.Core.Logic.{_↔_, inl, inr}
-use mathlib.Core.Bool.{Bool, true, false, cond}
+use mathlib.Core.Bool.{Bool, true, false, not, cond}
 use mathlib.Core.List.{[], _∷_}
 use Prim.Native.Nat.{ℕ, zero, suc, _*_, _%_, _≤_, _<_, _^_}
 use native.Mathlib.Nat.{mul-pos}
@@ -19,15 +19,15 @@ use borrow.Author.Tests.{ne-eqb}
 use Rattle.numbers.specs.Literals.{one, two}
 use Rattle.numbers.specs.Clamps.{plusZero}
 use Rattle.numbers.proofs.Amounts.{passes, amount}
-use Rattle.numbers.proofs.Order.{zero-amount, above-amount}
+use Rattle.numbers.proofs.Order.{zero-amount, amount-by-tests, above-amount}
 use Rattle.numbers.proofs.Comparing.{clash, eq-le, equal-between, le-trans, eq-itself}
 use Rattle.numbers.proofs.Growing.{sum-not-below}
 use Rattle.elementary.specs.WholePower.{wholePower}
 use Rattle.elementary.proofs.Unrounded.{nonzero, equal-same, add-zero}
-use Rattle.elementary.proofs.WholePowers.{power-of-one, even-power-of-minus-one, power-not-below}
+use Rattle.elementary.proofs.WholePowers.{power-of-one, even-power-of-minus-one, power-not-below, power-held}
 use Rattle.refusals.specs.Outcome.{accepted, line}
 use Rattle.refusals.specs.Table.{badAmount, badTerm}
-use Rattle.refusals.proofs.Causes.{some-term, term-within}
+use Rattle.refusals.proofs.Causes.{neither, some-term, term-within}
 use Rattle.refusals.proofs.Judging.{none-is, passed}
 use Rattle.refusals.proofs.Verdicts.{accepted-value}
 use Rattle.records.specs.declared.Terms.{Terms}
@@ -45,6 +45,10 @@ factorOf t = growth (rateOf t) (t .term)
 pub rate-held : (t : Terms) → T (fits binary64 (rateOf t))
 unfolding monthlyRate
 rate-held t = div-fits binary64 _ _
+
+pub factor-held : (t : Terms) → T (fits binary64 (factorOf t))
+unfolding growth
+factor-held t = power-held _ (t .term)
 
 pub payment-held : (t : Terms) → T (fits binary64 (payment t))
 unfolding payment evenPayment levelPayment
@@ -98,18 +102,35 @@ pub even-at-one : (t : Terms) → eq (factorOf t) one ≡ true → payment t ≡
 unfolding payment
 even-at-one t h = rw h
 
--- for every accepted loan
-pub rounded-once : (t : Terms) (p : Float) → monthlyPayment t ≡ accepted p → eq (factorOf t) one ≡ true → p ≡ nearestPart (t .principal) (t .term)
-unfolding monthlyPayment
-rounded-once t p e h =
-    let first = passed (payment t) p (line 1 (badAmount (t .principal))) (line 2 (badTerm (t .term)) ∷ []) (sym e) in
-    let term = none-is (passed (payment t) p (line 2 (badTerm (t .term))) [] (first .1) .0) 0 in
-    accepted-value (termsLines t) (payment t) p e
-    ∙ even-at-one t h
-    ∙ even-is-nearest (t .principal) (t .term) (some-term (t .term) term) (few (t .term) (term-within (t .term) term))
+-- ---- of every accepted loan
+module _ (t : Terms) (p : Float) (e : monthlyPayment t ≡ accepted p) where
+  pub payment-accepted : p ≡ payment t
+  unfolding monthlyPayment
+  payment-accepted = accepted-value (termsLines t) (payment t) p e
+
+  pub terms-accepted : (badAmount (t .principal) ≡ false) × (badTerm (t .term) ≡ false)
+  unfolding monthlyPayment
+  terms-accepted =
+      let first = passed (payment t) p (line 1 (badAmount (t .principal))) (line 2 (badTerm (t .term)) ∷ []) (sym e) in
+      (none-is (first .0) 0, none-is (passed (payment t) p (line 2 (badTerm (t .term))) [] (first .1) .0) 0)
+
+  pub rounded-once : eq (factorOf t) one ≡ true → p ≡ nearestPart (t .principal) (t .term)
+  rounded-once h =
+      payment-accepted
+      ∙ even-at-one t h
+      ∙ even-is-nearest (t .principal) (t .term) (some-term (t .term) (terms-accepted .1)) (few (t .term) (term-within (t .term) (terms-accepted .1)))
+    where
+      few : (n : ℕ) → n ≤ 1200 → n ≤ 2 ^ 53
+      few n l = omega arith
+
+-- the principal that was lent
+pub amount-accepted : (x : Float) → T (fits binary64 x) → badAmount x ≡ false → T (amount binary64 x)
+unfolding badAmount
+amount-accepted x fit good = amount-by-tests binary64 x (is-true _ fit) (no-infinity (finite x) (neither (not (finite x)) (lt x plusZero) good .0)) (neither (not (finite x)) (lt x plusZero) good .1)
   where
-    few : (n : ℕ) → n ≤ 1200 → n ≤ 2 ^ 53
-    few n l = omega arith
+    no-infinity : (b : Bool) → not b ≡ false → b ≡ true
+    no-infinity true e = refl
+    no-infinity false e = clash (sym e)
 
 -- ---- where the factor is 1
 growth-at-one : (r : Float) (n : ℕ) → add binary64 one r ≡ one → growth r n ≡ one
@@ -120,7 +141,7 @@ one-held : T (fits binary64 one)
 unfolding fits ofBits
 one-held = tt
 
-one-nonzero : T (nonzero one)
+pub one-nonzero : T (nonzero one)
 unfolding ofBits
 one-nonzero = tt
 

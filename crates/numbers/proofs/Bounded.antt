@@ -3,12 +3,12 @@
 use mathlib.Core.Path.{_≡_, refl, sym, ap, _∙_, subst}
 use mathlib.Core.Bool.{Bool, true, false, cond}
 use Prim.Native.Nat.{ℕ, zero, suc, _+_, _-_, _*_, _^_, _≤_, _<_}
-use native.Mathlib.Nat.{mul-pos, mul-le-mul-right, le-of-mul-le-mul-right, zero-lt-suc}
+use native.Mathlib.Nat.{lt-of-lt-of-le, mul-pos, mul-le-mul-right, mul-lt-mul-of-pos-right, le-of-mul-le-mul-right, zero-lt-suc}
 use native.Mathlib.Omega.{arith}
 use lib.IntN.{ℤ, pos}
 use lib.Dec.{T, eqb}
-use lib.Pow.{pow-pos}
-use lib.Ieee.{Float, nan, inf, fin, Format, low, up, down, unlike, round, sum, add, sub, mul, div, lt, le, fits}
+use lib.Pow.{pow-add, pow-mono, pow-pos}
+use lib.Ieee.{Float, nan, inf, fin, Format, prec, emax, low, up, down, unlike, round, sum, add, sub, mul, div, lt, le, fits}
 use lib.Ieee.Bits.{is-true}
 use lib.Ieee.Fits.{up-pos, down-pos, round-fits}
 use lib.Ieee.Order.{round-mono}
@@ -22,6 +22,17 @@ use Rattle.numbers.proofs.Zeros.{plus-zero, round-nothing}
 use Rattle.numbers.proofs.Snap.{round-held}
 use Rattle.numbers.proofs.Comparing.{clash, not-above, finite-within}
 use Rattle.numbers.proofs.Differences.{sub-is, difference}
+
+-- ---- so few digits, so far up, are held
+pub held-digits : (f : Format) (digits places shift : ℕ) → digits < 2 ^ places → places ≤ prec f → places + shift ≤ low f + suc (emax f) → Held f (digits * 2 ^ shift)
+held-digits f digits places shift few within far =
+    record {
+      digits = digits;
+      shift = shift;
+      small = lt-of-lt-of-le few (pow-mono within);
+      is = refl;
+      below = lt-of-lt-of-le (mul-lt-mul-of-pos-right few (pow-pos shift)) (rw (← pow-add 2 places shift) (pow-mono far));
+    }
 
 -- ---- one rounding of num / den, whose sign u is minus for nothing alone
 module _ (f : Format) (num den : ℕ) (D : 0 < den) where
