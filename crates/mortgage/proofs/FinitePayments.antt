@@ -1,15 +1,15 @@
 -- Which payments are finite: for a rate above 0, a principal of at most 2^1022, a factor above 1 and a finite P·r·f the payment is. With a factor of 2 or more it divides by 1 or more. Below 2 the sum
 -- 1 + r is 1 + k·2^-52 for some k from 1 on, which r misses by at most 2^-53, and the factor is no less than the sum: so r/(f-1) is at most 3/2, and the payment at most 3·2^1022. Assumes nothing.
 use mathlib.Core.Path.{_≡_, refl, sym, ap, _∙_, subst}
-use mathlib.Core.Logic.{_⊎_, inl, inr}
+use mathlib.Core.Logic.{inl, inr}
 use mathlib.Core.Bool.{Bool, true, false, cond}
-use Prim.Native.Nat.{ℕ, zero, suc, _+_, _-_, _*_, _^_, _≤_, _<_}
+use Prim.Native.Nat.{ℕ, suc, _+_, _-_, _*_, _^_, _≤_, _<_}
 use native.Mathlib.Nat as nat
-use native.Mathlib.Nat.{ le-antisymm, mul-le-mul, mul-le-mul-left, mul-le-mul-right, le-of-lt, le-add-right, lt-of-mul-lt-mul-right, add-sub-of-le, mul-pos}
+use native.Mathlib.Nat.{le-antisymm, mul-le-mul, mul-le-mul-left, mul-le-mul-right, le-of-lt, le-add-right, lt-of-mul-lt-mul-right, add-sub-of-le, mul-pos}
 use native.Mathlib.Omega.{arith}
 use lib.Dec.{T, ltb}
 use lib.Pow.{pow-pos}
-use lib.Ieee.{Float, inf, Format, binary64, prec, low, size, round, add, sub, mul, div, lt, le, eq, fits, ofBits}
+use lib.Ieee.{Float, Format, binary64, prec, low, size, round, add, sub, mul, div, lt, le, eq, fits, ofBits}
 use lib.Ieee.Bits.{is-true}
 use lib.Ieee.Digits.{size-le}
 use lib.Ieee.Fits.{add-fits}
@@ -24,7 +24,7 @@ use Rattle.numbers.proofs.Order.{lt-amount, le-amount, zero-amount, amount-by-t
 use Rattle.numbers.proofs.Comparing.{clash, first-real, second-real, at-or-below-real, at-or-below, not-above, eq-le, equal-between, le-trans, finite-within}
 use Rattle.numbers.proofs.Snap.{snap, closest-within-half, round-counts}
 use Rattle.numbers.proofs.Differences.{difference}
-use Rattle.numbers.proofs.Bounded.{factors-finite, product-amount, product-under, quotient-under, sum-rounded, difference-over, held-digits, round-amount, round-over}
+use Rattle.numbers.proofs.Bounded.{factors-finite, product-amount, product-under, quotient-under, sum-rounded, difference-over, held-digits, round-over}
 use Rattle.elementary.proofs.Sizes.{size-above}
 use Rattle.records.specs.declared.Terms.{Terms}
 use Rattle.elementary.proofs.Unrounded.{equal-same}

@@ -1,5 +1,6 @@
 pub mod PaymentLaws
 pub mod FinitePayments
+pub mod PaymentsWorked
 pub mod RuleLaws
 pub mod RowLaws
 pub mod KindLaws

@@ -4,11 +4,11 @@ use mathlib.Core.Path.{_≡_, refl, sym, ap, _∙_}
 use mathlib.Core.Logic.{_↔_, inl, inr}
 use mathlib.Core.Bool.{Bool, true, false, not, cond}
 use mathlib.Core.List.{[], _∷_}
-use Prim.Native.Nat.{ℕ, zero, suc, _*_, _%_, _≤_, _<_, _^_}
+use Prim.Native.Nat.{ℕ, _*_, _%_, _≤_, _<_, _^_}
 use native.Mathlib.Nat.{mul-pos}
 use native.Mathlib.Omega.{arith}
-use lib.IntN.{ℤ, pos}
-use lib.Dec.{T, eqb}
+use lib.IntN.{pos}
+use lib.Dec.{T}
 use lib.Ieee.{Float, nan, inf, fin, binary64, up, down, unlike, round, neg, add, div, lt, le, eq, fits, ofInt, ofBits}
 use lib.Ieee.Bits.{is-true}
 use lib.Ieee.Back.{round-whole}

@@ -7,7 +7,6 @@ use lib.Ieee.{Float, binary64, fits, lt, ofBits}
 use lib.Ieee.Fits.{cond-fits, add-fits, sub-fits, mul-fits}
 use Rattle.numbers.specs.Clamps.{plusZero, raised, lowered}
 use Rattle.records.specs.declared.Row.{Row}
-use Rattle.records.specs.declared.Terms.{Terms}
 use Rattle.mortgage.specs.declared.Loan.{Loan}
 use Rattle.mortgage.specs.declared.kinds.Course.{Course}
 use Rattle.mortgage.specs.Payment.{monthlyRate}

@@ -1,6 +1,6 @@
 -- Amounts beside a bound that their format holds: a fraction, a product or a quotient that is at most the bound stays so when it is rounded, and a fraction or a difference that is at least the
 -- bound stays so too. A product is finite only if both its factors are. Assumes nothing.
-use mathlib.Core.Path.{_≡_, refl, sym, ap, _∙_, subst}
+use mathlib.Core.Path.{_≡_, refl, sym, ap, _∙_}
 use mathlib.Core.Bool.{Bool, true, false, cond}
 use Prim.Native.Nat.{ℕ, zero, suc, _+_, _-_, _*_, _^_, _≤_, _<_}
 use native.Mathlib.Nat.{lt-of-lt-of-le, mul-pos, mul-le-mul-right, mul-lt-mul-of-pos-right, le-of-mul-le-mul-right, zero-lt-suc}
@@ -8,7 +8,7 @@ use native.Mathlib.Omega.{arith}
 use lib.IntN.{ℤ, pos}
 use lib.Dec.{T, eqb}
 use lib.Pow.{pow-add, pow-mono, pow-pos}
-use lib.Ieee.{Float, nan, inf, fin, Format, prec, emax, low, up, down, unlike, round, sum, add, sub, mul, div, lt, le, fits}
+use lib.Ieee.{Float, nan, inf, fin, Format, prec, emax, low, up, down, unlike, round, sum, add, sub, mul, div, le}
 use lib.Ieee.Bits.{is-true}
 use lib.Ieee.Fits.{up-pos, down-pos, round-fits}
 use lib.Ieee.Order.{round-mono}
@@ -20,7 +20,7 @@ use Rattle.numbers.proofs.Amounts.{passes, amount, Counts, counts, one-
 use Rattle.numbers.proofs.Order.{nothing-times, le-amount, zero-amount, amount-by-tests}
 use Rattle.numbers.proofs.Zeros.{plus-zero, round-nothing}
 use Rattle.numbers.proofs.Snap.{round-held}
-use Rattle.numbers.proofs.Comparing.{clash, not-above, finite-within}
+use Rattle.numbers.proofs.Comparing.{not-above, finite-within}
 use Rattle.numbers.proofs.Differences.{sub-is, difference}
 
 -- ---- so few digits, so far up, are held
