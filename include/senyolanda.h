@@ -71,7 +71,7 @@
 
 /* The version of the header and of the library beside it. */
 #define SENYOLANDA_VERSION_MAJOR 0
-#define SENYOLANDA_VERSION_MINOR 6
+#define SENYOLANDA_VERSION_MINOR 7
 #define SENYOLANDA_VERSION_PATCH 0
 
 /* The same as a string, "major.minor.patch", and as a number that rises with it, for a program to compare:
@@ -366,8 +366,9 @@ senyolanda_result senyolanda_dated_fraction(
 
 /* ---- loans: the terms come as a loan's record ---- */
 
-/* The level monthly payment that repays the loan over its term; at a rate of 0, principal over term. Any other rate that leaves
-   1 + rate / 12 at 1, or whose power of the term overflows, gives infinity or NaN. Refuses 1, 2, 11. */
+/* The level monthly payment that repays the loan over its term; principal over term where (1 + rate / 12) to the power of the term
+   is 1, as at a rate of 0 and at one too small for 1 + rate / 12 to feel. Infinity or NaN can come of a rate that is not finite or is
+   below -12, of a power that overflows, alone or times the principal, and of a principal above 2^1022. Refuses 1, 2, 11. */
 senyolanda_result senyolanda_monthly_payment(
     const uint8_t *record, size_t length, double *SENYOLANDA_RESTRICT payment) SENYOLANDA_CHECKED;
 

@@ -161,7 +161,7 @@ module _ (P r f : Float) (lent : T (amount binary64 P)) (rises : T (amount binar
     unfolding exact
     stepped = steps-above-one binary64 exact (rw (← one-units) (le-add-right (units one) (units r))) (subst (λ (z : ℕ). exact < z) two-power exact-below)
 
-    -- over a c of 2^52, an h of 2^1021 and a W of 2^1022
+    -- over a c of 2^52, an h of 2^1021 and a W of 2^1022, which go by these names so that no power is worked out
     module _ (c h W q : ℕ) (one-is : units one ≡ c * (2 * h)) (sum-of : units b ≡ q * (2 * h)) (near : exact * 2 ≤ q * (2 * h) * 2 + 2 * h) (lent-little : units P ≤ W * units one) where
       more : c < q
       more = lt-of-mul-lt-mul-right (2 * h) (subst (λ (z : ℕ). c * (2 * h) < z) sum-of (subst (λ (z : ℕ). z < units b) one-is above))
@@ -190,9 +190,9 @@ module _ (P r f : Float) (lent : T (amount binary64 P)) (rises : T (amount binar
       unfolding exact
       rate-little = rate-bounded (units one) W c k h one-is (units r) (subst (λ (z : ℕ). (units one + units r) * 2 ≤ z * (2 * h) * 2 + 2 * h) (sym in-steps) near)
 
-      -- what the format holds of them
+      -- and what the format holds of them
       module _ (first-held : (d : ℕ) → d < c + c → Held binary64 (d * (W * h))) (second-held : (d : ℕ) → d < c + c → Held binary64 (d * (2 * (W * h)))) (steps-held : (d : ℕ) → d < c + c → Held binary64 (d * (2 * h)))
-          (top-held : Held binary64 (3 * (W * units one))) (some-half : 0 < h) where
+          (top-held : Held binary64 (3 * (W * units one))) (some-step : 0 < 2 * h) where
         product : Float
         product = mul binary64 P r
 
@@ -212,14 +212,11 @@ module _ (P r f : Float) (lent : T (amount binary64 P)) (rises : T (amount binar
 
         divisor : k * (2 * h) ≤ units (sub binary64 f one)
         divisor =
-            difference-over binary64 f one (k * (2 * h)) grows one-amount (steps-held k (fewer-still few-digits)) (mul-pos some-steps (twice some-half))
+            difference-over binary64 f one (k * (2 * h)) grows one-amount (steps-held k (fewer-still few-digits)) (mul-pos some-steps some-step)
             (reaches (units one) (units b) (units f) one-is sum-of in-steps under)
           where
             fewer-still : 2 * k + 1 < c + c → k < c + c
             fewer-still l = omega arith
-
-            twice : 0 < h → 0 < 2 * h
-            twice l = omega arith
 
             reaches : (L B F : ℕ) → L ≡ c * (2 * h) → B ≡ q * (2 * h) → c + k ≡ q → B ≤ F → L + k * (2 * h) ≤ F
             reaches L B F a e i l = omega (arith, ap (λ (z : ℕ). z * (2 * h)) i)
@@ -228,11 +225,8 @@ module _ (P r f : Float) (lent : T (amount binary64 P)) (rises : T (amount binar
         finite-quotient =
             amount-finite binary64 _
             (quotient-under binary64 (mul binary64 product f) (sub binary64 f one) (3 * (W * units one)) (second .0) (difference binary64 f one grows one-amount (nat.le-trans (le-of-lt above) under) .is-amount)
-            (nat.le-trans (mul-pos some-steps (twice some-half)) divisor) top-held
+            (nat.le-trans (mul-pos some-steps some-step) divisor) top-held
             (subst (λ (z : ℕ). units (mul binary64 product f) * z ≤ 3 * (W * units one) * units (sub binary64 f one)) one-units (quotient-bounded (units one) W c k h one-is (units (mul binary64 product f)) (units (sub binary64 f one)) some-steps (second .1) divisor)) .0)
-          where
-            twice : 0 < h → 0 < 2 * h
-            twice l = omega arith
 
     held-steps : (shift : ℕ) → 53 + shift ≤ 2098 → (d : ℕ) → d < 2 ^ 53 → Held binary64 (d * 2 ^ shift)
     held-steps shift far d l = held-digits binary64 d 53 shift l (omega arith) far
@@ -242,7 +236,7 @@ module _ (P r f : Float) (lent : T (amount binary64 P)) (rises : T (amount binar
     below-two =
         finite-quotient (2 ^ 52) (2 ^ 1021) (2 ^ 1022) (stepped .0) one-steps (sum-units ∙ stepped .1) (stepped .2) (subst (λ (z : ℕ). units P ≤ 2 ^ 1022 * z) (sym one-units) small)
         (held-steps 2043 (omega arith)) (held-steps 2044 (omega arith)) (held-steps 1022 (omega arith))
-        (subst (λ (z : ℕ). Held binary64 (3 * (2 ^ 1022 * z))) (sym one-units) (held-digits binary64 3 2 2096 (omega arith) (omega arith) (omega arith))) (pow-pos 1021)
+        (subst (λ (z : ℕ). Held binary64 (3 * (2 ^ 1022 * z))) (sym one-units) (held-digits binary64 3 2 2096 (omega arith) (omega arith) (omega arith))) (pow-pos 1022)
 
 -- ---- of terms that are accepted, with a rate above 0 and a factor above 1
 module _ (t : Terms) (lent : T (amount binary64 (t .principal))) (months : 0 < t .term) (rises : lt plusZero (rateOf t) ≡ true) (grows : lt one (factorOf t) ≡ true)

@@ -78,8 +78,8 @@ pub factor-overflows : payment (lent 0 0x4027_ffff_ffff_ffff 1024) ≡ nan
 unfolding payment growth levelPayment wholePower turns monthlyRate add sub mul div eq ofBits
 factor-overflows = refl
 
--- P·r·f overflows: 1.0000000000002278 at 11.999999999999996 over 1,024 months
-pub product-overflows : payment (lent 0x3ff0_0000_0000_0402 0x4027_ffff_ffff_fffe 1024) ≡ inf false
+-- P·r·f overflows, though f does not: 1.0000000000002278 at 11.999999999999995 over 1,024 months
+pub product-overflows : payment (lent 0x3ff0_0000_0000_0402 0x4027_ffff_ffff_fffd 1024) ≡ inf false
 unfolding payment growth levelPayment wholePower turns monthlyRate add sub mul div eq ofBits
 product-overflows = refl
 

@@ -1,16 +1,16 @@
 -- Document 01's loan of three months from its record's bytes: its first row asked for alone, a draw that is refused, and a draw of two rows. What was filed repays it, and is the paper's
--- listing; so is its text. Assumes nothing.
+-- listing; so is its text. And a payment at a vanishing rate. Assumes nothing.
 use mathlib.Core.Path.{_≡_, refl}
 use mathlib.Core.List.{List, [], _∷_, _++_, map}
 use Prim.Native.Nat.{ℕ, _-_, _*_}
 use lib.ListN.{replicate}
 use lib.Ieee.{Float, nan, binary64, add, sub, mul, div, lt, eq, ofInt, ofBits, toBits}
 use Rattle.elementary.specs.WholePower.{turns, wholePower}
-use Rattle.refusals.specs.Outcome.{accepted, firstOr, judged}
+use Rattle.refusals.specs.Outcome.{accepted, andThen, firstOr, judged}
 use Rattle.refusals.specs.Table.{badAmount, badTerm, noRoom, pastEnd, badRecord}
 use Rattle.records.specs.Bytes.{valueOf, bytesOf, wholeAt, floatAt, wholeBytes, floatBytes}
 use Rattle.records.specs.Kinds.{termsIn, readTerms, rowSize, rowBytes, rowIn}
-use Rattle.mortgage.specs.Payment.{monthlyRate, growth, evenPayment, payment, loanOf, openedWith, opened}
+use Rattle.mortgage.specs.Payment.{monthlyRate, growth, evenPayment, payment, monthlyPayment, loanOf, openedWith, opened}
 use Rattle.mortgage.specs.Rates as any-rates
 use Rattle.mortgage.specs.Month as any-month
 use Rattle.mortgage.specs.Rows as any-rows
@@ -93,6 +93,14 @@ listing-size = rw listed-text
 pub listing-text : linesOver (listed bytes) (replicate 270 9) ≡ text ++ replicate 5 9
 unfolding linesOver hexDigits
 listing-text = rw listed-text
+
+-- ---- 1000 at 1e-17 over 2 months: the payment that C gets is 500
+abbrev vanishing : List ℕ
+vanishing = 1 ∷ 0 ∷ 0 ∷ 0 ∷ 0 ∷ 0 ∷ 64 ∷ 143 ∷ 64 ∷ 151 ∷ 212 ∷ 70 ∷ 70 ∷ 245 ∷ 14 ∷ 103 ∷ 60 ∷ 2 ∷ 0 ∷ 0 ∷ 0 ∷ []
+
+pub vanishing-payment : toldNumber (andThen (readTerms vanishing) monthlyPayment) nan ≡ (0, number 0x407f_4000_0000_0000)
+unfolding told readTerms badRecord termsIn floatAt wholeAt valueOf judged firstOr monthlyPayment badAmount badTerm payment growth evenPayment wholePower turns monthlyRate eq add mul div lt ofInt ofBits
+vanishing-payment = refl
 
 -- ---- the theorem, of this loan and these calls
 pub repaid-by-the-calls : Repaid (number 0x4092_c000_0000_0000) 3 (filed level loan calls)
