@@ -24,6 +24,11 @@ senyolanda_result loan_deserved(const struct record *record);
 
 void set_loan(double principal, double rate, uint32_t term);
 
+/* f, the growth of 1 at a rate a year over so many months; P·r·f; and documents 01 and 02's worked-out payment, over any balance. */
+double factor(double rate, uint32_t months);
+double grown_interest(double balance, double rate, uint32_t months);
+double worked_out(double balance, double rate, uint32_t months);
+
 /* The loan in hand is the desk's: its loan's term and rate, payment, months done and balance. An opening gives one, a draw or a
    next row moves it on. The answers, in this order: its counts and its amounts; of draws and next rows also rows written, rows
    owed, and the desk's places of room or a row's record; of a draw with lines also the desk's places of them. */
