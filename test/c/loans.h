@@ -24,7 +24,7 @@ senyolanda_result loan_deserved(const struct record *record);
 
 void set_loan(double principal, double rate, uint32_t term);
 
-/* f, the growth of 1 at a rate a year over so many months; P·r·f; and documents 01 and 02's worked-out payment, over any balance. */
+/* f, what 1 grows to over so many months; P·r·f; and the payment that documents 01 and 02 work out, over any balance. */
 double factor(double rate, uint32_t months);
 double grown_interest(double balance, double rate, uint32_t months);
 double worked_out(double balance, double rate, uint32_t months);

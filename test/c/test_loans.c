@@ -222,12 +222,13 @@ static int is_proved_finite(double principal, double rate, uint32_t term) {
     return factor(rate, term) > 1 && isfinite(grown_interest(principal, rate, term));
 }
 
-static void finite(void) {
+static void large_loans(void) {
     int proved = 0;
     for (int i = 0; i < 50000; i++) {
         double principal = spread(0x1.fffffffffff00p+1021, 0x1p+1022), rate = spread(12 * 0x1p-60, 24);
         uint32_t term = 1 + random_below(random_below(2) == 0 ? 12 : 1200);
         double payment = payment_of(principal, rate, term);
+        IS(payment, worked_out(principal, rate, term));
         if (!is_proved_finite(principal, rate, term)) continue;
         proved++;
         CHECK(isfinite(payment));
@@ -352,7 +353,7 @@ int main(int arguments, char **words) {
     factors_of_one();
     not_finite();
     rates_not_finite();
-    finite();
+    large_loans();
     totals();
     savings();
     break_even();
