@@ -328,6 +328,7 @@ table warned 1e300 1e5 12
 table stated 7 -0.5 13
 table stated 1000 nan 18
 table stated 1.89 0.05 24
+table stated 1000 1e-17 24
 table stated 250000 0.06 25
 table stated 250000 0.06 360
 table stated 5 0.07 1200
