@@ -170,14 +170,17 @@ pub fn own_edges() -> Vec<Loan> {
     corners(LONGEST_OWN).into_iter().chain(odd_loans(&[1, 2, 3])).collect()
 }
 
-/// The least principals whose payments are not finite: f overflows, P·r·f does, the payment alone does, 1 + r rounds, a rate below -12.
-fn not_finite() -> [Loan; 5] {
+/// The least principals whose payments are not finite: f overflows, P·r·f does, the payment alone does, 1 + r rounds, a rate below -12,
+/// and rates that are not finite.
+fn not_finite() -> [Loan; 7] {
     [
         (0.0, 11.999999999999998, 1024),
         (1.0000000000002278, 11.999999999999996, 1024),
         (8.988465674311582e307, 11.999999999999995, 1),
         (1.1984620899082105e308, 3.996802888650563e-15, 1),
         (3.991680619069442e292, -23.999999999999996, 2),
+        (0.0, f64::NAN, 1),
+        (0.0, f64::INFINITY, 1),
     ]
     .map(|(principal, rate, term)| Loan { principal, rate, term })
 }
