@@ -100,10 +100,13 @@ static void document_01(void) {
     is_row(2, 0, 0, 0, 0);
 }
 
-/* At a rate that 1 does not feel the loan opens with equal parts as its payment, and draws what it draws with them given. */
+/* At a rate that 1 does not feel the loan opens with equal parts as its payment, just as where they are given. */
 static void equal_parts(void) {
     const double rate = 1e-17, r = rate / 12;
     set_loan(1200, rate, 3);
+    desk.payment = 400;
+    ACCEPTED(call_open_with_payment);
+    is_open(400);
     ACCEPTED(call_open);
     is_open(400);
     draw_whole(answered_loan().payment);
