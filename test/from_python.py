@@ -198,6 +198,10 @@ for places in range(ROW, 3 * ROW + 1):
         "1 4059000000000000 0000000000000000 407f400000000000 408f400000000000",
         "2 4097700000000000 408f400000000000 407f400000000000 0000000000000000"])
 
+# A rate that 1 does not feel: the payment is equal parts, and the rows are those of the same payment given.
+same([array[:] for array in Loan(1000.0, 1e-17, 2).state], [[2, 0], [1e-17, 500.0, 1000.0]])
+same(bits(Loan(1000.0, 1e-17, 2).rows(ROW)), bits(Loan(1000.0, 1e-17, 2, given=500.0).rows(ROW)))
+
 # Room for all but one number of a row is refused with 3; neither the room nor the loan is touched, and the next draw goes on from there.
 loan, short = Loan(1200.0, 0.0, 3), (c_double * (ROW - 1))(*[1.5] * (ROW - 1))
 same([array[:] for array in loan.state], [[3, 0], [0.0, 400.0, 1200.0]])
@@ -232,12 +236,10 @@ same([refusal(loan.year, years, year) for year in (0, 2, 3, 4)], [(14, 0)] * 4)
 # Interest-only, balloon and adjustable loans, by the rules of documents 01 and 02.
 def level_payment(balance, rate, months):
     r, f = rate / 12, 1.0
-    if r == 0:
-        return balance / months
-    base = 1 + r
-    while months > 0:
-        f, months, base = f * base if months % 2 else f, months // 2, base * base
-    return balance * r * f / (f - 1)
+    base, left = 1 + r, months
+    while left > 0:
+        f, left, base = f * base if left % 2 else f, left // 2, base * base
+    return balance / months if f == 1 else balance * r * f / (f - 1)
 
 
 def held(last, index, initial, cap, lifetime):

@@ -245,6 +245,11 @@ fn main() {
         assert_eq!(drawn_whole(loan, places), figures, "through room for {places} numbers");
     }
 
+    // a rate that 1 does not feel: the payment is equal parts
+    let mut parts = Loan::default();
+    open(&record(1000.0, 1e-17, 2), &mut parts).unwrap();
+    assert_eq!(parts, Loan { counts: [2, 0], amounts: [1e-17, 500.0, 1000.0] });
+
     // a draw of one row, and what is left
     let mut room = [1.5; 2 * ROW_PLACES - 1];
     assert_eq!(draw(&mut loan, &mut room), Ok((1, 2)));

@@ -215,6 +215,11 @@ last_month 0,0.24,0 -0.24 98.00,100.00,-2.00,0.00
 last_month 0,0.24,1 0.12,nan,-inf 101.00,100.00,1.00,0.00
 last_month 0,0.24,1 "0.12$(printf ',0.05%.0s' $(seq 200))" 101.00,100.00,1.00,0.00
 
+# a year at a rate that 1 does not feel pays equal parts of what is left
+stated --csv --adjustable 0,0.12,0.12 --index 1e-17 1400 0 14
+[ "$(tail -n 2 "$room/wrote")" = "1,13,100.00,100.00,0.00,100.00
+1,14,100.00,100.00,0.00,0.00" ] || fails "other rows than equal parts"
+
 # rates ADJUSTMENT INDEX MONTHS RATES: what the years' lines have behind them
 rates() {
     stated --years --adjustable "$1" --index "$2" 250000 0 "$3"

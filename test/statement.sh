@@ -66,6 +66,27 @@ loan,month,payment,principal,interest,balance
 1,3,0.00,0.00,0.00,0.00
 END
 
+# at a rate that 1 does not feel, and at -24 over an even number of months, the payment is equal parts of the principal
+stated 1000 1e-17 2
+writes <<END
+Loan 1: principal 1000.00, rate 1e-17, months 2
+ month  payment  principal  interest  balance
+     1   500.00     500.00      0.00   500.00
+     2   500.00     500.00      0.00     0.00
+year 1             1000.00      0.00     0.00
+ total  1000.00    1000.00      0.00     0.00
+END
+stated --csv --bits 1000 1e-17 2
+cp "$room/wrote" "$room/want"
+stated --csv --bits --payment 500 1000 1e-17 2
+writes <"$room/want"
+stated --csv 1000 -24 2
+writes <<END
+loan,month,payment,principal,interest,balance
+1,1,500.00,1000.00,-2000.00,0.00
+1,2,0.00,0.00,0.00,0.00
+END
+
 # the total of comma-separated rows, and that of each year, where they are asked for
 warned --csv --total 1000 6 2
 writes <<END
@@ -307,6 +328,7 @@ table warned 1e300 1e5 12
 table stated 7 -0.5 13
 table stated 1000 nan 18
 table stated 1.89 0.05 24
+table stated 1000 1e-17 24
 table stated 250000 0.06 25
 table stated 250000 0.06 360
 table stated 5 0.07 1200

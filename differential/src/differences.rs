@@ -2,7 +2,7 @@
 // docs/DIFFERENCES.md has these rows; a difference on no list is a fault.
 use crate::curves::{self, At, Between, Curve, Model};
 use crate::harness::Answer;
-use crate::loans::{self, Loan};
+use crate::loans::{self, rust_payment, Loan};
 use crate::pools::{Flows as PoolFlows, Month, Pool};
 use crate::published::bond;
 use crate::published::mortgage::{monthly_smm, MortgageCalculator};
@@ -20,6 +20,7 @@ use std::panic::{catch_unwind, AssertUnwindSafe};
 
 const TABLE: &str = "document 01's table";
 const STEPS: &str = "document 01's steps";
+const VANISHING: &str = "document 02, K5";
 
 pub struct Difference {
     what: &'static str,
@@ -78,10 +79,6 @@ fn differ<I: Debug, A: Told>(what: &'static str, why: &'static str, input: I, ou
     Difference { what, input: format!("{input:?}"), rust: answer, ours: ours(&input).told(), why }
 }
 
-fn rust_payment(loan: &Loan) -> f64 {
-    MortgageCalculator::monthly_payment(&loan.terms())
-}
-
 fn rust_rows(loan: &Loan) -> Vec<f64> {
     MortgageCalculator::amortization_schedule(&loan.terms()).iter().flat_map(rows::numbers_of).collect()
 }
@@ -104,6 +101,8 @@ fn elementary_functions() -> Vec<Difference> {
 fn of_loans() -> Vec<Difference> {
     let loan = |principal, rate, term| Loan { principal, rate, term };
     let payment = |what, input| differ(what, TABLE, input, loans::payment, rust_payment);
+    let vanishing = |what, input| differ(what, VANISHING, input, loans::payment, rust_payment);
+    let rows_alone = |loan: &Loan| rows::own_rows(loan).map(|told| told[2..told.len() - 2].to_vec());
     let refinancing = |what, old, cost, elapsed| {
         differ(what, TABLE, Refinancing { old, new: loan(1.0, 0.0, 1), cost, elapsed }, totals::breakeven, |input| {
             MortgageCalculator::refinance_breakeven(&input.old.terms(), &input.new.terms(), input.cost, input.elapsed).map(f64::from)
@@ -133,6 +132,10 @@ fn of_loans() -> Vec<Difference> {
             loans::payment,
             rust_payment,
         ),
+        vanishing("a rate that 1 + r does not feel", loan(1.0, 3.5e-323, 1)),
+        vanishing("a rate that 1 + r does not feel, of a principal of 0", loan(0.0, 3.5e-323, 1)),
+        differ("the rows at such a rate", VANISHING, loan(1.0, 3.5e-323, 2), rows_alone, rust_rows),
+        vanishing("a rate of -24 with an even term", loan(1.0, -24.0, 2)),
         refinancing("break-even with an old term of 0, months elapsed", loan(1.0, 0.0, 0), 1.0, 1),
         refinancing("no saving", loan(1.0, 0.0, 1), 0.0, 0),
         refinancing("a break-even after the new loan's end", loan(2.0, 0.0, 1), 2.0, 0),

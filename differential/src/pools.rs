@@ -2,7 +2,7 @@
 use crate::asking::*;
 use crate::harness::{bits, part_of, plain, refused, relative, Allowed, Answer, Case, Compared, Family};
 use crate::library::*;
-use crate::loans::{plain_loan, Loan, ODD_RATES};
+use crate::loans::{odd_loans, plain_loan, Loan};
 use crate::published::mortgage::{monthly_smm, MbsPool, PrepaymentModel};
 use crate::random::{Random, TURNS};
 use crate::{called, input};
@@ -146,7 +146,7 @@ fn edges() -> Vec<Case<Pool>> {
         (1..=MOST_LOANS as u32).map(|i| loan(f64::from(i), 0.06, 1 + i)).collect(),
     ];
     let speeds = [of(CPR, 0.0), of(CPR, 0.5), of(CPR, 1.0), of(PSA, 1.0), Speed { code: HISTORY, number: 0.0, history: vec![0.5, 0.25] }];
-    let odd = ODD_RATES.map(|rate| vec![loan(1000.0, rate, 3)]);
+    let odd: Vec<Vec<Loan>> = odd_loans(&[3]).into_iter().map(|loan| vec![loan]).collect();
     let all =
         pools.iter().chain(&odd).flat_map(|loans| speeds.iter().map(move |speed| Pool { loans: loans.clone(), speed: speed.clone(), rate: 0.05 }));
     all.map(plain).collect()

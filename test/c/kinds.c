@@ -168,13 +168,6 @@ static double lowered(double p, double balance) {
     return p < balance ? p : balance;
 }
 
-double worked_out(double balance, double rate, uint32_t months) {
-    double r = rate / 12;
-    if (r == 0) return balance / months;
-    double f = senyolanda_power_of(1 + r, months);
-    return balance * r * f / (f - 1);
-}
-
 /* A row that pays so much, of which so much is principal; its month is done then. */
 static void pay(struct senyolanda_loan *loan, double row[WIDTH], double payment, double principal, double interest) {
     loan->done++;

@@ -39,9 +39,6 @@ struct kind {
 };
 extern const struct kind level, interest_only, balloon, adjustable;
 
-/* Document 01's worked-out payment, over any balance. */
-double worked_out(double balance, double rate, uint32_t months);
-
 /* Document 02's rate of the year behind so many months, by the desk's caps and index list. */
 double adjusted(double last, uint32_t done);
 

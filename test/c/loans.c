@@ -1,6 +1,7 @@
 #include "loans.h"
 
 #include "damaged.h"
+#include "powers.h"
 
 #include <float.h>
 #include <math.h>
@@ -102,6 +103,21 @@ senyolanda_result loan_deserved(const struct record *record) {
 void set_loan(double principal, double rate, uint32_t term) {
     struct loan_parts loan = { 1, principal, rate, term, SENYOLANDA_LOAN_BYTES };
     desk.loan = loan;
+}
+
+/* ---- payments ---- */
+
+double factor(double rate, uint32_t months) {
+    return whole_power_by_steps(1 + rate / 12, months);
+}
+
+double grown_interest(double balance, double rate, uint32_t months) {
+    return balance * (rate / 12) * factor(rate, months);
+}
+
+double worked_out(double balance, double rate, uint32_t months) {
+    double f = factor(rate, months);
+    return f == 1 ? balance / months : grown_interest(balance, rate, months) / (f - 1);
 }
 
 /* ---- a loan in hand ---- */

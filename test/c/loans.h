@@ -24,6 +24,11 @@ senyolanda_result loan_deserved(const struct record *record);
 
 void set_loan(double principal, double rate, uint32_t term);
 
+/* f, what 1 grows to over so many months; P·r·f; and the payment that documents 01 and 02 work out, over any balance. */
+double factor(double rate, uint32_t months);
+double grown_interest(double balance, double rate, uint32_t months);
+double worked_out(double balance, double rate, uint32_t months);
+
 /* The loan in hand is the desk's: its loan's term and rate, payment, months done and balance. An opening gives one, a draw or a
    next row moves it on. The answers, in this order: its counts and its amounts; of draws and next rows also rows written, rows
    owed, and the desk's places of room or a row's record; of a draw with lines also the desk's places of them. */

@@ -201,6 +201,24 @@ static void figures(void) {
     is_row(14, 900, 600, 300, 0);
 }
 
+/* An index that brings the second year to a rate that 1 does not feel, or to -24: the balance over the two months left. */
+static void equal_parts(void) {
+    const double unfelt = 1e-17, r = unfelt / 12, below = -24;
+    set_adjustment(6, 30, 0);
+    set_index(&unfelt, 1);
+    set_hand(&adjustable, 1000, 6, 100, 14, 0);
+    draw_whole(&adjustable);
+    is_row(12, 100, 0, 500, 1000);
+    is_row(13, 500, 500, 1000 * r, 500);
+    is_row(14, 500, 500, 500 * r, 0);
+    IS(answered_loan().rate, unfelt);
+    IS(answered_loan().payment, 500);
+    set_index(&below, 1);
+    ACCEPTED(call_draw_adjustable);
+    IS(answered_loan().payment, 500);
+    is_row(13, 500, 1000, -2000, 0);
+}
+
 /* The rate of the year that a loan in hand begins behind so many months, at the rate that it holds. */
 static double rate_behind(uint32_t done, double last) {
     set_hand(&adjustable, 1000, last, 100, 36, done);
@@ -290,12 +308,12 @@ static void is_near_level(double rate, uint32_t term) {
 }
 
 static void beside_level_loans(void) {
-    static const double rates[] = { 0, 0.03, 0.065, 6 };
-    for (size_t i = 0; i < 4; i++)
+    static const double rates[] = { 0, 1e-17, 0.03, 0.065, 6 };
+    for (size_t i = 0; i < 5; i++)
         for (uint32_t term = 1; term <= 12; term++) is_level(250000, rates[i], term);
     is_level(1024, 0, 64);
     is_level(1200, 0, 1200);
-    for (size_t i = 0; i < 3; i++)
+    for (size_t i = 0; i < 4; i++)
         for (uint32_t term = 13; term <= 360; term += 29) is_near_level(rates[i], term);
 }
 
@@ -311,6 +329,17 @@ static void thirty_months(void) {
         set_index(entries, count);
         set_hand(&adjustable, 250000, 0.065, worked_out(250000, 0.065, 30), 30, 0);
         draw_all_ways(&adjustable, portions, 30);
+    }
+}
+
+/* Five years by turns at rates that 1 does not feel, at -24 and at ordinary ones. */
+static void unfelt_years(void) {
+    const double entries[] = { 1e-17, 0.065, -12 * 0x1p-54, -24 };
+    set_adjustment(0.065, 30, 0);
+    set_index(entries, 4);
+    for (uint32_t term = 49; term <= 60; term++) {
+        set_hand(&adjustable, 250000, 0.065, worked_out(250000, 0.065, term), term, 0);
+        draw_some_ways(&adjustable);
     }
 }
 
@@ -361,9 +390,11 @@ int main(int arguments, char **words) {
     longest_list();
     trying(describe_hand);
     figures();
+    equal_parts();
     rates();
     beside_level_loans();
     thirty_months();
+    unfelt_years();
     ends_of_years();
     made_up_loans();
     ordinary_loans();

@@ -127,6 +127,14 @@ static void figures(void) {
     draw_whole(&balloon);
     is_row(1198, 1, 1, 0, 2);
     is_row(1199, 2, 2, 0, 0);
+
+    /* A rate that 1 does not feel: equal parts over the term, and the rest in month 2. */
+    const double unfelt = 1e-17, r = unfelt / 12;
+    open_loan(1200, unfelt, 3, 2, 400);
+    draw_whole(&balloon);
+    is_row(1, 400, 400, 1200 * r, 800);
+    is_row(2, 800, 800, 800 * r, 0);
+
     open_loan(1000, NAN, 3, 2, NAN);
     draw_whole(&balloon);
     is_row(1, NAN, 0, NAN, 1000);
@@ -183,7 +191,7 @@ static void is_level_before(double principal, double rate, uint32_t term, uint32
 
 static void beside_level_loans(void) {
     static const uint32_t terms[] = { 1, 2, 3, 12, 13, 25, 120, 360, 1200 };
-    static const double rates[] = { 0, 0.03, 0.065, 6 };
+    static const double rates[] = { 0, 1e-17, 0.03, 0.065, 6 };
     for (size_t i = 0; i < sizeof terms / sizeof *terms; i++)
         for (size_t k = 0; k < sizeof rates / sizeof *rates; k++) {
             is_level_before(250000, rates[k], terms[i], 1);

@@ -1,5 +1,6 @@
 /* A book of loans in one call. */
 #include "damaged.h"
+#include "powers.h"
 
 #include <math.h>
 #include <string.h>
@@ -66,12 +67,19 @@ static struct {
     size_t filled;
 } wanted;
 
+/* Opens the loan; where its factor is 1, with equal parts given as its payment. */
+static senyolanda_result opened_alone(const struct loan_parts *parts, struct senyolanda_loan *loan) {
+    struct record record = record_of_loan(parts);
+    if (whole_power_by_steps(1 + parts->rate / 12, parts->term) != 1)
+        return senyolanda_loan_open(record.bytes, record.length, loan);
+    return senyolanda_loan_open_with_payment(record.bytes, record.length, parts->principal / parts->term, loan);
+}
+
 /* Draws the loan behind the others; whether all its rows found room. */
 static int drawn_alone(const struct loan_parts *parts, uint32_t *answer) {
-    struct record record = record_of_loan(parts);
-    struct senyolanda_loan loan;
+    struct senyolanda_loan loan = { 0, 0, 0, 0, 0 };
     uint32_t written = 0, owed = 0;
-    senyolanda_result result = senyolanda_loan_open(record.bytes, record.length, &loan);
+    senyolanda_result result = opened_alone(parts, &loan);
     if (result == 0) {
         result = senyolanda_loan_draw(&loan, wanted.room + wanted.filled, desk.places - wanted.filled, &written, &owed);
         if (senyolanda_number(result) == 3) return 0;
@@ -106,6 +114,14 @@ static void is_as_one_by_one(void) {
         CHECK(answered_bytes(ANSWERS)[i] == 0xa5);
 }
 
+/* At a rate that 1 does not feel. */
+static void equal_parts(void) {
+    for (size_t i = 0; i < desk.loans_count; i++) desk.loans[i].rate = 1e-17;
+    is_as_one_by_one();
+    IS(answered_numbers(ROOM)[1], desk.loans[0].principal / desk.loans[0].term);
+    tidy_desk();
+}
+
 /* A loan of a few months, any rate and any principal, now and then one that is refused, or is no loan. */
 static struct loan_parts random_loan(void) {
     double principal = 1000 + random_below(1000), rate = 0.01 * random_below(20);
@@ -117,6 +133,7 @@ static struct loan_parts random_loan(void) {
     case 3: loan.kind = 2; break;
     case 4: loan.rate = 6 * random_below(3); break;
     case 5: loan.principal = 0; break;
+    case 6: loan.rate = random_below(2) == 0 ? 1e-17 : -24; break;
     }
     return loan;
 }
@@ -154,6 +171,7 @@ int main(int arguments, char **words) {
     try_functions(functions);
     ends_of_the_room();
     full_books();
+    equal_parts();
     random_books();
     return close_checks();
 }

@@ -45,6 +45,9 @@ static void openings(void) {
     desk.payment = NAN;
     ACCEPTED(call_open_with_payment);
     is_open(NAN);
+    set_loan(1000, -24, 2);
+    ACCEPTED(call_open);
+    is_open(500);
 }
 
 static void set_state(double payment) {
@@ -95,6 +98,21 @@ static void document_01(void) {
     is_row(0, 2000, 1000, 0, 0);
     is_row(1, 2000, 0, 0, 0);
     is_row(2, 0, 0, 0, 0);
+}
+
+/* At a rate that 1 does not feel the loan opens with equal parts as its payment, just as where they are given. */
+static void equal_parts(void) {
+    const double rate = 1e-17, r = rate / 12;
+    set_loan(1200, rate, 3);
+    desk.payment = 400;
+    ACCEPTED(call_open_with_payment);
+    is_open(400);
+    ACCEPTED(call_open);
+    is_open(400);
+    draw_whole(answered_loan().payment);
+    is_row(0, 400, 400, 1200 * r, 800);
+    is_row(1, 400, 400, 800 * r, 400);
+    is_row(2, 400, 400, 400 * r, 0);
 }
 
 /* ---- room: exactly full, one short, one more, none ---- */
@@ -162,6 +180,7 @@ int main(int arguments, char **words) {
     try_functions(functions);
     openings();
     document_01();
+    equal_parts();
     rooms();
     next_rows();
     tidy_desk();

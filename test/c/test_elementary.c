@@ -1,5 +1,6 @@
 /* exp, ln and powers: document 01's steps, written out again here, to the bit. */
 #include "damaged.h"
+#include "powers.h"
 
 #include <float.h>
 #include <math.h>
@@ -105,19 +106,9 @@ static double ln_by_steps(double x) {
     return e * ln2_high + (2 * s * q + e * ln2_low);
 }
 
-static double whole_power_by_steps(double base, unsigned exponent) {
-    double answer = 1;
-    while (exponent != 0) {
-        if (exponent % 2 == 1) answer *= base;
-        exponent /= 2;
-        if (exponent != 0) base *= base;
-    }
-    return answer;
-}
-
 static double power_by_steps(double x, double y) {
     if (fabs(y) <= 1200 && y == trunc(y)) {
-        double answer = whole_power_by_steps(x, (unsigned)fabs(y));
+        double answer = whole_power_by_steps(x, (uint32_t)fabs(y));
         return y < 0 ? 1 / answer : answer;
     }
     return x == 1 ? 1 : exp_by_steps(y * ln_by_steps(x));

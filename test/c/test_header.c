@@ -204,7 +204,7 @@ static void book(void) {
 
 /* The worked-out payment at a rate of 0, at one that 1 does not feel, and at one whose power overflows. */
 static void worked_out(void) {
-    static const double rates[] = { 0, 1e-15, 12 }, wanted[] = { 1, INFINITY, NAN };
+    static const double rates[] = { 0, 1e-15, 12 }, wanted[] = { 1, 1, NAN };
     uint8_t loan[SENYOLANDA_LOAN_BYTES];
     for (size_t i = 0; i < 3; i++) {
         double payment = 0;

@@ -88,6 +88,15 @@ static void figures(void) {
     is_row(1199, 500, 0, 500, 1000);
     is_row(1200, 1500, 1000, 500, 0);
 
+    /* A rate that 1 does not feel: equal parts of 1,200 over the three months behind two. */
+    const double unfelt = 1e-17, r = unfelt / 12;
+    open_loan(1200, unfelt, 5, 2, 400);
+    draw_whole(&interest_only);
+    is_row(2, 1200 * r, 0, 1200 * r, 1200);
+    is_row(3, 400, 400, 1200 * r, 800);
+    is_row(4, 400, 400, 800 * r, 400);
+    is_row(5, 400, 400, 400 * r, 0);
+
     /* A NaN rate, and a NaN payment, which raises to 0. */
     open_loan(1000, NAN, 3, 1, NAN);
     draw_whole(&interest_only);
@@ -145,7 +154,7 @@ static void is_level_behind(double principal, double rate, uint32_t term, uint32
 
 static void beside_level_loans(void) {
     static const uint32_t terms[] = { 2, 3, 12, 13, 25, 120, 360, 1200 };
-    static const double rates[] = { 0, 0.03, 0.065, 6 };
+    static const double rates[] = { 0, 1e-17, 0.03, 0.065, 6 };
     for (size_t i = 0; i < sizeof terms / sizeof *terms; i++)
         for (size_t k = 0; k < sizeof rates / sizeof *rates; k++) {
             is_level_behind(250000, rates[k], terms[i], 1);

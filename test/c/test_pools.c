@@ -281,6 +281,17 @@ static void months(void) {
     for (size_t i = 0; i < 9; i++) IS(answered_numbers(ROOM)[i], both[i]);
 }
 
+/* The same at a rate that 1 does not feel: equal parts, and the interest on what is scheduled. */
+static void months_of_equal_parts(void) {
+    const double rate = 1e-17, r = rate / 12, wanted[] = { 400, 1200 * r, 400, 400, 800 * r, 0, 400, 400 * r, 0 };
+    set_pool();
+    desk.loans[0].rate = rate;
+    desk.places = 9;
+    CHECK(COUNT_OF(call_pool_cash_flows) == 3);
+    for (size_t i = 0; i < 9; i++) IS(answered_numbers(ROOM)[i], wanted[i]);
+    IS(price_at(0), 1600);
+}
+
 static void prices(void) {
     const double bump = 0.0001, rate = 0.5;
     set_pool();
@@ -316,6 +327,7 @@ int main(int arguments, char **words) {
     unknown_speeds();
     speeds();
     months();
+    months_of_equal_parts();
     prices();
     totals();
     tidy_desk();
