@@ -175,7 +175,7 @@ static const struct way {
     int has_factor, has_product;
 } ways[] = {
     { "f overflows", 0, 11.999999999999998, 1024, NAN, 0, 0 },
-    { "P·r·f overflows, and f does not", 1.0000000000002278, 11.999999999999996, 1024, INFINITY, 1, 0 },
+    { "P·r·f overflows, and f does not", 1.0000000000002278, 11.999999999999995, 1024, INFINITY, 1, 0 },
     { "the payment is above the largest number", 0x1.0000000000001p+1023, 11.999999999999995, 1, INFINITY, 1, 1 },
     { "1 + r rounds", 0x1.5555555555555p+1023, 0x1.1ffffffffffffp-48, 1, INFINITY, 1, 1 },
     { "a rate below -12", 0x1.0000000000003p+972, -23.999999999999996, 2, INFINITY, 1, 1 },
@@ -187,10 +187,11 @@ static void describe_way(void) {
     describe_loan();
 }
 
-/* The next smaller principal has a finite payment; where there is none, the next smaller rate, and a month less. */
+/* Finite with the next smaller principal, with a month less, where there is either, and with the next rate toward 0. */
 static int is_the_least(void) {
-    if (way->principal > 0) return isfinite(payment_of(nextafter(way->principal, 0), way->rate, way->term));
-    return isfinite(payment_of(0, nextafter(way->rate, 0), way->term)) && isfinite(payment_of(0, way->rate, way->term - 1));
+    return (way->principal == 0 || isfinite(payment_of(nextafter(way->principal, 0), way->rate, way->term)))
+        && (way->term == 1 || isfinite(payment_of(way->principal, way->rate, way->term - 1)))
+        && isfinite(payment_of(way->principal, nextafter(way->rate, 0), way->term));
 }
 
 static void not_finite(void) {
@@ -234,6 +235,17 @@ static void large_loans(void) {
         CHECK(isfinite(payment));
     }
     CHECK(proved > 20000);
+}
+
+/* Of rates from -12 to 0 no theorem speaks: there too the payments of these principals are finite, and none is below 0. */
+static void large_loans_below_0(void) {
+    for (int i = 0; i < 50000; i++) {
+        double principal = spread(0x1.fffffffffff00p+1021, 0x1p+1022), rate = -spread(12 * 0x1p-60, 12);
+        uint32_t term = 1 + random_below(random_below(2) == 0 ? 12 : 1200);
+        double payment = payment_of(principal, rate, term);
+        IS(payment, worked_out(principal, rate, term));
+        CHECK(isfinite(payment) && payment >= 0);
+    }
 }
 
 /* ---- figures ---- */
@@ -354,6 +366,7 @@ int main(int arguments, char **words) {
     not_finite();
     rates_not_finite();
     large_loans();
+    large_loans_below_0();
     totals();
     savings();
     break_even();
