@@ -72,9 +72,9 @@ module _ (f : Format) (num den : ℕ) (D : 0 < den) where
     round-under false z l =
         let x = round f false num den in
         let under : T (le x bound) = round-mono f num den a (2 ^ low f) D (pow-pos (low f)) l in
-        let known : T (amount f x) =
-            round-amount false z
-            (passes (finite-within plusZero x bound (is-true _ (amount-finite f plusZero (zero-amount f))) (is-true _ (amount-finite f bound bound-amount)) not-below-zero (is-true _ under))) in
+        let zero-finite = is-true _ (amount-finite f plusZero (zero-amount f)) in
+        let bound-finite = is-true _ (amount-finite f bound bound-amount) in
+        let known = round-amount false z (passes (finite-within plusZero x bound zero-finite bound-finite not-below-zero (is-true _ under))) in
         (known, rw bound-count at (le-amount f x bound known bound-amount .0 under))
 
     pub round-over : T (amount f (round f false num den)) → a * den ≤ num * 2 ^ low f → a ≤ count f (round f false num den)
