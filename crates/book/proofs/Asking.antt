@@ -1,7 +1,7 @@
 -- What a loan of a book answers and asks for: by its terms alone where they are judged, and by its record; and how it begins. Assumes nothing.
 use mathlib.Core.Path.{_≡_, refl, sym, ap, _∙_}
 use mathlib.Core.Bool.{false}
-use mathlib.Core.List.{List}
+use mathlib.Core.List.{List, []}
 use Prim.Native.Nat.{ℕ, _*_, _≤_, _<_}
 use native.Mathlib.Omega.{arith}
 use lib.ListN.{length}
@@ -12,7 +12,6 @@ use Rattle.refusals.specs.Answers.{verdictOutcome}
 use Rattle.refusals.specs.Outcome.{Outcome, refused, accepted, andThen, judged}
 use Rattle.refusals.specs.Table.{badTerm}
 use Rattle.refusals.proofs.Causes.{some-term}
-use Rattle.refusals.proofs.Judging.{passed, none-is}
 use Rattle.refusals.proofs.Verdicts.{refused-by, accepted-by, accepted-value}
 use Rattle.records.specs.declared.Terms.{Terms}
 use Rattle.records.specs.declared.TermsRead.{TermsRead}
@@ -26,6 +25,7 @@ use Rattle.mortgage.specs.Payment.{payment, loanOf, openedWith, opened}
 use Rattle.mortgage.specs.Month as any-month
 use Rattle.mortgage.specs.Level.{endMonth, due, rows}
 use Rattle.steps.specs.Steps.{pieces}
+use Rattle.mortgage.proofs.TermsLaws.{terms-passed}
 use Rattle.mortgage.proofs.LevelLaws.{length-rows}
 use Rattle.book.specs.Book.{loanAt, answer, asked, firstRows}
 
@@ -64,9 +64,7 @@ fresh-terms : (t : Terms) (l : Loan) → opened t ≡ accepted l → Fresh l
 unfolding opened openedWith loanOf
 fresh-terms t l e =
     let m : l ≡ loanOf t (payment t) = accepted-value (termsLines t) (loanOf t (payment t)) l e in
-    let a = passed (loanOf t (payment t)) l _ _ (sym e) in
-    let b = passed (loanOf t (payment t)) l _ _ (a .1) in
-    record { good = ap (λ (k : Loan). badTerm (k .term)) m ∙ none-is (b .0) 0; unstarted = ap (λ (k : Loan). k .done) m }
+    record { good = ap (λ (k : Loan). badTerm (k .term)) m ∙ terms-passed t [] (loanOf t (payment t)) l e .1; unstarted = ap (λ (k : Loan). k .done) m }
 
 pub fresh : (bytes : List ℕ) (i : ℕ) (l : Loan) → loanAt bytes i ≡ accepted l → Fresh l
 unfolding loanAt

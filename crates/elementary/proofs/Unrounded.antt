@@ -154,7 +154,7 @@ like : (s : Bool) → unlike s s ≡ false
 like false = refl
 like true = refl
 
-unlike-plus : (s : Bool) → unlike s false ≡ s
+pub unlike-plus : (s : Bool) → unlike s false ≡ s
 unlike-plus false = refl
 unlike-plus true = refl
 

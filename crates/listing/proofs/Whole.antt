@@ -1,14 +1,12 @@
 -- The whole listing: the parts of a loan's lines, that the room for a listing holds them, and what a record gives in each case. Assumes nothing.
-use mathlib.Core.Path.{_≡_, refl, ap, _∙_}
-use mathlib.Core.Bool.{Bool, true, false}
-use mathlib.Core.List.{List, [], _∷_, _++_}
+use mathlib.Core.Path.{_≡_, ap, _∙_}
+use mathlib.Core.List.{List, [], _++_}
 use Prim.Native.Nat.{ℕ, _+_, _*_, _≤_, zero-le}
 use native.Mathlib.Nat.{zero-add}
 use native.Mathlib.Omega.{arith}
 use lib.ListN.{length, drop, length-append}
 use lib.Seq.{sets-eq}
-use Rattle.refusals.specs.Outcome.{Outcome, refused, accepted, andThen, line, firstOr, judged}
-use Rattle.refusals.specs.Table.{badAmount, badTerm}
+use Rattle.refusals.specs.Outcome.{Outcome, refused, accepted, andThen}
 use Rattle.records.specs.declared.Terms.{Terms}
 use Rattle.records.specs.Kinds.{readTerms}
 use Rattle.mortgage.specs.declared.Loan.{Loan}
@@ -16,6 +14,7 @@ use Rattle.mortgage.specs.Terms.{termsLines as loanTermsLines}
 use Rattle.mortgage.specs.Payment.{payment, loanOf, openedWith, opened}
 use Rattle.mortgage.specs.Month as any-month
 use Rattle.mortgage.specs.Level.{due, after}
+use Rattle.mortgage.proofs.TermsLaws.{terms-passed}
 use Rattle.refusals.proofs.Verdicts.{accepted-value}
 use Rattle.listing.specs.declared.portions.Listed.{Listed}
 use Rattle.listing.specs.Listing.{header, rowLines, footer, refusedLine, loanLines, listed, listedSize, linesOver, saying, listing}
@@ -26,18 +25,12 @@ use Rattle.listing.proofs.Lengths.{length-footer, length-refused, lengt
 use Rattle.listing.proofs.PortionLaws.{short}
 
 -- ---- a loan that was opened is in hand
-second-passes : {Value : Type 0} (a b : Bool) (v d : Value) → judged (line 1 a ∷ line 2 b ∷ []) v ≡ accepted d → b ≡ false
-unfolding judged firstOr
-second-passes true b v d e = cc
-second-passes false true v d e = cc
-second-passes false false v d e = refl
-
 pub opened-in-hand : (t : Terms) (l : Loan) → opened t ≡ accepted l → InHand l
 unfolding opened openedWith loanOf
 opened-in-hand t l e =
     let v : l ≡ loanOf t (payment t) = accepted-value (loanTermsLines t) (loanOf t (payment t)) l e in
     record {
-      term = rw v (second-passes (badAmount (t .principal)) (badTerm (t .term)) (loanOf t (payment t)) l e);
+      term = rw v (terms-passed t [] (loanOf t (payment t)) l e .1);
       done = rw v zero-le;
     }
 

@@ -31,7 +31,8 @@ use Rattle.elementary.proofs.Unrounded.{equal-same}
 use Rattle.refusals.specs.Outcome.{accepted}
 use Rattle.refusals.proofs.Causes.{some-term}
 use Rattle.mortgage.specs.Payment.{evenPayment, levelPayment, payment, monthlyPayment}
-use Rattle.mortgage.proofs.PaymentLaws.{rateOf, factorOf, rate-held, factor-held, one-nonzero, terms-accepted, payment-accepted, amount-accepted, sum-from-one, factor-not-below, vanishes-exactly}
+use Rattle.mortgage.proofs.TermsLaws.{amount-passed}
+use Rattle.mortgage.proofs.PaymentLaws.{rateOf, factorOf, rate-held, factor-held, one-nonzero, terms-accepted, payment-accepted, sum-from-one, factor-not-below, vanishes-exactly}
 
 -- ---- what rounding makes of n units from 1 to below 2: q steps of 2 ^ (1 - prec), which n misses by at most half a step
 steps-above-one : (f : Format) (n : ℕ) → 2 ^ low f ≤ n → n < 2 ^ suc (low f)
@@ -301,7 +302,7 @@ unfolding payment
 payment-finite t p fit e rises small grows whole =
     let good = terms-accepted t p e in
     subst (λ (z : Float). T (finite z)) (sym (payment-accepted t p e ∙ level-at (eq (factorOf t) one) (above-one (factorOf t) grows) (evenPayment (t .principal) (t .term)) (levelPayment (t .principal) (rateOf t) (factorOf t))))
-    (level-finite t (amount-accepted (t .principal) fit (good .0)) (some-term (t .term) (good .1)) rises grows whole small)
+    (level-finite t (amount-passed (t .principal) fit (good .0)) (some-term (t .term) (good .1)) rises grows whole small)
   where
     level-at : (b : Bool) → b ≡ false → (even level : Float) → cond b even level ≡ level
     level-at b e even level = rw e

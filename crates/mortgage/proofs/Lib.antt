@@ -1,3 +1,4 @@
+pub mod TermsLaws
 pub mod PaymentLaws
 pub mod FinitePayments
 pub mod PaymentsWorked

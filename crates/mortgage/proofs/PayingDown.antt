@@ -1,21 +1,20 @@
 -- Paying down month by month: what each way through a month does to what is left to pay down, for any payment, any monthly rate and any number of months; and accepted terms are short enough for it. Assumes nothing.
-use mathlib.Core.Path.{_≡_, refl, _∙_}
-use mathlib.Core.Bool.{Bool, true, false, cond, _||_}
-use mathlib.Core.List.{[], _∷_}
+use mathlib.Core.Path.{_≡_, sym, _∙_}
+use mathlib.Core.Bool.{true, false, cond}
+use mathlib.Core.List.{[]}
 use Prim.Native.Nat.{ℕ, suc, _+_, _-_, _<_, _≤_}
 use native.Mathlib.Omega.{arith}
-use lib.Dec.{eqb, ltb}
 use lib.Ieee.{Float, lt, le}
-use borrow.Author.Tests.{ltb-false}
 use Rattle.numbers.specs.Literals.{millionth}
 use Rattle.numbers.specs.Clamps.{plusZero}
-use Rattle.refusals.specs.Outcome.{accepted, line, firstOr, judged}
-use Rattle.refusals.specs.Table.{badAmount, badTerm}
+use Rattle.refusals.specs.Outcome.{accepted}
 use Rattle.refusals.proofs.Verdicts.{verdict}
+use Rattle.refusals.proofs.Causes.{term-within}
 use Rattle.records.specs.declared.Terms.{Terms}
 use Rattle.mortgage.specs.declared.savings.Paydown.{Paydown}
 use Rattle.mortgage.specs.Terms.{termsLines}
 use Rattle.mortgage.specs.Savings.{paidDown, paidDownFor}
+use Rattle.mortgage.proofs.TermsLaws.{terms-passed}
 
 another : (most k : ℕ) → k < most → most - k ≡ suc (most - (k + 1))
 another most k h = omega arith
@@ -48,16 +47,5 @@ unfolding paidDown
 counted pay r k s s′ month e = rw (month, e)
 
 -- ---- an accepted term is at most 1,200
-second-passes : (a b : Bool) → accepted tt ≡ verdict (line 1 a ∷ line 2 b ∷ []) → b ≡ false
-unfolding judged firstOr
-second-passes a false e = refl
-second-passes true true e = cc
-second-passes false true e = cc
-
-neither : (a b : Bool) → (a || b) ≡ false → b ≡ false
-neither true b e = cc
-neither false b e = e
-
 pub accepted-term : (t : Terms) → accepted tt ≡ verdict (termsLines t) → t .term ≤ 1200
-unfolding badTerm
-accepted-term t e = ltb-false 1200 (t .term) (neither (eqb (t .term) 0) (ltb 1200 (t .term)) (second-passes (badAmount (t .principal)) (badTerm (t .term)) e))
+accepted-term t e = term-within (t .term) (terms-passed t [] tt tt (sym e) .1)

@@ -1,9 +1,9 @@
 -- The payment's own laws. The machine holds it. Where the factor is 1 it is P/n, rounded once; the factor is 1 at a rate of 0, at a rate of -24 with an even term, and at a rate above 0 exactly where
 -- 1 + r rounds to 1. Elsewhere the payment is document 01's. Assumes nothing.
-use mathlib.Core.Path.{_≡_, refl, sym, ap, _∙_}
+use mathlib.Core.Path.{_≡_, refl, ap, _∙_}
 use mathlib.Core.Logic.{_↔_, inl, inr}
-use mathlib.Core.Bool.{Bool, true, false, not, cond}
-use mathlib.Core.List.{[], _∷_}
+use mathlib.Core.Bool.{Bool, true, false, cond}
+use mathlib.Core.List.{[]}
 use Prim.Native.Nat.{ℕ, _*_, _%_, _≤_, _<_, _^_}
 use native.Mathlib.Nat.{mul-pos}
 use native.Mathlib.Omega.{arith}
@@ -18,20 +18,20 @@ use lib.Ieee.Scale.{finite, round-same}
 use borrow.Author.Tests.{ne-eqb}
 use Rattle.numbers.specs.Literals.{one, two}
 use Rattle.numbers.specs.Clamps.{plusZero}
-use Rattle.numbers.proofs.Amounts.{passes, amount}
-use Rattle.numbers.proofs.Order.{zero-amount, amount-by-tests, above-amount}
+use Rattle.numbers.proofs.Amounts.{passes}
+use Rattle.numbers.proofs.Order.{zero-amount, above-amount}
 use Rattle.numbers.proofs.Comparing.{clash, eq-le, equal-between, le-trans, eq-itself}
 use Rattle.numbers.proofs.Growing.{sum-not-below}
 use Rattle.elementary.specs.WholePower.{wholePower}
-use Rattle.elementary.proofs.Unrounded.{nonzero, equal-same, add-zero}
+use Rattle.elementary.proofs.Unrounded.{nonzero, equal-same, add-zero, unlike-plus}
 use Rattle.elementary.proofs.WholePowers.{power-of-one, even-power-of-minus-one, power-not-below, power-held}
-use Rattle.refusals.specs.Outcome.{accepted, line}
+use Rattle.refusals.specs.Outcome.{accepted}
 use Rattle.refusals.specs.Table.{badAmount, badTerm}
-use Rattle.refusals.proofs.Causes.{neither, some-term, term-within}
-use Rattle.refusals.proofs.Judging.{none-is, passed}
+use Rattle.refusals.proofs.Causes.{some-term, term-within}
 use Rattle.refusals.proofs.Verdicts.{accepted-value}
 use Rattle.records.specs.declared.Terms.{Terms}
 use Rattle.mortgage.specs.Terms.{termsLines}
+use Rattle.mortgage.proofs.TermsLaws.{terms-passed}
 use Rattle.mortgage.specs.Payment.{monthlyRate, growth, evenPayment, levelPayment, payment, monthlyPayment}
 
 -- "r" and "f" of the terms
@@ -66,21 +66,13 @@ unfolding div
 part-of-value x nan n N v = absurd v
 part-of-value x (inf t) n N v = absurd v
 part-of-value nan (fin t k d) n N v = refl
-part-of-value (inf s) (fin t k d) n N v = ap inf (ap (unlike s) (v .0) ∙ with-plus s)
-  where
-    with-plus : (s : Bool) → unlike s false ≡ s
-    with-plus false = refl
-    with-plus true = refl
+part-of-value (inf s) (fin t k d) n N v = ap inf (ap (unlike s) (v .0) ∙ unlike-plus s)
 part-of-value (fin s m e) (fin t k d) n N v =
     rw (ne-eqb k 0 (λ (z : k ≡ 0). some (up d) (down d) (down-pos d) z (v .1)))
-    (ap (λ (b : Bool). round binary64 b (m * up e * down d) (k * up d * down e)) (ap (unlike s) (v .0) ∙ with-plus s)
+    (ap (λ (b : Bool). round binary64 b (m * up e * down d) (k * up d * down e)) (ap (unlike s) (v .0) ∙ unlike-plus s)
     ∙ round-same binary64 s (m * up e * down d) (k * up d * down e) (m * up e) (n * down e) (mul-pos (mul-pos (above k (λ (z : k ≡ 0). some (up d) (down d) (down-pos d) z (v .1))) (up-pos d)) (down-pos e))
     (mul-pos N (down-pos e)) (turn (m * up e) (k * up d) (down e) (down d) (v .1)))
   where
-    with-plus : (s : Bool) → unlike s false ≡ s
-    with-plus false = refl
-    with-plus true = refl
-
     some : (u c : ℕ) → 0 < c → k ≡ 0 → k * u * 1 ≡ n * c → ⊥
     some u c C z h = go (rw z at h)
       where
@@ -110,9 +102,7 @@ module _ (t : Terms) (p : Float) (e : monthlyPayment t ≡ accepted p) where
 
   pub terms-accepted : (badAmount (t .principal) ≡ false) × (badTerm (t .term) ≡ false)
   unfolding monthlyPayment
-  terms-accepted =
-      let first = passed (payment t) p (line 1 (badAmount (t .principal))) (line 2 (badTerm (t .term)) ∷ []) (sym e) in
-      (none-is (first .0) 0, none-is (passed (payment t) p (line 2 (badTerm (t .term))) [] (first .1) .0) 0)
+  terms-accepted = let w = terms-passed t [] (payment t) p e in (w .0, w .1)
 
   pub rounded-once : eq (factorOf t) one ≡ true → p ≡ nearestPart (t .principal) (t .term)
   rounded-once h =
@@ -122,15 +112,6 @@ module _ (t : Terms) (p : Float) (e : monthlyPayment t ≡ accepted p) where
     where
       few : (n : ℕ) → n ≤ 1200 → n ≤ 2 ^ 53
       few n l = omega arith
-
--- the principal that was lent
-pub amount-accepted : (x : Float) → T (fits binary64 x) → badAmount x ≡ false → T (amount binary64 x)
-unfolding badAmount
-amount-accepted x fit good = amount-by-tests binary64 x (is-true _ fit) (no-infinity (finite x) (neither (not (finite x)) (lt x plusZero) good .0)) (neither (not (finite x)) (lt x plusZero) good .1)
-  where
-    no-infinity : (b : Bool) → not b ≡ false → b ≡ true
-    no-infinity true e = refl
-    no-infinity false e = clash (sym e)
 
 -- ---- where the factor is 1
 growth-at-one : (r : Float) (n : ℕ) → add binary64 one r ≡ one → growth r n ≡ one

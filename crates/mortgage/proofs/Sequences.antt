@@ -7,10 +7,10 @@ use Prim.Native.Nat.{ℕ, _-_, _*_, _≤_}
 use native.Mathlib.Omega.{arith}
 use lib.ListN.{length}
 use lib.Ieee.{Float}
-use Rattle.refusals.specs.Outcome.{refused, accepted, line}
+use Rattle.refusals.specs.Outcome.{refused, accepted}
 use Rattle.refusals.specs.Table.{badAmount, badTerm}
-use Rattle.refusals.proofs.Judging.{none-is, passed}
 use Rattle.refusals.proofs.Verdicts.{accepted-value, accepts-whatever}
+use Rattle.mortgage.proofs.TermsLaws.{terms-passed}
 use Rattle.records.specs.declared.Terms.{Terms}
 use Rattle.steps.specs.Calls.{roomy}
 use Rattle.steps.proofs.Calls as calls
@@ -109,9 +109,8 @@ module _ (way : Way) where
       unfolding kindOpenedWith
       lines-passed =
           let v = loanOf (startingTerms way t) pay in
-          let first = passed v l (line 1 (badAmount (t .principal))) (line 2 (badTerm (t .term)) ∷ kindLines way (t .term)) (sym e) in
-          let second = passed v l (line 2 (badTerm (t .term))) (kindLines way (t .term)) (first .1) in
-          (none-is (first .0) 0, none-is (second .0) 0, accepts-whatever (kindLines way (t .term)) v l (second .1))
+          let w = terms-passed t (kindLines way (t .term)) v l e in
+          (w .0, w .1, accepts-whatever (kindLines way (t .term)) v l (w .2))
 
       -- "Since a draw with room writes at least one row, n draws are enough", n the rows due
       pub enough-draws-of-any-kind : (rooms : List (List Float)) → rowsDue way t ≤ roomy width rooms → due way (left way l rooms) ≡ 0

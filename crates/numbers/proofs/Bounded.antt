@@ -124,22 +124,18 @@ product-under f (fin s m e) (inf t) a p q h l = absurd (counts f (inf t) q)
 product-under f (fin s m e) (fin t n d) a p q h l =
     round-under f (m * up e * (n * up d)) (down e * down d) (mul-pos (down-pos e) (down-pos d)) a h (unlike s t) (product-sign f s m e t n d p q) (product-bounded f s m e t n d p q a l)
 
+endless : (b u : Bool) → T (finite (cond b nan (inf u))) → ⊥
+endless true u h = h
+endless false u h = h
+
 pub factors-finite : (f : Format) (x y : Float) → T (finite (mul f x y)) → T (finite x) × T (finite y)
 unfolding mul
 factors-finite f nan y h = absurd h
 factors-finite f (inf s) nan h = absurd h
 factors-finite f (inf s) (inf t) h = absurd h
 factors-finite f (inf s) (fin t n d) h = absurd (endless (eqb n 0) (unlike s t) h)
-  where
-    endless : (b u : Bool) → T (finite (cond b nan (inf u))) → ⊥
-    endless true u h = h
-    endless false u h = h
 factors-finite f (fin s m e) nan h = absurd h
 factors-finite f (fin s m e) (inf t) h = absurd (endless (eqb m 0) (unlike s t) h)
-  where
-    endless : (b u : Bool) → T (finite (cond b nan (inf u))) → ⊥
-    endless true u h = h
-    endless false u h = h
 factors-finite f (fin s m e) (fin t n d) h = (tt, tt)
 
 -- by an amount above 0
