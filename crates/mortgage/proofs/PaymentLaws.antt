@@ -130,13 +130,17 @@ one-finite : T (finite one)
 unfolding ofBits
 one-finite = tt
 
+-- what is 1 equals 1
+at-one : {x : Float} → x ≡ one → eq x one ≡ true
+at-one e = ap (λ (f : Float). eq f one) e ∙ eq-itself one (is-true _ one-finite)
+
 -- a rate of 0
 pub zero-rate : (r : Float) (n : ℕ) → eq r plusZero ≡ true → growth r n ≡ one
 zero-rate r n z = growth-at-one r n (add-zero binary64 one r one-held one-nonzero z)
 
 -- so document 01's own test of the rate would change no payment
 pub zero-test-idle : (t : Terms) → payment t ≡ cond (eq (rateOf t) plusZero) (evenPayment (t .principal) (t .term)) (payment t)
-zero-test-idle t = go (eq (rateOf t) plusZero) (λ (z : eq (rateOf t) plusZero ≡ true). even-at-one t (ap (λ (f : Float). eq f one) (zero-rate (rateOf t) (t .term) z) ∙ eq-itself one (is-true _ one-finite)))
+zero-test-idle t = go (eq (rateOf t) plusZero) (λ (z : eq (rateOf t) plusZero ≡ true). even-at-one t (at-one (zero-rate (rateOf t) (t .term) z)))
   where
     go : (b : Bool) → (b ≡ true → payment t ≡ evenPayment (t .principal) (t .term)) → payment t ≡ cond b (evenPayment (t .principal) (t .term)) (payment t)
     go true h = h refl
@@ -148,7 +152,7 @@ pub as-before : (t : Terms) → (eq (factorOf t) one ≡ true → eq (rateOf t) 
 unfolding payment
 as-before t h =
     same (eq (rateOf t) plusZero) (eq (factorOf t) one) (evenPayment (t .principal) (t .term)) (levelPayment (t .principal) (rateOf t) (factorOf t)) h
-    (λ (z : eq (rateOf t) plusZero ≡ true). ap (λ (f : Float). eq f one) (zero-rate (rateOf t) (t .term) z) ∙ eq-itself one (is-true _ one-finite))
+    (λ (z : eq (rateOf t) plusZero ≡ true). at-one (zero-rate (rateOf t) (t .term) z))
   where
     same : (z f : Bool) (even level : Float) → (f ≡ true → z ≡ true) → (z ≡ true → f ≡ true) → cond f even level ≡ cond z even level
     same true true even level a b = refl
@@ -181,5 +185,5 @@ pub vanishes-exactly : (r : Float) (n : ℕ) → T (fits binary64 r) → lt plus
 vanishes-exactly r n t h l = (
   λ (e : eq (growth r n) one ≡ true). equal-same binary64 (add binary64 one r) one (add-fits binary64 one r) one-held one-nonzero
       (equal-between (add binary64 one r) one (le-trans (add binary64 one r) (growth r n) one (factor-not-below r n t h l) (eq-le (growth r n) one e)) (sum-from-one r t h)),
-  λ (e : add binary64 one r ≡ one). ap (λ (f : Float). eq f one) (growth-at-one r n e) ∙ eq-itself one (is-true _ one-finite),
+  λ (e : add binary64 one r ≡ one). at-one (growth-at-one r n e),
 )
