@@ -1,5 +1,5 @@
 -- Where rounding changes nothing: x·1 is x, x/x is 1, and a zero added to a value other than 0 leaves it. A zero times a finite number is a zero, and so is a zero over a value other than 0.
--- Assumes nothing.
+-- Values that are equal, and other than 0, are the same. Assumes nothing.
 use mathlib.Core.Path.{_≡_, refl, sym, ap, _∙_, subst}
 use mathlib.Core.Bool.{Bool, true, false, _||_, Bool·beq}
 use Prim.Native.Nat.{ℕ, zero, suc, _+_, _-_, _*_, _^_, _<_}
@@ -54,7 +54,7 @@ above-nonzero f (fin s (suc m) e) t h = tt
 pub nonzero-between : (f : Format) (x y : Float) → T (amount f x) → T (amount f y) → T (lt y x) → T (nonzero (sub f x y))
 nonzero-between f x y p q l = above-nonzero f (sub f x y) (difference f x y p q (le-of-lt (lt-amount f y x q p .0 l)) .is-amount) (left-above-amounts f x y p q l)
 
--- ---- numbers that are equal, and not 0, are the same
+-- ---- values that are equal, and other than 0, are the same
 pub equal-same : (f : Format) (x y : Float) → T (fits f x) → T (fits f y) → T (nonzero y) → eq x y ≡ true → x ≡ y
 unfolding eq
 equal-same f nan y t u n h = clash h
