@@ -10,7 +10,7 @@ use Rattle.refusals.specs.Table.{badAmount, badTerm, noRoom, noRoomForAll, badR
 use Rattle.records.specs.Bytes.{valueOf, wholeAt, floatAt}
 use Rattle.records.specs.Kinds.{termsSize, termsIn, readTerms}
 use Rattle.records.specs.EndToEnd.{recordAt}
-use Rattle.mortgage.specs.Payment.{monthlyRate, growth, evenPayment, payment, loanOf, openedWith, opened}
+use Rattle.mortgage.specs.Payment.{monthlyRate, growth, equalPart, payment, loanOf, openedWith, opened}
 use Rattle.mortgage.specs.Row.{width}
 use Rattle.mortgage.specs.Rates as any-rates
 use Rattle.mortgage.specs.Month as any-month
@@ -82,7 +82,7 @@ pub record Drawn : Type 0 where
   pub too-many : bookDrawn (replicate ((mostLoans + 1) * termsSize) 0) 0 0 ≡ refused 11 0
 
 pub drawn : Drawn
-unfolding recordAt loanAt askedBy finishing finished cutShort answered progress roomAfter answersAfter tooLittle bookDrawn bookRoom bookAnswers firstOr judged badAmount badTerm noRoom noRoomForAll badRecord badLength badTotal valueOf wholeAt floatAt termsIn readTerms monthlyRate payment growth evenPayment wholePower turns loanOf openedWith opened any-month.endMonth any-month.due last interestOf principalOf paymentOf leftOf any-month.rowOf any-month.rowOn any-month.paid any-month.principal any-month.remaining any-month.interestAlone any-rates.inForce any-month.nextOf any-month.nextOn stepped pieces add sub mul div lt eq ofInt ofBits
+unfolding recordAt loanAt askedBy finishing finished cutShort answered progress roomAfter answersAfter tooLittle bookDrawn bookRoom bookAnswers firstOr judged badAmount badTerm noRoom noRoomForAll badRecord badLength badTotal valueOf wholeAt floatAt termsIn readTerms monthlyRate payment growth equalPart wholePower turns loanOf openedWith opened any-month.endMonth any-month.due last interestOf principalOf paymentOf leftOf any-month.rowOf any-month.rowOn any-month.paid any-month.principal any-month.remaining any-month.interestAlone any-rates.inForce any-month.nextOf any-month.nextOn stepped pieces add sub mul div lt eq ofInt ofBits
 drawn = record {
   two = refl;
   two-room = refl;

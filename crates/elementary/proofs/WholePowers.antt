@@ -46,28 +46,28 @@ even-power-of-minus-one (suc m) e =
 
 -- ---- powers of what is 1 or more
 -- a product and a base that the machine holds, both 1 or more
-record FromOne (x : Float) : Type 0 where
+record HeldFromOne (x : Float) : Type 0 where
   held : T (fits binary64 x)
   no-less : le one x ≡ true
 
-times : (x y : Float) → FromOne x → FromOne y → FromOne (mul binary64 x y) × (le x (mul binary64 x y) ≡ true)
+times : (x y : Float) → HeldFromOne x → HeldFromOne y → HeldFromOne (mul binary64 x y) × (le x (mul binary64 x y) ≡ true)
 times x y p q =
     let grows = product-not-below binary64 x y (p .held) (p .no-less) (q .no-less) in
     (record { held = mul-fits binary64 x y; no-less = le-trans one x (mul binary64 x y) (p .no-less) grows }, grows)
 
-no-less-itself : (x : Float) → FromOne x → le x x ≡ true
+no-less-itself : (x : Float) → HeldFromOne x → le x x ≡ true
 no-less-itself x p = let r = second-real one x (p .no-less) in at-or-below-real x x r r (lt-itself x)
 
 -- what the product is multiplied by, and what the base becomes
-multiplied : (b : Bool) (x y : Float) → FromOne x → FromOne y → FromOne (cond b (mul binary64 x y) x) × (le x (cond b (mul binary64 x y) x) ≡ true)
+multiplied : (b : Bool) (x y : Float) → HeldFromOne x → HeldFromOne y → HeldFromOne (cond b (mul binary64 x y) x) × (le x (cond b (mul binary64 x y) x) ≡ true)
 multiplied true x y p q = let w = times x y p q in (w .0, w .1)
 multiplied false x y p q = (p, no-less-itself x p)
 
-squared : (b : Bool) (x : Float) → FromOne x → FromOne (cond b x (mul binary64 x x))
+squared : (b : Bool) (x : Float) → HeldFromOne x → HeldFromOne (cond b x (mul binary64 x x))
 squared true x p = p
 squared false x p = times x x p p .0
 
-turns-not-below : (k n : ℕ) (p b : Float) → FromOne p → FromOne b → le p (turns k n p b) ≡ true
+turns-not-below : (k n : ℕ) (p b : Float) → HeldFromOne p → HeldFromOne b → le p (turns k n p b) ≡ true
 unfolding turns
 turns-not-below zero n p b h g = no-less-itself p h
 turns-not-below (suc k) zero p b h g = no-less-itself p h
@@ -75,7 +75,7 @@ turns-not-below (suc k) (suc m) p b h g =
     let w = multiplied (eqb (suc m % 2) 1) p b h g in
     le-trans p _ _ (w .1) (turns-not-below k (suc m / 2) _ _ (w .0) (squared (eqb (suc m / 2) 0) b g))
 
-turns-not-below-base : (k n : ℕ) (p b : Float) → 0 < n → n ≤ k → FromOne p → FromOne b → le b (turns k n p b) ≡ true
+turns-not-below-base : (k n : ℕ) (p b : Float) → 0 < n → n ≤ k → HeldFromOne p → HeldFromOne b → le b (turns k n p b) ≡ true
 unfolding turns
 turns-not-below-base zero n p b l r h g = absurd (omega arith)
 turns-not-below-base (suc k) zero p b l r h g = absurd (omega arith)

@@ -14,7 +14,7 @@ use Rattle.records.specs.declared.Row.{Row}
 use Rattle.records.specs.Bytes.{valueOf, wholeAt, floatAt}
 use Rattle.records.specs.Kinds.{readTerms, termsIn}
 use Rattle.mortgage.specs.declared.Loan.{Loan}
-use Rattle.mortgage.specs.Payment.{monthlyRate, growth, evenPayment, levelPayment, payment, monthlyPayment, loanOf, openedWith, opened}
+use Rattle.mortgage.specs.Payment.{monthlyRate, growth, equalPart, levelPayment, payment, monthlyPayment, loanOf, openedWith, opened}
 use Rattle.mortgage.specs.Rates as any-rates
 use Rattle.mortgage.specs.Month as any-month
 use Rattle.mortgage.specs.Level.{endMonth, due, rowOf, nextOf}
@@ -116,7 +116,7 @@ pub record Figures : Type 0 where
   pub past-the-end : smm History (pattern 0x3fe0_0000_0000_0000 ∷ []) 2 ≡ pattern 0
 
 pub figures : Figures
-unfolding nearestWhole absolute badAmount badNumber unequal badKnotCount badKnot badKnotsAfter badKnots badTime tooManyPeriods segmentEnding flatOutside share alongZeros zeroRateOf rateAt smm badTerm badRecord firstOr judged turns wholePower negativePower periodCoupon periods badMaturity periodRate undiscounted discount discounted priceOf price valueOf wholeAt floatAt readTerms termsIn monthlyRate growth levelPayment payment evenPayment monthlyPayment loanOf openedWith opened any-month.endMonth any-month.due last interestOf principalOf paymentOf leftOf any-month.rowOf any-month.rowOn any-month.paid any-month.principal any-month.remaining any-month.interestAlone any-rates.inForce any-month.nextOf any-month.nextOn stepped pieces hexDigits decimalDigits decimal spaced rowLine footer loanLines recordLines saying listing add sub mul div lt le eq ofInt ofBits toBits
+unfolding nearestWhole absolute badAmount badNumber unequal badKnotCount badKnot badKnotsAfter badKnots badTime tooManyPeriods segmentEnding flatOutside share alongZeros zeroRateOf rateAt smm badTerm badRecord firstOr judged turns wholePower negativePower periodCoupon periods badMaturity periodRate undiscounted discount discounted priceOf price valueOf wholeAt floatAt readTerms termsIn monthlyRate growth levelPayment payment equalPart monthlyPayment loanOf openedWith opened any-month.endMonth any-month.due last interestOf principalOf paymentOf leftOf any-month.rowOf any-month.rowOn any-month.paid any-month.principal any-month.remaining any-month.interestAlone any-rates.inForce any-month.nextOf any-month.nextOn stepped pieces hexDigits decimalDigits decimal spaced rowLine footer loanLines recordLines saying listing add sub mul div lt le eq ofInt ofBits toBits
 figures = record {
   two-and-a-half = refl;
   nearly-a-half = refl;

@@ -30,7 +30,7 @@ use Rattle.records.specs.declared.Terms.{Terms}
 use Rattle.elementary.proofs.Unrounded.{equal-same}
 use Rattle.refusals.specs.Outcome.{accepted}
 use Rattle.refusals.proofs.Causes.{some-term}
-use Rattle.mortgage.specs.Payment.{evenPayment, levelPayment, payment, monthlyPayment}
+use Rattle.mortgage.specs.Payment.{equalPart, levelPayment, payment, monthlyPayment}
 use Rattle.mortgage.proofs.TermsLaws.{amount-passed}
 use Rattle.mortgage.proofs.PaymentLaws.{rateOf, factorOf, rate-held, factor-held, one-nonzero, terms-accepted, payment-accepted, sum-from-one, factor-not-below, vanishes-exactly}
 
@@ -301,11 +301,11 @@ pub payment-finite : (t : Terms) (p : Float) → T (fits binary64 (t .principal)
 unfolding payment
 payment-finite t p fit e rises small grows whole =
     let good = terms-accepted t p e in
-    subst (λ (z : Float). T (finite z)) (sym (payment-accepted t p e ∙ level-at (eq (factorOf t) one) (above-one (factorOf t) grows) (evenPayment (t .principal) (t .term)) (levelPayment (t .principal) (rateOf t) (factorOf t))))
+    subst (λ (z : Float). T (finite z)) (sym (payment-accepted t p e ∙ level-at (eq (factorOf t) one) (above-one (factorOf t) grows) (equalPart (t .principal) (t .term)) (levelPayment (t .principal) (rateOf t) (factorOf t))))
     (level-finite t (amount-passed (t .principal) fit (good .0)) (some-term (t .term) (good .1)) rises grows whole small)
   where
-    level-at : (b : Bool) → b ≡ false → (even level : Float) → cond b even level ≡ level
-    level-at b e even level = rw e
+    level-at : (b : Bool) → b ≡ false → (equal level : Float) → cond b equal level ≡ level
+    level-at b e equal level = rw e
 
     above-one : (f : Float) → lt one f ≡ true → eq f one ≡ false
     above-one f l = go (eq f one) (eq-le f one)

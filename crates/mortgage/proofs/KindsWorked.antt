@@ -19,7 +19,7 @@ use Rattle.mortgage.specs.declared.Loan.{Loan}
 use Rattle.mortgage.specs.declared.kinds.Adjustment.{Adjustment}
 use Rattle.mortgage.specs.Row.{width}
 use Rattle.mortgage.specs.Kinds.{Way, interestOnly, balloon, adjustable}
-use Rattle.mortgage.specs.Payment.{monthlyRate, growth, evenPayment, levelPayment, payment, loanOf}
+use Rattle.mortgage.specs.Payment.{monthlyRate, growth, equalPart, levelPayment, payment, loanOf}
 use Rattle.mortgage.specs.Openings.{kindOpenedWith, kindOpened}
 use Rattle.mortgage.specs.Rates.{nextRate, rateOfYear, adjustedTo, inForce}
 use Rattle.mortgage.specs.Month.{interestAlone, last, principal, paid, remaining, rowOn, nextOn, endMonth, due, rowOf, nextOf}
@@ -102,7 +102,7 @@ abbrev balloonLoan : Loan
 balloonLoan = record { term = 12; rate = plusZero; payment = number 0x4059_0000_0000_0000; done = 0; balance = twelveHundred }
 
 pub balloon-opens : kindOpened balloonWay balloonTerms ≡ accepted balloonLoan
-unfolding kindOpened kindOpenedWith judged firstOr badAmount badTerm badBalloon loanOf payment growth evenPayment wholePower turns monthlyRate add mul div eq lt ofInt ofBits
+unfolding kindOpened kindOpenedWith judged firstOr badAmount badTerm badBalloon loanOf payment growth equalPart wholePower turns monthlyRate add mul div eq lt ofInt ofBits
 balloon-opens = refl
 
 -- one row; a room too small for one; room for five, though two rows are due
@@ -174,7 +174,7 @@ abbrev adjustedLoan : Loan
 adjustedLoan = standing 0 0x40bf_ff00_0000_0000 0 0x4108_ff38_0000_0000
 
 pub adjusted-opens : kindOpened adjustedWay adjustedTerms ≡ accepted adjustedLoan
-unfolding kindOpened kindOpenedWith judged firstOr badAmount badTerm badInitial badCap tooFewEntries badEntry loanOf payment growth evenPayment wholePower turns monthlyRate add mul div eq lt ofInt ofBits
+unfolding kindOpened kindOpenedWith judged firstOr badAmount badTerm badInitial badCap tooFewEntries badEntry loanOf payment growth equalPart wholePower turns monthlyRate add mul div eq lt ofInt ofBits
 adjusted-opens = refl
 
 -- after 11 months 14·8191 is left; month 12 leaves 13·8191 = 106483. At 1 a month over 13 months the payment is 13·8191·8192/8191 = 106496: month 13 pays 106483 of interest and 13

@@ -32,7 +32,7 @@ use Rattle.refusals.proofs.Verdicts.{accepted-value}
 use Rattle.records.specs.declared.Terms.{Terms}
 use Rattle.mortgage.specs.Terms.{termsLines}
 use Rattle.mortgage.proofs.TermsLaws.{terms-passed}
-use Rattle.mortgage.specs.Payment.{monthlyRate, growth, evenPayment, levelPayment, payment, monthlyPayment}
+use Rattle.mortgage.specs.Payment.{monthlyRate, growth, equalPart, levelPayment, payment, monthlyPayment}
 
 -- "r" and "f" of the terms
 abbrev pub rateOf : Terms → Float
@@ -51,9 +51,9 @@ unfolding growth
 factor-held t = power-held _ (t .term)
 
 pub payment-held : (t : Terms) → T (fits binary64 (payment t))
-unfolding payment evenPayment levelPayment
+unfolding payment equalPart levelPayment
 payment-held t =
-    cond-fits binary64 (eq (factorOf t) one) (evenPayment (t .principal) (t .term)) (levelPayment (t .principal) (rateOf t) (factorOf t)) (div-fits binary64 _ _) (div-fits binary64 _ _)
+    cond-fits binary64 (eq (factorOf t) one) (equalPart (t .principal) (t .term)) (levelPayment (t .principal) (rateOf t) (factorOf t)) (div-fits binary64 _ _) (div-fits binary64 _ _)
 
 -- ---- P/n, rounded once: of all values the one nearest to the exact quotient, with the sign of P
 abbrev pub nearestPart : Float → ℕ → Float
@@ -85,14 +85,14 @@ part-of-value (fin s m e) (fin t k d) n N v =
     turn : (M K c i : ℕ) → K * 1 ≡ n * i → M * i * (n * c) ≡ M * (K * c)
     turn M K c i h = omega (arith, ap (λ (j : ℕ). M * c * j) h)
 
-pub even-is-nearest : (x : Float) (n : ℕ) → 0 < n → n ≤ 2 ^ 53 → evenPayment x n ≡ nearestPart x n
-unfolding evenPayment ofInt
-even-is-nearest x n N l = part-of-value x (ofInt binary64 (pos n)) n N (round-whole binary64 false n l)
+pub equal-part-is-nearest : (x : Float) (n : ℕ) → 0 < n → n ≤ 2 ^ 53 → equalPart x n ≡ nearestPart x n
+unfolding equalPart ofInt
+equal-part-is-nearest x n N l = part-of-value x (ofInt binary64 (pos n)) n N (round-whole binary64 false n l)
 
 -- "Whenever the factor equals 1 the payment becomes P/n"
-pub even-at-one : (t : Terms) → eq (factorOf t) one ≡ true → payment t ≡ evenPayment (t .principal) (t .term)
+pub equal-part-at-one : (t : Terms) → eq (factorOf t) one ≡ true → payment t ≡ equalPart (t .principal) (t .term)
 unfolding payment
-even-at-one t h = rw h
+equal-part-at-one t h = rw h
 
 -- ---- of every accepted loan
 module _ (t : Terms) (p : Float) (e : monthlyPayment t ≡ accepted p) where
@@ -107,8 +107,8 @@ module _ (t : Terms) (p : Float) (e : monthlyPayment t ≡ accepted p) where
   pub rounded-once : eq (factorOf t) one ≡ true → p ≡ nearestPart (t .principal) (t .term)
   rounded-once h =
       payment-accepted
-      ∙ even-at-one t h
-      ∙ even-is-nearest (t .principal) (t .term) (some-term (t .term) (terms-accepted .1)) (few (t .term) (term-within (t .term) (terms-accepted .1)))
+      ∙ equal-part-at-one t h
+      ∙ equal-part-is-nearest (t .principal) (t .term) (some-term (t .term) (terms-accepted .1)) (few (t .term) (term-within (t .term) (terms-accepted .1)))
     where
       few : (n : ℕ) → n ≤ 1200 → n ≤ 2 ^ 53
       few n l = omega arith
@@ -139,26 +139,26 @@ pub zero-rate : (r : Float) (n : ℕ) → eq r plusZero ≡ true → growth r n 
 zero-rate r n z = growth-at-one r n (add-zero binary64 one r one-held one-nonzero z)
 
 -- so document 01's own test of the rate would change no payment
-pub zero-test-idle : (t : Terms) → payment t ≡ cond (eq (rateOf t) plusZero) (evenPayment (t .principal) (t .term)) (payment t)
-zero-test-idle t = go (eq (rateOf t) plusZero) (λ (z : eq (rateOf t) plusZero ≡ true). even-at-one t (at-one (zero-rate (rateOf t) (t .term) z)))
+pub zero-test-idle : (t : Terms) → payment t ≡ cond (eq (rateOf t) plusZero) (equalPart (t .principal) (t .term)) (payment t)
+zero-test-idle t = go (eq (rateOf t) plusZero) (λ (z : eq (rateOf t) plusZero ≡ true). equal-part-at-one t (at-one (zero-rate (rateOf t) (t .term) z)))
   where
-    go : (b : Bool) → (b ≡ true → payment t ≡ evenPayment (t .principal) (t .term)) → payment t ≡ cond b (evenPayment (t .principal) (t .term)) (payment t)
+    go : (b : Bool) → (b ≡ true → payment t ≡ equalPart (t .principal) (t .term)) → payment t ≡ cond b (equalPart (t .principal) (t .term)) (payment t)
     go true h = h refl
     go false h = refl
 
 -- and where only a rate of 0 makes the factor 1 the payment is document 01's, "if r is 0, P/n; else P·r·f/(f-1)"
 pub as-before : (t : Terms) → (eq (factorOf t) one ≡ true → eq (rateOf t) plusZero ≡ true)
-    → payment t ≡ cond (eq (rateOf t) plusZero) (evenPayment (t .principal) (t .term)) (levelPayment (t .principal) (rateOf t) (factorOf t))
+    → payment t ≡ cond (eq (rateOf t) plusZero) (equalPart (t .principal) (t .term)) (levelPayment (t .principal) (rateOf t) (factorOf t))
 unfolding payment
 as-before t h =
-    same (eq (rateOf t) plusZero) (eq (factorOf t) one) (evenPayment (t .principal) (t .term)) (levelPayment (t .principal) (rateOf t) (factorOf t)) h
+    same (eq (rateOf t) plusZero) (eq (factorOf t) one) (equalPart (t .principal) (t .term)) (levelPayment (t .principal) (rateOf t) (factorOf t)) h
     (λ (z : eq (rateOf t) plusZero ≡ true). at-one (zero-rate (rateOf t) (t .term) z))
   where
-    same : (z f : Bool) (even level : Float) → (f ≡ true → z ≡ true) → (z ≡ true → f ≡ true) → cond f even level ≡ cond z even level
-    same true true even level a b = refl
-    same false false even level a b = refl
-    same true false even level a b = clash (b refl)
-    same false true even level a b = clash (a refl)
+    same : (z f : Bool) (equal level : Float) → (f ≡ true → z ≡ true) → (z ≡ true → f ≡ true) → cond f equal level ≡ cond z equal level
+    same true true equal level a b = refl
+    same false false equal level a b = refl
+    same true false equal level a b = clash (b refl)
+    same false true equal level a b = clash (a refl)
 
 -- r = -2, a rate of -24 a year, with an even term
 pub minus-two-even : (n : ℕ) → n % 2 ≡ 0 → growth (neg two) n ≡ one

@@ -9,7 +9,7 @@ use Rattle.refusals.specs.Outcome.{accepted, firstOr, judged}
 use Rattle.refusals.specs.Table.{badAmount, badTerm}
 use Rattle.records.specs.declared.Terms.{Terms}
 use Rattle.steps.specs.Steps.{pieces, stepped}
-use Rattle.mortgage.specs.Payment.{monthlyRate, growth, evenPayment, levelPayment, payment, monthlyPayment, loanOf, openedWith, opened}
+use Rattle.mortgage.specs.Payment.{monthlyRate, growth, equalPart, levelPayment, payment, monthlyPayment, loanOf, openedWith, opened}
 use Rattle.mortgage.specs.Rates.{inForce}
 use Rattle.mortgage.specs.Month.{interestAlone, last, principal, paid, remaining, rowOn, nextOn, rowOf, nextOf}
 use Rattle.mortgage.specs.RowRule.{interestOf, principalOf, paymentOf}
@@ -27,12 +27,12 @@ abbrev vanishing : Terms
 vanishing = lent 0x408f_4000_0000_0000 0x3c67_0ef5_4646_d497 2
 
 pub vanishing-pays : monthlyPayment vanishing ≡ accepted (number 0x407f_4000_0000_0000)
-unfolding monthlyPayment judged firstOr badAmount badTerm payment growth evenPayment wholePower turns monthlyRate add mul div eq lt ofInt ofBits
+unfolding monthlyPayment judged firstOr badAmount badTerm payment growth equalPart wholePower turns monthlyRate add mul div eq lt ofInt ofBits
 vanishing-pays = refl
 
 -- and the loan is opened with it: two rows of 500, and some 8e-16 and 4e-16 of interest in them
 pub vanishing-opens : opened vanishing ≡ accepted (loanOf vanishing (number 0x407f_4000_0000_0000))
-unfolding opened openedWith judged firstOr badAmount badTerm payment growth evenPayment wholePower turns monthlyRate add mul div eq lt ofInt ofBits
+unfolding opened openedWith judged firstOr badAmount badTerm payment growth equalPart wholePower turns monthlyRate add mul div eq lt ofInt ofBits
 vanishing-opens = refl
 
 pub vanishing-rows : rows 2 (loanOf vanishing (number 0x407f_4000_0000_0000)) ≡ map number
@@ -43,7 +43,7 @@ vanishing-rows = refl
 
 -- 3.5e-323, the smallest rate whose twelfth is not 0
 pub smallest-pays : monthlyPayment (lent 0x3ff0_0000_0000_0000 7 1) ≡ accepted (number 0x3ff0_0000_0000_0000)
-unfolding monthlyPayment judged firstOr badAmount badTerm payment growth evenPayment wholePower turns monthlyRate add mul div eq lt ofInt ofBits
+unfolding monthlyPayment judged firstOr badAmount badTerm payment growth equalPart wholePower turns monthlyRate add mul div eq lt ofInt ofBits
 smallest-pays = refl
 
 pub smallest-rate : monthlyRate (number 7) ≡ number 1
@@ -56,7 +56,7 @@ below-smallest-rate = refl
 
 -- r = 2^-53 is the largest rate a month at which 1000 over 2 months pays 500; at the next rate 1 + r is 1 + 2^-52, twice as far from 1, and the payment about half
 pub last-vanishing : monthlyPayment (lent 0x408f_4000_0000_0000 0x3cd8_0000_0000_0000 2) ≡ accepted (number 0x407f_4000_0000_0000)
-unfolding monthlyPayment judged firstOr badAmount badTerm payment growth evenPayment wholePower turns monthlyRate add mul div eq lt ofInt ofBits
+unfolding monthlyPayment judged firstOr badAmount badTerm payment growth equalPart wholePower turns monthlyRate add mul div eq lt ofInt ofBits
 last-vanishing = refl
 
 pub first-felt : monthlyPayment (lent 0x408f_4000_0000_0000 0x3cd8_0000_0000_0001 2) ≡ accepted (number 0x406f_4000_0000_0006)
@@ -65,7 +65,7 @@ first-felt = refl
 
 -- a rate of -24: 1 + r is -1, so that an even term has a factor of 1, and an odd one pays -1000 a month for 1000
 pub even-term : monthlyPayment (lent 0x408f_4000_0000_0000 0xc038_0000_0000_0000 2) ≡ accepted (number 0x407f_4000_0000_0000)
-unfolding monthlyPayment judged firstOr badAmount badTerm payment growth evenPayment wholePower turns monthlyRate add mul div eq lt ofInt ofBits
+unfolding monthlyPayment judged firstOr badAmount badTerm payment growth equalPart wholePower turns monthlyRate add mul div eq lt ofInt ofBits
 even-term = refl
 
 pub odd-term : monthlyPayment (lent 0x408f_4000_0000_0000 0xc038_0000_0000_0000 3) ≡ accepted (number 0xc08f_4000_0000_0000)

@@ -11,7 +11,7 @@ use Rattle.refusals.specs.Table.{badAmount, badTerm, noRoom, pastEnd}
 use Rattle.records.specs.declared.Terms.{Terms}
 use Rattle.mortgage.specs.declared.Loan.{Loan}
 use Rattle.mortgage.specs.Row.{width}
-use Rattle.mortgage.specs.Payment.{monthlyRate, growth, evenPayment, payment, loanOf, openedWith, opened}
+use Rattle.mortgage.specs.Payment.{monthlyRate, growth, equalPart, payment, loanOf, openedWith, opened}
 use Rattle.mortgage.specs.Rates.{inForce}
 use Rattle.mortgage.specs.Month as months
 use Rattle.mortgage.specs.Month.{interestAlone, last, principal, paid, remaining, rowOn, nextOn}
@@ -48,7 +48,7 @@ abbrev pub rooms : List (List Float)
 rooms = one ∷ none ∷ two ∷ []
 
 pub opens : opened terms ≡ accepted loan
-unfolding opened openedWith judged firstOr badAmount badTerm loanOf payment growth evenPayment wholePower turns monthlyRate add mul div eq lt ofInt ofBits
+unfolding opened openedWith judged firstOr badAmount badTerm loanOf payment growth equalPart wholePower turns monthlyRate add mul div eq lt ofInt ofBits
 opens = refl
 
 -- the theorem, of this loan

@@ -25,12 +25,12 @@ unfoldable pub levelPayment : Float → Float → Float → Float
 levelPayment P r f = div binary64 (mul binary64 (mul binary64 P r) f) (sub binary64 f one)
 
 -- "P/n"
-unfoldable pub evenPayment : Float → ℕ → Float
-evenPayment P n = div binary64 P (ofInt binary64 (pos n))
+unfoldable pub equalPart : Float → ℕ → Float
+equalPart P n = div binary64 P (ofInt binary64 (pos n))
 
 -- "Whenever the factor equals 1 the payment becomes P/n", else it is document 01's: over n months with the factor f. At a rate of 0 the factor is 1 (`zero-rate` in proofs/PaymentLaws).
 abbrev pub paymentBy : Float → Float → ℕ → Float → Float
-paymentBy P r n f = cond (eq f one) (evenPayment P n) (levelPayment P r f)
+paymentBy P r n f = cond (eq f one) (equalPart P n) (levelPayment P r f)
 
 unfoldable pub payment : Terms → Float
 payment t = paymentBy (t .principal) (monthlyRate (t .rate)) (t .term) (growth (monthlyRate (t .rate)) (t .term))

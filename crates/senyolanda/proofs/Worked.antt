@@ -10,7 +10,7 @@ use Rattle.refusals.specs.Outcome.{accepted, andThen, firstOr, judged}
 use Rattle.refusals.specs.Table.{badAmount, badTerm, noRoom, pastEnd, badRecord}
 use Rattle.records.specs.Bytes.{valueOf, bytesOf, wholeAt, floatAt, wholeBytes, floatBytes}
 use Rattle.records.specs.Kinds.{termsIn, readTerms, rowSize, rowBytes, rowIn}
-use Rattle.mortgage.specs.Payment.{monthlyRate, growth, evenPayment, payment, monthlyPayment, loanOf, openedWith, opened}
+use Rattle.mortgage.specs.Payment.{monthlyRate, growth, equalPart, payment, monthlyPayment, loanOf, openedWith, opened}
 use Rattle.mortgage.specs.Rates as any-rates
 use Rattle.mortgage.specs.Month as any-month
 use Rattle.mortgage.specs.Rows as any-rows
@@ -48,7 +48,7 @@ abbrev calls : List Call
 calls = next-row (replicate rowSize 255) 9 9 ∷ draw (replicate (width - 1) nan) 9 9 ∷ draw (replicate (2 * width) nan) 9 9 ∷ []
 
 pub opens : openAnswer bytes before ≡ (0, loan)
-unfolding told readTerms badRecord termsIn floatAt wholeAt valueOf judged firstOr opened openedWith badAmount badTerm loanOf payment growth evenPayment wholePower turns monthlyRate eq add mul div lt ofInt ofBits
+unfolding told readTerms badRecord termsIn floatAt wholeAt valueOf judged firstOr opened openedWith badAmount badTerm loanOf payment growth equalPart wholePower turns monthlyRate eq add mul div lt ofInt ofBits
 opens = refl
 
 pub to-the-end : due (inHand (kept level loan calls)) ≡ 0
@@ -82,7 +82,7 @@ text = header
     ++ 114 ∷ 111 ∷ 119 ∷ 115 ∷ 32 ∷ 51 ∷ 32 ∷ 108 ∷ 101 ∷ 102 ∷ 116 ∷ 32 ∷ 48 ∷ 10 ∷ []
 
 listed-text : listed bytes ≡ accepted text
-unfolding listed loanLines rowLine footer spacedOf decimal decimalDigits hexDigits toBits readTerms badRecord termsIn floatAt wholeAt valueOf judged firstOr opened openedWith badAmount badTerm loanOf payment growth evenPayment wholePower turns monthlyRate any-month.due any-month.endMonth stepped pieces any-month.rowOf any-month.rowOn any-month.paid any-month.principal any-month.remaining any-month.interestAlone any-rates.inForce any-month.nextOf any-month.nextOn leftOf paymentOf principalOf interestOf last add sub mul div lt eq ofInt ofBits
+unfolding listed loanLines rowLine footer spacedOf decimal decimalDigits hexDigits toBits readTerms badRecord termsIn floatAt wholeAt valueOf judged firstOr opened openedWith badAmount badTerm loanOf payment growth equalPart wholePower turns monthlyRate any-month.due any-month.endMonth stepped pieces any-month.rowOf any-month.rowOn any-month.paid any-month.principal any-month.remaining any-month.interestAlone any-rates.inForce any-month.nextOf any-month.nextOn leftOf paymentOf principalOf interestOf last add sub mul div lt eq ofInt ofBits
 listed-text = refl
 
 -- 265 bytes at the start of what was lent, and the bytes behind them as they were
@@ -99,10 +99,10 @@ abbrev vanishing : List ℕ
 vanishing = 1 ∷ 0 ∷ 0 ∷ 0 ∷ 0 ∷ 0 ∷ 64 ∷ 143 ∷ 64 ∷ 151 ∷ 212 ∷ 70 ∷ 70 ∷ 245 ∷ 14 ∷ 103 ∷ 60 ∷ 2 ∷ 0 ∷ 0 ∷ 0 ∷ []
 
 pub vanishing-payment : toldNumber (andThen (readTerms vanishing) monthlyPayment) nan ≡ (0, number 0x407f_4000_0000_0000)
-unfolding told readTerms badRecord termsIn floatAt wholeAt valueOf judged firstOr monthlyPayment badAmount badTerm payment growth evenPayment wholePower turns monthlyRate eq add mul div lt ofInt ofBits
+unfolding told readTerms badRecord termsIn floatAt wholeAt valueOf judged firstOr monthlyPayment badAmount badTerm payment growth equalPart wholePower turns monthlyRate eq add mul div lt ofInt ofBits
 vanishing-payment = refl
 
 -- ---- the theorem, of this loan and these calls
 pub repaid-by-the-calls : Repaid (number 0x4092_c000_0000_0000) 3 (filed level loan calls)
-unfolding told readTerms badRecord termsIn floatAt wholeAt valueOf judged firstOr opened openedWith badAmount badTerm loanOf payment growth evenPayment wholePower turns monthlyRate eq add mul div lt ofInt ofBits
+unfolding told readTerms badRecord termsIn floatAt wholeAt valueOf judged firstOr opened openedWith badAmount badTerm loanOf payment growth equalPart wholePower turns monthlyRate eq add mul div lt ofInt ofBits
 repaid-by-the-calls = demand3-at-the-door bytes before refl calls to-the-end .1

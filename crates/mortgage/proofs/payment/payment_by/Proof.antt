@@ -1,7 +1,7 @@
 -- `mortgage::payment::payment_by` meets its contract: the test of the factor picks the case. Assumes nothing.
 use mathlib.Core.Path.{_∙_}
 use borrow.Author.Needs.{needs}
-use Rattle.mortgage.specs.Payment.{evenPayment}
+use Rattle.mortgage.specs.Payment.{equalPart}
 use Rattle.mortgage.proofs.payment.payment_by.Statement.{statement}
 use Rattle.mortgage.proofs.payment.payment_by.Tie as tie
 
@@ -9,7 +9,7 @@ int-to-float-result : tie.Need-int-to-float-result
 int-to-float-result c = search needs
 
 returns : tie.Need-returns
-unfolding evenPayment
+unfolding equalPart
 returns c = rw (c .before .if1 .taken)
 
 level-payment-requires : tie.Need-level-payment-requires
