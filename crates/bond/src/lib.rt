@@ -1,4 +1,6 @@
 // Bonds: price, yield, durations and convexity.
+#![tactic(auto)]
+
 pub mod bonds;
 pub mod brent;
 pub mod codes;

@@ -1,4 +1,6 @@
 // Books of loans: kind 1 records end to end, the rows of each loan laid one behind the other into one lent room, two loans drawn at once.
+#![tactic(auto)]
+
 ghost use Rattle.std.specs.Prelude.{◌≡◌, ◌+◌, ◌*◌, ◌-◌, ◌≤◌, ◌<◌, min, length};
 ghost use Rattle.mortgage.specs.Row.{width};
 ghost use Rattle.book.specs.Book.{loan_count, loan_at, asked, asked_by, finished, cut_short, answered, room_after, answers_after, most_loans, bad_book, book_drawn, book_room, book_answers, book_outcome};

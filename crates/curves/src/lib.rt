@@ -1,4 +1,6 @@
 // Curves as two lent lists: what makes one acceptable, the segment that serves a time, the three formulas along it, and lookups, one by one, as a list or in a run.
+#![tactic(auto)]
+
 pub mod curve;
 pub mod each;
 pub mod ending;

@@ -1,4 +1,6 @@
 // Dates: which there are from 1900 to 2199, their day numbers, the days between two of them, a date so many months later, and periods between two dates.
+#![tactic(auto)]
+
 pub mod calendar;
 pub mod counts;
 pub mod day_numbers;

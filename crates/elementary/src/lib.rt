@@ -1,4 +1,6 @@
 // Elementary functions: exp, ln and powers, by document 01's steps to the bit.
+#![tactic(auto)]
+
 pub mod exp;
 pub mod ln;
 pub mod power;

@@ -1,4 +1,6 @@
 // Document 01's figures that are run only: terms of 1,200 and 1,201, room for 4 and 5 numbers, and curves of 120 and 121 knots.
+#![tactic(auto)]
+
 use libc::STDOUT_FILENO;
 use mortgage::draws::{Drawing, WIDTH};
 use mortgage::opening::Opening;

@@ -1,4 +1,6 @@
 // The listing of a loan's schedule, from the bytes of its record.
+#![tactic(auto)]
+
 ghost use Rattle.std.specs.Prelude.{◌≡◌, ◌++◌, length, drop};
 ghost use Rattle.refusals.specs.Answers.{count_outcome};
 ghost use Rattle.listing.specs.Listing.{listed, listed_size, lines_over, listing};

@@ -1,4 +1,6 @@
 // Mortgages: a loan's payment, its opening, its rows, and draws of them into lent room, with year-end totals beside them: level, interest-only, balloon and adjustable loans.
+#![tactic(auto)]
+
 pub mod breakeven;
 pub mod draws;
 pub mod kinds;

@@ -1,4 +1,6 @@
 // Pools of loans: prepayment speeds, months, price, duration and convexity.
+#![tactic(auto)]
+
 pub mod flows;
 pub mod loans;
 pub mod months;

@@ -1,4 +1,6 @@
 // Records for a host: bytes to values and back, little-endian, one byte of kind and then a fixed body.
+#![tactic(auto)]
+
 ghost use Rattle.std.specs.Prelude.{◌≡◌, ◌<◌};
 ghost use Rattle.refusals.specs.Table.{bad_record};
 

@@ -1,4 +1,6 @@
 // Refusals: document 01's table, the number and place that a call is refused with, and the answers that many functions share.
+#![tactic(auto)]
+
 ghost use Rattle.std.specs.Prelude.{◌≡◌, min};
 ghost use Rattle.numbers.specs.Whole.{largest};
 ghost use Rattle.refusals.specs.Table.{bad_amount, bad_term, bad_number};

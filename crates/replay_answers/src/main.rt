@@ -3,6 +3,8 @@
 // unknown and a case of another form all count as apart, so that the line would no longer be the one that stands in `stdout`.
 // The list, `stdin`, is made by `differential/run .. --list LISTS` and then `differential/replayed LISTS crates/replay_answers/stdin`. Of draws it has the
 // rows, and not what a draw says beside them.
+#![tactic(auto)]
+
 mod bonds;
 mod curves;
 mod listed;

@@ -1,5 +1,7 @@
 // What the programs share that replay the Rust's answers: the words of a list, whether an answer of ours agrees with the Rust's, and the tally.
 // A case begins with how many words follow; then come the question, the result, the Rust's number, how far apart the numbers may lie, and what is asked about.
+#![tactic(auto)]
+
 ghost use Rattle.std.specs.Prelude.{◌≡◌, ◌+◌, ◌≤◌, length};
 ghost use Rattle.records.specs.Bytes.{value_of, field};
 ghost use Rattle.refusals.specs.Outcome.{refused};

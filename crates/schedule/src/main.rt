@@ -1,4 +1,6 @@
 // The program: reads one kind 1 record from standard input, and writes its listing to standard output.
+#![tactic(auto)]
+
 use libc::{STDIN_FILENO, STDOUT_FILENO};
 
 fn main() {

@@ -1,4 +1,6 @@
 // Spreads: points and decimals, the rate curves, cash flows, the spread that a price implies.
+#![tactic(auto)]
+
 pub mod curves_each;
 pub mod dated;
 pub mod flows;

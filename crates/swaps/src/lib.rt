@@ -1,4 +1,6 @@
 // Swaps, undated and dated: day counts, the discount curve and its bootstrap, legs and values.
+#![tactic(auto)]
+
 pub mod bootstrap;
 mod dated_periods;
 pub mod day_counts;

@@ -1,4 +1,6 @@
 // Yield curves: interpolation, discount factors, forwards, par yields, Nelson-Siegel.
+#![tactic(auto)]
+
 pub mod each;
 pub mod fitting;
 pub mod linear;
