@@ -4,8 +4,7 @@ use lib.Ieee.{Float, nan, inf, fin, binary64, sub, eq, of_bits}
 use lib.Ieee.Scale.{finite}
 use Rattle.numbers.specs.Clamps.{plus_zero}
 use Rattle.numbers.proofs.Zeros.{plus_zero_lem, sub_itself}
-use Rattle.numbers.proofs.sizes.is_finite.Statement.{statement}
-use Rattle.numbers.proofs.sizes.is_finite.Tie as tie
+use Rattle.numbers.proofs.sizes.is_finite.Goals as goal
 
 zero_is_zero : eq plus_zero plus_zero ≡ true
 unfolding eq of_bits
@@ -18,8 +17,5 @@ by_the_test (inf true) = refl
 by_the_test (inf false) = refl
 by_the_test (fin s m e) = rw (sub_itself binary64 (fin s m e) tt, ← plus_zero_lem) zero_is_zero
 
-returns : tie.Need-returns
+pub returns : goal.returns
 returns c = by_the_test _
-
-pub is_finite_spec : {M : Type 1} → statement M
-is_finite_spec = tie.close (tie.spec returns)

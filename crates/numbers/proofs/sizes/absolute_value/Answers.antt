@@ -6,8 +6,7 @@ use Rattle.numbers.specs.Clamps.{plus_zero}
 use Rattle.numbers.specs.Sizes.{absolute}
 use Rattle.numbers.proofs.Amounts.{passes, amount_fits}
 use Rattle.numbers.proofs.Values.{unsigned, round_itself}
-use Rattle.numbers.proofs.sizes.absolute_value.Statement.{statement}
-use Rattle.numbers.proofs.sizes.absolute_value.Tie as tie
+use Rattle.numbers.proofs.sizes.absolute_value.Goals as goal
 
 above : (x : Float) → lt plus_zero x ≡ true → x ≡ absolute x
 unfolding lt absolute of_bits
@@ -37,11 +36,8 @@ from_zero (fin false m e) t h =
         go : (k M : ℕ) → k ≡ 0 → M ≡ 0 → k * d ≡ M * (1 * d)
         go k M a b = rw (a, b) (omega arith)
 
-returns : tie.Need-returns
-returns c = above _ c.if1.true
+pub returns-then-x : goal.returns-then-x
+returns-then-x c = above _ c.if-x.true
 
-returns_2 : tie.Need-returns-2
-returns_2 c = from_zero _ (passes c.before.well-formed.0.1) c.if1.false
-
-pub absolute_value_spec : {M : Type 1} → statement M
-absolute_value_spec = tie.close (tie.spec returns returns_2)
+pub returns-else-x : goal.returns-else-x
+returns-else-x c = from_zero _ (passes c.well_formed.0.1) c.if-x.false

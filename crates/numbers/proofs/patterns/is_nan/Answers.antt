@@ -1,0 +1,8 @@
+-- `numbers::patterns::is_nan` meets its contract. Assumes nothing.
+use Rattle.std.proofs.Common.{sym}
+use lib.Ieee.{binary64}
+use lib.Ieee.Bits.{nan_bits_above}
+use Rattle.numbers.proofs.patterns.is_nan.Goals as goal
+
+pub returns : goal.returns
+returns c = sym (nan_bits_above binary64 _)
