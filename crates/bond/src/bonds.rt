@@ -44,7 +44,7 @@ fn periods(bond: Bond) -> u32
 }
 
 // A bond with its numbers worked out once: the coupons a year, the coupon of a period, and the periods.
-#[derive(Drop)]
+#[derive(Clone, Copy)]
 pub struct Worked {
     pub bond: Bond,
     pub m: f64,

@@ -11,7 +11,7 @@ pub(crate) const EPSILON: f64 = 2.220446049250313e-16;
 const TOLERANCE: f64 = 1e-8;
 
 // A search between a and b, whose errors are fa and fb.
-#[derive(Drop)]
+#[derive(Clone, Copy)]
 pub struct Search {
     pub a: f64,
     pub b: f64,
@@ -94,7 +94,7 @@ pub(crate) fn settled(search: Search) -> bool
 }
 
 // A step as a fraction: so much rise over so much run.
-#[derive(Drop)]
+#[derive(Clone, Copy)]
 pub struct Fraction {
     pub rise: f64,
     pub run: f64,

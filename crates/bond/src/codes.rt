@@ -4,7 +4,7 @@ ghost use Rattle.bond.specs.Codes.{code_of, frequency_of, frequency_outcome};
 
 use crate::Frequency;
 
-#[derive(Drop)]
+#[derive(Clone, Copy)]
 pub enum FrequencyRead {
     Refused(refusals::Refusal),
     Given(Frequency),

@@ -9,7 +9,7 @@ pub mod price;
 pub mod yields;
 
 // Coupons a year: 1, 2, 4 or 12.
-#[derive(Drop)]
+#[derive(Clone, Copy)]
 pub enum Frequency {
     Annual,
     SemiAnnual,
@@ -17,7 +17,7 @@ pub enum Frequency {
     Monthly,
 }
 
-#[derive(Drop)]
+#[derive(Clone, Copy)]
 pub struct Bond {
     pub face: f64,
     pub coupon: f64,

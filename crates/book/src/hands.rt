@@ -15,7 +15,7 @@ use mortgage::pairs::{lay_at, lay_both};
 use mortgage::rows::rows_due;
 
 // A loan in hand, where its next row lies, and where the rows of the next loan begin.
-#[derive(Drop)]
+#[derive(Clone, Copy)]
 struct Hand {
     loan: Loan,
     at: usize,

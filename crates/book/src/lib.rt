@@ -20,14 +20,14 @@ mod plan;
 const MOST_LOANS: usize = 256;
 
 // Loans that are finished, refused ones among them; the months written of the one cut short; and the loans not started.
-#[derive(Drop)]
+#[derive(Clone, Copy)]
 pub struct BookProgress {
     pub finished: u32,
     pub cut: u32,
     pub waiting: u32,
 }
 
-#[derive(Drop)]
+#[derive(Clone, Copy)]
 pub enum BookDrawing {
     Refused(Refusal),
     Drawn(BookProgress),

@@ -11,7 +11,7 @@ use records::{Terms, TermsRead};
 use refusals::{Refusal, Verdict};
 
 // A loan's answer, and the rows that it asks for.
-#[derive(Drop)]
+#[derive(Clone, Copy)]
 pub(crate) struct Asking {
     pub(crate) answer: u32,
     pub(crate) rows: u32,

@@ -6,7 +6,7 @@ use crate::loans::{asking_at, loan_count};
 use mortgage::draws::WIDTH;
 
 // The loans that are finished, the rows that they ask for, and the rows of the loan that is cut short.
-#[derive(Drop)]
+#[derive(Clone, Copy)]
 pub(crate) struct Plan {
     pub(crate) finished: usize,
     pub(crate) rows: usize,

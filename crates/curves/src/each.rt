@@ -187,7 +187,7 @@ fn next_segment(kind: Kind, times: &[f64], segment: usize, before: f64, t: f64) 
 }
 
 // The segment that serves a time, and its ends.
-#[derive(Drop)]
+#[derive(Clone, Copy)]
 pub(crate) struct InHand {
     pub time: f64,
     pub segment: usize,

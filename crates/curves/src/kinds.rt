@@ -5,7 +5,7 @@ ghost use Rattle.curves.specs.Kinds.{served_by};
 ghost use Rattle.curves.specs.inner.Halving.{passes};
 ghost use Rattle.curves.specs.inner.Kinds.{rule_of, PastOn};
 
-#[derive(Drop)]
+#[derive(Clone, Copy)]
 pub enum Kind {
     YieldCurve,
     DiscountCurve,

@@ -5,7 +5,7 @@ ghost use Rattle.std.specs.Float.Ieee.{le};
 ghost use Rattle.curves.specs.Segments.{knot, last_of};
 
 // The two times of a segment, and the two rates.
-#[derive(Drop)]
+#[derive(Clone, Copy)]
 pub struct Ends {
     pub t0: f64,
     pub t1: f64,
@@ -80,7 +80,7 @@ pub fn ends_of(times: &[f64], rates: &[f64], i: usize) -> Ends
 }
 
 // The first and the last knot: their times, and the rates before and after them.
-#[derive(Drop)]
+#[derive(Clone, Copy)]
 pub(crate) struct Outside {
     pub first: f64,
     pub before: f64,

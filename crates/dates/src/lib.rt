@@ -9,14 +9,14 @@ pub mod periods;
 pub mod runs;
 
 // A year, a month from 1 and a day from 1, of the calendar or not.
-#[derive(Drop)]
+#[derive(Clone, Copy)]
 pub struct Date {
     pub year: u16,
     pub month: u8,
     pub day: u8,
 }
 
-#[derive(Drop)]
+#[derive(Clone, Copy)]
 pub enum DateAnswer {
     Refused(refusals::Refusal),
     Given(Date),

@@ -8,7 +8,7 @@ use crate::calendar::is_after;
 use crate::months::{day_in_month, month_index};
 
 // Two dates, and the months of a period.
-#[derive(Drop)]
+#[derive(Clone, Copy)]
 pub struct Span {
     pub first: Date,
     pub second: Date,

@@ -14,7 +14,7 @@ use records::Row;
 const PORTION: usize = 12;
 
 // How far a listing has come: the place behind it, the rows listed, how many are left, and the loan in hand.
-#[derive(Drop)]
+#[derive(Clone, Copy)]
 pub(crate) struct Listed {
     pub(crate) at: usize,
     pub(crate) rows: u32,

@@ -21,21 +21,21 @@ use refusals::Verdict;
 pub const WIDTH: usize = 5;
 
 // What a draw wrote, what it still owes, and the loan to hand into the next one.
-#[derive(Drop)]
+#[derive(Clone, Copy)]
 pub struct Portion {
     pub written: u32,
     pub owed: u32,
     pub loan: Loan,
 }
 
-#[derive(Drop)]
+#[derive(Clone, Copy)]
 pub enum Drawing {
     Refused(refusals::Refusal),
     Drawn(Portion),
 }
 
 // Rows that were written, and the loan after them.
-#[derive(Drop)]
+#[derive(Clone, Copy)]
 struct Run {
     count: u32,
     loan: Loan,

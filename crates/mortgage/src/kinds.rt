@@ -8,7 +8,7 @@ ghost use Rattle.mortgage.specs.Kinds.{way_of, course_of, later_years, bad_adjus
 use refusals::Verdict;
 
 // Of an adjustable loan: the rate of year 1, by how much a year's rate may differ from the last year's, and by how much any may be above the first.
-#[derive(Drop)]
+#[derive(Clone, Copy)]
 pub struct Adjustment {
     pub initial: f64,
     pub cap: f64,
@@ -16,7 +16,7 @@ pub struct Adjustment {
 }
 
 // What a loan's rows need beside the loan in hand: the months of interest alone, the month of the balloon, or the initial rate and the caps, which read a lent list of index rates.
-#[derive(Drop)]
+#[derive(Clone, Copy)]
 pub enum Kind {
     Level,
     InterestOnly(u32),
@@ -25,7 +25,7 @@ pub enum Kind {
 }
 
 // The months of a loan: how many of the first pay interest alone, and which one ends it.
-#[derive(Drop)]
+#[derive(Clone, Copy)]
 pub struct Course {
     pub only: u32,
     pub end: u32,

@@ -15,7 +15,7 @@ pub mod totals;
 pub mod years;
 
 // A loan in hand: passed into each draw by value and handed back.
-#[derive(Drop)]
+#[derive(Clone, Copy)]
 pub struct Loan {
     pub term: u32,
     pub rate: f64,

@@ -9,7 +9,7 @@ use crate::kinds::Kind;
 use records::Terms;
 use refusals::Verdict;
 
-#[derive(Drop)]
+#[derive(Clone, Copy)]
 pub enum Opening {
     Refused(refusals::Refusal),
     Open(Loan),

@@ -11,14 +11,14 @@ use crate::draws::{WIDTH, fewer, put_row};
 use crate::kinds::{Course, Kind};
 
 // Two loans in hand.
-#[derive(Drop)]
+#[derive(Clone, Copy)]
 pub struct Pair {
     pub first: Loan,
     pub second: Loan,
 }
 
 // Rows that were written of each of two loans, and the loans after them.
-#[derive(Drop)]
+#[derive(Clone, Copy)]
 struct PairRun {
     count: u32,
     first: Loan,

@@ -43,7 +43,7 @@ pub(crate) fn begins_later_year(done: u32) -> bool
 }
 
 // What a year begins with: its rate, and the growth over the months that are left then. Neither waits for the balance, so that both are worked out while the year before is being laid.
-#[derive(Drop)]
+#[derive(Clone, Copy)]
 pub(crate) struct Coming {
     pub(crate) rate: f64,
     pub(crate) factor: f64,

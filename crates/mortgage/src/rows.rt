@@ -19,7 +19,7 @@ use records::Row;
 use refusals::Verdict;
 
 // The next row of a loan in hand, and the loan after it; a finished loan has none.
-#[derive(Drop)]
+#[derive(Clone, Copy)]
 pub enum Next {
     Refused(refusals::Refusal),
     Finished,
@@ -27,7 +27,7 @@ pub enum Next {
 }
 
 // A row, and the loan in hand after it.
-#[derive(Drop)]
+#[derive(Clone, Copy)]
 pub(crate) struct Month {
     pub(crate) row: Row,
     pub(crate) next: Loan,

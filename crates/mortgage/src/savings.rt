@@ -7,20 +7,20 @@ use records::Terms;
 use refusals::Verdict;
 
 // A loan that is paid down with more than its payment: so far.
-#[derive(Drop)]
+#[derive(Clone, Copy)]
 pub struct Paydown {
     pub balance: f64,
     pub months: u32,
     pub interest: f64,
 }
 
-#[derive(Drop)]
+#[derive(Clone, Copy)]
 pub struct Savings {
     pub months: u32,
     pub interest: f64,
 }
 
-#[derive(Drop)]
+#[derive(Clone, Copy)]
 pub enum SavingsAnswer {
     Refused(refusals::Refusal),
     Saved(Savings),

@@ -25,7 +25,7 @@ const INTEREST: usize = 3;
 const BALANCE: usize = 4;
 
 // A year's line: months covered, their interest, their principal, and the balance after the last of them.
-#[derive(Drop)]
+#[derive(Clone, Copy)]
 pub struct Year {
     pub months: f64,
     pub interest: f64,
@@ -33,7 +33,7 @@ pub struct Year {
     pub balance: f64,
 }
 
-#[derive(Drop)]
+#[derive(Clone, Copy)]
 pub enum YearAnswer {
     Refused(refusals::Refusal),
     Found(Year),

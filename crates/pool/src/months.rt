@@ -13,7 +13,7 @@ pub const WIDTH: usize = 3;
 // No loan has more months.
 pub(crate) const MOST_MONTHS: usize = 1200;
 
-#[derive(Drop)]
+#[derive(Clone, Copy)]
 pub struct Month {
     pub principal: f64,
     pub interest: f64,

@@ -21,7 +21,7 @@ use mortgage::payment::monthly_rate;
 use refusals::{Number, Verdict};
 
 // Prices at the rate and a bump above and below it.
-#[derive(Drop)]
+#[derive(Clone, Copy)]
 struct Prices {
     at: f64,
     up: f64,

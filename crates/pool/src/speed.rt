@@ -4,7 +4,7 @@ ghost use Rattle.numbers.specs.Clamps.{plus_zero};
 ghost use Rattle.pool.specs.Speed.{monthly, psa_rate, smm};
 
 // A speed; a history's numbers lie beside it.
-#[derive(Drop)]
+#[derive(Clone, Copy)]
 pub enum Speed {
     Cpr(f64),
     Psa(f64),

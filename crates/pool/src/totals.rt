@@ -9,14 +9,14 @@ ghost use Rattle.pool.specs.Totals.{sum_of, balance_of, totals_of, pool_totals, 
 use crate::loans::{judge_pool, loan_at, loan_count};
 use refusals::Verdict;
 
-#[derive(Drop)]
+#[derive(Clone, Copy)]
 pub struct Totals {
     pub balance: f64,
     pub coupon: f64,
     pub maturity: f64,
 }
 
-#[derive(Drop)]
+#[derive(Clone, Copy)]
 pub enum TotalsAnswer {
     Refused(refusals::Refusal),
     Given(Totals),

@@ -13,7 +13,7 @@ use records::Terms;
 use refusals::Number;
 
 // Months that were walked, and the balance before the next one.
-#[derive(Drop)]
+#[derive(Clone, Copy)]
 struct Run {
     count: u32,
     balance: f64,

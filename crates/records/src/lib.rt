@@ -12,7 +12,7 @@ pub mod swap_record;
 pub mod terms_record;
 
 // Kind 1, a loan's terms.
-#[derive(Drop)]
+#[derive(Clone, Copy)]
 pub struct Terms {
     pub principal: f64,
     pub rate: f64,
@@ -20,7 +20,7 @@ pub struct Terms {
 }
 
 // Kind 2, a bond; its frequency is the code that the record holds.
-#[derive(Drop)]
+#[derive(Clone, Copy)]
 pub struct BondRecord {
     pub face: f64,
     pub coupon: f64,
@@ -29,7 +29,7 @@ pub struct BondRecord {
 }
 
 // Kind 3, a row of a schedule.
-#[derive(Drop)]
+#[derive(Clone, Copy)]
 pub struct Row {
     pub month: u32,
     pub payment: f64,
@@ -39,7 +39,7 @@ pub struct Row {
 }
 
 // Kind 4, a swap; its day count is the code that the record holds.
-#[derive(Drop)]
+#[derive(Clone, Copy)]
 pub struct SwapRecord {
     pub notional: f64,
     pub rate: f64,
@@ -49,7 +49,7 @@ pub struct SwapRecord {
 }
 
 // Kind 5, a dated swap: kind 4's numbers, two dates, of the calendar or not, and the day count's code. Its tenor is kept and read by nothing.
-#[derive(Drop)]
+#[derive(Clone, Copy)]
 pub struct DatedSwapRecord {
     pub notional: f64,
     pub rate: f64,
@@ -60,31 +60,31 @@ pub struct DatedSwapRecord {
     pub count: u8,
 }
 
-#[derive(Drop)]
+#[derive(Clone, Copy)]
 pub enum TermsRead {
     Refused(refusals::Refusal),
     Given(Terms),
 }
 
-#[derive(Drop)]
+#[derive(Clone, Copy)]
 pub enum RowRead {
     Refused(refusals::Refusal),
     Given(Row),
 }
 
-#[derive(Drop)]
+#[derive(Clone, Copy)]
 pub enum BondRead {
     Refused(refusals::Refusal),
     Given(BondRecord),
 }
 
-#[derive(Drop)]
+#[derive(Clone, Copy)]
 pub enum SwapRead {
     Refused(refusals::Refusal),
     Given(SwapRecord),
 }
 
-#[derive(Drop)]
+#[derive(Clone, Copy)]
 pub enum DatedSwapRead {
     Refused(refusals::Refusal),
     Given(DatedSwapRecord),

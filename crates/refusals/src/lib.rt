@@ -5,28 +5,28 @@ ghost use Rattle.std.specs.Prelude.{◌≡◌, min};
 ghost use Rattle.numbers.specs.Whole.{largest};
 ghost use Rattle.refusals.specs.Table.{bad_amount, bad_term, bad_number};
 
-#[derive(Drop)]
+#[derive(Clone, Copy)]
 pub struct Refusal {
     pub number: u32,
     pub place: u32,
 }
 
 // Whether a call may go on.
-#[derive(Drop)]
+#[derive(Clone, Copy)]
 pub enum Verdict {
     Refused(Refusal),
     Accepted,
 }
 
 // A float that was asked for.
-#[derive(Drop)]
+#[derive(Clone, Copy)]
 pub enum Number {
     Refused(Refusal),
     Given(f64),
 }
 
 // A whole number that was asked for.
-#[derive(Drop)]
+#[derive(Clone, Copy)]
 pub enum Count {
     Refused(Refusal),
     Given(u32),

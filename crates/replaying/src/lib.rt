@@ -22,7 +22,7 @@ const NUMBER: usize = 3;
 const DISTANCE: usize = 4;
 
 // How many cases were replayed, and in how many of them our answer lies apart from the Rust's.
-#[derive(Drop)]
+#[derive(Clone, Copy)]
 pub struct Tally {
     pub replayed: u64,
     pub apart: u64,

@@ -14,7 +14,7 @@ use bond::codes::FrequencyRead;
 use records::{BondRead, BondRecord};
 use refusals::{Refusal, Verdict};
 
-#[derive(Drop)]
+#[derive(Clone, Copy)]
 pub(crate) enum BondIn {
     Refused(Refusal),
     Given(Bond),

@@ -14,7 +14,7 @@ use pool::speed::Speed;
 use pool::totals::TotalsAnswer;
 use refusals::{Refusal, Verdict};
 
-#[derive(Drop)]
+#[derive(Clone, Copy)]
 pub(crate) enum SpeedIn {
     Refused(Refusal),
     Given(Speed),

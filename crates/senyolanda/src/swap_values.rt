@@ -15,7 +15,7 @@ use swaps::day_counts::{DayCount, DayCountRead};
 use swaps::valuation::ValuationAnswer;
 use swaps::{AnySwap, Swap};
 
-#[derive(Drop)]
+#[derive(Clone, Copy)]
 pub(crate) enum SwapIn {
     Refused(Refusal),
     Given(AnySwap),

@@ -11,14 +11,14 @@ use crate::spread::{SensitivityAnswer, SpreadAnswer};
 use crate::units::BasisPoints;
 use refusals::{Number, Refusal, Verdict};
 
-#[derive(Drop)]
+#[derive(Clone, Copy)]
 pub struct CashFlow {
     pub time: f64,
     pub amount: f64,
 }
 
 // Room of our own for the two lists.
-#[derive(Drop)]
+#[derive(Clone, Copy)]
 pub(crate) struct Lists {
     times: [f64; 1200],
     amounts: [f64; 1200],

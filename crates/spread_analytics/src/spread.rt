@@ -23,20 +23,20 @@ const LOWEST: f64 = -500.0;
 
 const HIGHEST: f64 = 2000.0;
 
-#[derive(Drop)]
+#[derive(Clone, Copy)]
 pub enum SpreadAnswer {
     Refused(refusals::Refusal),
     Found(BasisPoints),
     NoSignChange(BasisPoints),
 }
 
-#[derive(Drop)]
+#[derive(Clone, Copy)]
 pub struct Sensitivity {
     pub duration: f64,
     pub convexity: f64,
 }
 
-#[derive(Drop)]
+#[derive(Clone, Copy)]
 pub enum SensitivityAnswer {
     Refused(refusals::Refusal),
     Given(Sensitivity),

@@ -2,10 +2,10 @@
 ghost use Rattle.std.specs.Prelude.{◌≡◌};
 ghost use Rattle.spread_analytics.specs.Units.{as_decimal};
 
-#[derive(Drop)]
+#[derive(Clone, Copy)]
 pub struct BasisPoints(pub f64);
 
-#[derive(Drop)]
+#[derive(Clone, Copy)]
 pub struct DecimalRate(pub f64);
 
 // So many points as a decimal rate.

@@ -97,7 +97,7 @@ fn discounted_sum(amounts: &[f64], factors: &[f64]) -> f64
 }
 
 // The worth, and the sums of time times amount and of time times time times amount, each times its factor.
-#[derive(Drop)]
+#[derive(Clone, Copy)]
 pub struct Sums {
     pub worth: f64,
     pub timed: f64,

@@ -15,7 +15,7 @@ use numbers::sizes::infinity;
 use refusals::{Refusal, Verdict, refuse};
 
 // A discount curve with its knots in front; +0 beyond them.
-#[derive(Drop)]
+#[derive(Clone, Copy)]
 pub struct DiscountCurve {
     pub tenors: [f64; 120],
     pub zeros: [f64; 120],
@@ -23,7 +23,7 @@ pub struct DiscountCurve {
 }
 
 // The verdict, and the curve, which has no knot where the verdict refuses.
-#[derive(Drop)]
+#[derive(Clone, Copy)]
 pub struct Bootstrap {
     pub verdict: Verdict,
     pub curve: DiscountCurve,

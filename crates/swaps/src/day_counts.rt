@@ -8,14 +8,14 @@ use dates::Date;
 use dates::counts::{actual_days, bad_dates, thirty_days};
 use refusals::Number;
 
-#[derive(Drop)]
+#[derive(Clone, Copy)]
 pub enum DayCount {
     Actual360,
     Actual365,
     Thirty360,
 }
 
-#[derive(Drop)]
+#[derive(Clone, Copy)]
 pub enum DayCountRead {
     Refused(refusals::Refusal),
     Given(DayCount),

@@ -19,7 +19,7 @@ use curves::segments::last_knot;
 use numbers::clamps::lower_to;
 
 // A knot before its rate is tried: its tenor and par rate, its annual dates, how many of them are settled, and the sum of the settled coupons.
-#[derive(Drop)]
+#[derive(Clone, Copy)]
 pub struct Knot {
     pub tenor: f64,
     pub par: f64,
@@ -29,7 +29,7 @@ pub struct Knot {
 }
 
 // What the solution lies between.
-#[derive(Drop)]
+#[derive(Clone, Copy)]
 pub struct Bracket {
     pub lo: f64,
     pub hi: f64,

@@ -21,7 +21,7 @@ use refusals::{Number, Verdict};
 
 // The sums over periods, without the notional: of the fixed leg, of the floating leg, of the discount factors in fractions of a year,
 // and of the fixed leg with each payment times its date; and the discount factor at the end of the last of them.
-#[derive(Drop)]
+#[derive(Clone, Copy)]
 pub struct PaymentSums {
     pub fixed: f64,
     pub floating: f64,
@@ -97,7 +97,7 @@ fn add_on(
 }
 
 // The sums on a curve, and on another with the same tenors where that is asked for too.
-#[derive(Drop)]
+#[derive(Clone, Copy)]
 pub struct BothSums {
     pub base: PaymentSums,
     pub higher: PaymentSums,
@@ -181,7 +181,7 @@ fn payment_sums(
 }
 
 // The legs, with the notional at the end; the annuity; the fixed leg with each amount times its date; and the discount factor at the end.
-#[derive(Drop)]
+#[derive(Clone, Copy)]
 pub struct Legs {
     pub fixed: f64,
     pub floating: f64,
@@ -218,7 +218,7 @@ pub(crate) fn legs_of(swap: AnySwap, tenors: &[f64], zeros: &[f64]) -> Legs
 }
 
 // The legs on two curves with the same tenors.
-#[derive(Drop)]
+#[derive(Clone, Copy)]
 pub struct BothLegs {
     pub base: Legs,
     pub higher: Legs,

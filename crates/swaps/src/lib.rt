@@ -17,7 +17,7 @@ mod trials;
 pub mod valuation;
 
 // A fixed-for-floating swap whose periods are a tenor's, all alike.
-#[derive(Drop)]
+#[derive(Clone, Copy)]
 pub struct Swap {
     pub notional: f64,
     pub fixed_rate: f64,
@@ -27,7 +27,7 @@ pub struct Swap {
 }
 
 // One whose periods go from a first date to a second.
-#[derive(Drop)]
+#[derive(Clone, Copy)]
 pub struct DatedSwap {
     pub notional: f64,
     pub fixed_rate: f64,
@@ -37,7 +37,7 @@ pub struct DatedSwap {
     pub day_count: day_counts::DayCount,
 }
 
-#[derive(Drop)]
+#[derive(Clone, Copy)]
 pub enum AnySwap {
     Undated(Swap),
     Dated(DatedSwap),

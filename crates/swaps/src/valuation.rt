@@ -18,7 +18,7 @@ use crate::legs::{BothLegs, Legs, both_legs_of, legs_of};
 use crate::terms::{end, per_year};
 use refusals::{Number, Verdict};
 
-#[derive(Drop)]
+#[derive(Clone, Copy)]
 pub struct SwapValuation {
     pub npv: f64,
     pub fixed_pv: f64,
@@ -28,7 +28,7 @@ pub struct SwapValuation {
     pub duration: f64,
 }
 
-#[derive(Drop)]
+#[derive(Clone, Copy)]
 pub enum ValuationAnswer {
     Refused(refusals::Refusal),
     Given(SwapValuation),

@@ -14,7 +14,7 @@ use curves::segments::knot_at;
 use elementary::exp::exp_each;
 use refusals::Verdict;
 
-#[derive(Drop)]
+#[derive(Clone, Copy)]
 pub enum FitAnswer {
     Refused(refusals::Refusal),
     Given(NelsonSiegel),

@@ -7,7 +7,7 @@ use curves::curve::bad_time;
 use elementary::exp::exp;
 use refusals::Number;
 
-#[derive(Drop)]
+#[derive(Clone, Copy)]
 pub struct NelsonSiegel {
     pub beta0: f64,
     pub beta1: f64,
@@ -15,7 +15,7 @@ pub struct NelsonSiegel {
     pub decay: f64,
 }
 
-#[derive(Drop)]
+#[derive(Clone, Copy)]
 pub struct CurveMetrics {
     pub level: f64,
     pub slope: f64,
@@ -23,7 +23,7 @@ pub struct CurveMetrics {
 }
 
 // What beta1 and beta2 are multiplied by.
-#[derive(Drop)]
+#[derive(Clone, Copy)]
 pub struct Loadings {
     pub slope: f64,
     pub hump: f64,

@@ -5,7 +5,7 @@ ghost use Rattle.yield_curve.specs.Solve.{larger, small, pivoted_a, pivoted_b, l
 use numbers::sizes::absolute_value;
 
 // One equation: the factors of the three unknowns, and what it is equal to.
-#[derive(Drop)]
+#[derive(Clone, Copy)]
 pub struct Equation {
     pub x: f64,
     pub y: f64,
@@ -13,14 +13,14 @@ pub struct Equation {
     pub is: f64,
 }
 
-#[derive(Drop)]
+#[derive(Clone, Copy)]
 pub struct System {
     pub first: Equation,
     pub second: Equation,
     pub third: Equation,
 }
 
-#[derive(Drop)]
+#[derive(Clone, Copy)]
 pub struct Unknowns {
     pub x: f64,
     pub y: f64,

@@ -15,21 +15,21 @@ use numbers::sizes::absolute_value;
 use refusals::{Number, Verdict};
 
 // mu and z of one knot.
-#[derive(Drop)]
+#[derive(Clone, Copy)]
 pub struct Swept {
     pub mu: f64,
     pub z: f64,
 }
 
 // mu and z of every knot but the last.
-#[derive(Drop)]
+#[derive(Clone, Copy)]
 pub struct SweptKnots {
     pub mu: [f64; 120],
     pub z: [f64; 120],
 }
 
 // c of the two ends of a segment.
-#[derive(Drop)]
+#[derive(Clone, Copy)]
 pub struct Bends {
     pub here: f64,
     pub next: f64,

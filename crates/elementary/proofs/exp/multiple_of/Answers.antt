@@ -1,0 +1,11 @@
+-- `elementary::exp::multiple_of` meets its contract. Assumes nothing.
+use Rattle.elementary.specs.Exp.{below}
+use Rattle.elementary.proofs.exp.multiple_of.Goals as goal
+
+pub returns-then-x : goal.returns-then-x
+unfolding below
+returns-then-x c = rw (c.if-x.true, c.type_size.ensures)
+
+pub returns-else-x : goal.returns-else-x
+unfolding below
+returns-else-x c = rw (c.if-x.false, c.type_size.ensures)

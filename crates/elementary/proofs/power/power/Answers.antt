@@ -1,0 +1,15 @@
+-- `elementary::power::power` meets its contract. Assumes nothing.
+use mathlib.Core.Path.{sym, ◌∙◌}
+use Rattle.elementary.specs.Power.{power_by, power}
+use Rattle.elementary.proofs.power.power.Goals as goal
+
+pub by_sign-requires : goal.by_sign-requires
+by_sign-requires c = sym c.is_whole.ensures ∙ c.if-is_whole.true
+
+pub returns-then-is_whole : goal.returns-then-is_whole
+unfolding power power_by
+returns-then-is_whole c = rw (← c.is_whole.ensures, c.if-is_whole.true) c.by_sign.ensures
+
+pub returns-else-is_whole : goal.returns-else-is_whole
+unfolding power power_by
+returns-else-is_whole c = rw (← c.is_whole.ensures, c.if-is_whole.false) c.by_ln.ensures
