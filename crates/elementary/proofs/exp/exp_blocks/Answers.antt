@@ -20,7 +20,7 @@ pub loop-at-preserved : goal.loop-at-preserved
 loop-at-preserved c =
     let p = c.loop-at.invariant.0 in
     let called = c.exp_sixteen in
-    (part_passed p refl _ called.new.0 (omega arith) (omega (arith, p.kept, c.loop-at.invariant.1, c.requires)) called.ensures called.auto.0, omega (arith, c.loop-at.invariant.1))
+    (part_passed p refl _ called.new.numbers (omega arith) (omega (arith, p.kept, c.loop-at.invariant.1, c.requires)) called.ensures called.auto.numbers, omega (arith, c.loop-at.invariant.1))
 
 pub shape_of-numbers : goal.shape_of-numbers
 shape_of-numbers c = c.loop-at.invariant.0.kept

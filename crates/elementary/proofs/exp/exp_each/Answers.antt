@@ -10,6 +10,6 @@ use Rattle.elementary.proofs.exp.exp_each.Goals as goal
 pub returns : goal.returns
 returns c =
     let xs = c.args.numbers.now in
-    let first = part_passed (none_passed exp (length xs) xs) refl (length xs - length xs % 16) c.exp_blocks.new.0 (omega arith) (omega arith) c.exp_blocks.ensures c.exp_blocks.auto.0 in
-    let whole = part_passed first refl _ c.exp_last.new.0 (omega arith) (omega (arith, first.kept)) c.exp_last.ensures c.exp_last.auto.0 in
+    let first = part_passed (none_passed exp (length xs) xs) refl (length xs - length xs % 16) c.exp_blocks.new.numbers (omega arith) (omega arith) c.exp_blocks.ensures c.exp_blocks.auto.numbers in
+    let whole = part_passed first refl _ c.exp_last.new.numbers (omega arith) (omega (arith, first.kept)) c.exp_last.ensures c.exp_last.auto.numbers in
     all_passed whole refl (omega (arith, first.kept))

@@ -5,11 +5,12 @@ use Rattle.numbers.specs.Whole.{nearest_whole}
 use Rattle.elementary.proofs.WholeExponents.{below_zero, not_below_zero}
 use Rattle.elementary.proofs.power.by_sign.Goals as goal
 
-nearest : (c : goal.After-usually_whole-size) → c.usually_whole-size.result ≡ nearest_whole (absolute c.args.y)
-nearest c = c.usually_whole-size.ensures ∙ ap nearest_whole c.absolute_value.ensures
-
 pub returns-then-y : goal.returns-then-y
-returns-then-y c = c.negative_power.ensures ∙ below_zero _ _ _ c.requires (nearest at) c.if-y.true
+returns-then-y c =
+    let nearest : c.usually_whole-size.result ≡ nearest_whole (absolute c.args.y) = c.usually_whole-size.ensures ∙ ap nearest_whole c.absolute_value.ensures in
+    c.negative_power.ensures ∙ below_zero _ _ _ c.requires nearest c.if-y.true
 
 pub returns-else-y : goal.returns-else-y
-returns-else-y c = c.whole_power.ensures ∙ not_below_zero _ _ _ c.requires (nearest at) c.if-y.false
+returns-else-y c =
+    let nearest : c.usually_whole-size.result ≡ nearest_whole (absolute c.args.y) = c.usually_whole-size.ensures ∙ ap nearest_whole c.absolute_value.ensures in
+    c.whole_power.ensures ∙ not_below_zero _ _ _ c.requires nearest c.if-y.false

@@ -1,7 +1,6 @@
 -- `elementary::powers::raise_each` meets its contract: each turn of the loop is a turn of the definition at every number. Assumes nothing.
 use mathlib.Core.Path.{◌≡◌, refl, sym, ap, ◌∙◌}
 use mathlib.Core.List.{map}
-use mathlib.Core.Logic.{⊎_elim}
 use Prim.Native.Nat.{◌/◌}
 use lib.ListN.{length, length-map}
 use lib.Ieee.{Float, binary64, mul}
@@ -10,21 +9,21 @@ use Rattle.elementary.proofs.Turns.{ended}
 use Rattle.elementary.proofs.PartWay.{map_alike, map_same}
 use Rattle.elementary.proofs.InARow.{even_turn, odd_turn}
 use Rattle.elementary.proofs.powers.raise_each.Goals as goal
-
--- the numbers after the `if`, at an odd exponent and at an even one
-multiplied : (c : goal.Joined-left-eq1 invariant_loop decreases_loop) → let h = c.before.before.loop in (map (λ (x : Float). turns h.left h.left x h.square) h.numbers ≡ map (λ (x : Float). turns (h.left / 2) (h.left / 2) x (mul binary64 h.square h.square)) c.if1.numbers) × (length c.if1.numbers ≡ length h.numbers)
-multiplied c =
-    let h = c.before.before.loop in
-    ⊎_elim
-    (λ w. let e = w.5 ∙ w.2.ensures in (odd_turn h.left h.square h.numbers w.0.taken ∙ ap (map _) (sym e), rw e (length-map h.numbers _)))
-    (λ w. (even_turn h.left h.square h.numbers w.0.left ∙ ap (map _) (sym w.1), ap length w.1))
-    c.if1.branch
+use Rattle.elementary.proofs.powers.raise_each.Goals.{then-left-eq1, else-left-eq1}
 
 pub loop-left-init : goal.loop-left-init
 loop-left-init c = (refl, refl)
 
 pub loop-left-preserved : goal.loop-left-preserved
-loop-left-preserved c = let h = c.loop-left in (h.invariant.0 ∙ (multiplied c).0, (multiplied c).1 ∙ h.invariant.1)
+loop-left-preserved c =
+    let h = c.loop-left in
+    -- the numbers after the `if`, at an odd exponent and at an even one
+    let multiplied : (map (λ (x : Float). turns h.left h.left x h.square) h.numbers ≡ map (λ (x : Float). turns (h.left / 2) (h.left / 2) x (mul binary64 h.square h.square)) c.if-left-eq1.numbers) × (length c.if-left-eq1.numbers ≡ length h.numbers) =
+      elim c.if-left-eq1.branch [
+        | then-left-eq1 w ↦ (let e = w.numbers-is ∙ w.multiply_each.ensures in (odd_turn h.left h.square h.numbers w.if-left-eq1.true ∙ ap (map _) (sym e), rw e (length-map h.numbers _)))
+        | else-left-eq1 w ↦ (even_turn h.left h.square h.numbers w.if-left-eq1.false ∙ ap (map _) (sym w.numbers-is), ap length w.numbers-is)
+      ] in
+    (h.invariant.0 ∙ multiplied.0, multiplied.1 ∙ h.invariant.1)
 
 pub shape_of-numbers : goal.shape_of-numbers
 shape_of-numbers c = c.loop-left.invariant.1
