@@ -1,0 +1,32 @@
+-- `bond::codes::frequency_of` meets its contract: each arm's code is the case. Assumes nothing.
+use Prim.Native.Nat.{◌<◌}
+use native.Mathlib.Omega.{arith}
+use borrow.Author.Tests.{lt-ltb}
+use Rattle.refusals.specs.Outcome.{first_or, judged}
+use Rattle.refusals.specs.Table.{bad_code}
+use Rattle.refusals.proofs.Verdicts.{refused_as}
+use Rattle.bond.specs.Codes.{frequency_at, frequency_of}
+use Rattle.bond.proofs.codes.frequency_of.Goals as goal
+
+pub returns-in-0 : goal.returns-in-0
+unfolding frequency_of frequency_at bad_code judged first_or
+returns-in-0 c = rw c.in-0.is
+
+pub returns-in-1 : goal.returns-in-1
+unfolding frequency_of frequency_at bad_code judged first_or
+returns-in-1 c = rw c.in-1.is
+
+pub returns-in-2 : goal.returns-in-2
+unfolding frequency_of frequency_at bad_code judged first_or
+returns-in-2 c = rw c.in-2.is
+
+pub returns-in-3 : goal.returns-in-3
+unfolding frequency_of frequency_at bad_code judged first_or
+returns-in-3 c = rw c.in-3.is
+
+pub returns-in_default : goal.returns-in_default
+unfolding frequency_of frequency_at bad_code judged first_or
+returns-in_default c =
+    let x = c.args.code in
+    let h : 3 < x = omega arith in
+    refused_as 11 _ (frequency_of x) c.refuse.ensures (rw (lt-ltb 3 x h))

@@ -1,0 +1,13 @@
+-- `bond::durations::convexity` meets its contract: the verdict on the bond is its answer's. Assumes nothing.
+use mathlib.Core.Path.{sym}
+use Rattle.refusals.proofs.Verdicts.{refused_by, accepted_by}
+use Rattle.bond.specs.Durations.{convexity}
+use Rattle.bond.proofs.durations.convexity.Goals as goal
+
+pub returns-in-Refused : goal.returns-in-Refused
+unfolding convexity
+returns-in-Refused c = rw (sym c.worked_out-worked.ensures.0) (refused_by _ _ _ _ c.in-Refused.is c.judge_bond.ensures)
+
+pub returns-in-Accepted : goal.returns-in-Accepted
+unfolding convexity
+returns-in-Accepted c = rw (c.convexity_at.ensures, sym c.worked_out-worked.ensures.0) (accepted_by _ _ _ c.in-Accepted.is c.judge_bond.ensures)

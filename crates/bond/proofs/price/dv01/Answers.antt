@@ -1,0 +1,18 @@
+-- `bond::price::dv01` meets its contract: the verdict on the bond is its answer's. Assumes nothing.
+use mathlib.Core.Path.{sym}
+use Rattle.refusals.proofs.Verdicts.{refused_by, accepted_by}
+use Rattle.bond.specs.Price.{dv01}
+use Rattle.bond.proofs.price.dv01.Goals as goal
+
+pub returns-in-Refused : goal.returns-in-Refused
+unfolding dv01
+returns-in-Refused c = rw (sym c.worked_out-worked.ensures.0) (refused_by _ _ _ _ c.in-Refused.is c.judge_bond.ensures)
+
+pub returns-in-Accepted : goal.returns-in-Accepted
+unfolding dv01
+returns-in-Accepted c =
+    rw (
+      c.price_at.ensures,
+      c.price_at-in-Accepted.ensures,
+      sym c.worked_out-worked.ensures.0,
+    ) (accepted_by _ _ _ c.in-Accepted.is c.judge_bond.ensures)

@@ -1,0 +1,15 @@
+-- `curves::kinds::eight_on` meets its contract: the kind decides by which rule a segment serves. Assumes nothing.
+use Rattle.curves.specs.Kinds.{served_by}
+use Rattle.curves.proofs.kinds.eight_on.Goals as goal
+
+pub returns-in-YieldCurve : goal.returns-in-YieldCurve
+unfolding served_by
+returns-in-YieldCurve c = rw c.in-YieldCurve.is c.eight_segments.ensures
+
+pub returns-in-DiscountCurve : goal.returns-in-DiscountCurve
+unfolding served_by
+returns-in-DiscountCurve c = rw c.in-DiscountCurve.is c.eight_segments-in-DiscountCurve.ensures
+
+pub returns-in-SpreadCurve : goal.returns-in-SpreadCurve
+unfolding served_by
+returns-in-SpreadCurve c = rw c.in-SpreadCurve.is c.eight_segments-in-SpreadCurve.ensures
