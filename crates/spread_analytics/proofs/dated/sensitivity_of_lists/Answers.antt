@@ -1,0 +1,31 @@
+-- `spread_analytics::dated::sensitivity_of_lists` meets its contract: too many flows are refused, and else the core is asked of what was gathered. Assumes nothing.
+use mathlib.Core.Path.{sym, ◌∙◌}
+use mathlib.Core.Bool.{false}
+use mathlib.Core.List.{List}
+use lib.Seq.{length-take-le}
+use lib.Ieee.{Float}
+use Rattle.refusals.proofs.Verdicts.{refused_alike}
+use Rattle.spread_analytics.specs.Spread.{duration_convexity}
+use Rattle.spread_analytics.specs.Dated.{times_of, amounts_of}
+use Rattle.spread_analytics.proofs.Gathering.{same_lists, same_length, many_times}
+use native.Mathlib.Omega.{arith}
+use Rattle.spread_analytics.proofs.dated.sensitivity_of_lists.Goals as goal
+
+pub returns-then-count-gt1200 : goal.returns-then-count-gt1200
+unfolding duration_convexity
+returns-then-count-gt1200 c =
+    let a = c.args in
+    λ flows n g.
+    refused_alike _ _ _ _ (c.refused_for_count.ensures (times_of flows) (amounts_of flows) false (same_length flows) (many_times flows a.count n c.if-count-gt1200.true))
+
+pub slice_bounds-duration_convexity-end : goal.slice_bounds-duration_convexity-end
+slice_bounds-duration_convexity-end c = sym (length-take-le _ _ (omega arith))
+
+pub slice_bounds-duration_convexity-end-2 : goal.slice_bounds-duration_convexity-end-2
+slice_bounds-duration_convexity-end-2 c = sym (length-take-le _ _ (omega arith))
+
+pub returns : goal.returns
+returns c =
+    let a = c.args in
+    λ flows n g.
+    c.duration_convexity.ensures ∙ same_lists (λ (times amounts : List Float). duration_convexity times amounts a.tenors.now a.rates.now a.spread.0) flows a.lists a.count n c.if-count-gt1200.false g
