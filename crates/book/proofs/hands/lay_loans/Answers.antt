@@ -18,7 +18,7 @@ pub loop-i-preserved : goal.loop-i-preserved
 loop-i-preserved c =
     let t = c.take_next-next in
     let h = c.loop-i in
-    a_turn c.args.records.now c.args.room.now c.args.count h.room h.hand.loan h.hand.at h.hand.end h.i h.invariant c.requires.1 c.loop-i-test.true _ _ _ _ t.ensures t.auto.room
+    a_turn c.args.records.now c.args.room.now c.args.count h.room h.hand.loan h.hand.at h.hand.end h.i h.invariant c.requires.1 c.loop-i-test.true _ _ _ _ (t.ensures.end_value, t.ensures.loan_after) t.auto.room
 
 pub shape_of-room : goal.shape_of-room
 shape_of-room c = c.lay_at.auto.room ∙ c.loop-i.invariant.4

@@ -23,5 +23,5 @@ returns-in-Open c =
     let t = c.take_in in
     let o = c.open_at in
     let a = c.args in
-    let whole = taken_next a.room.now _ a.hand.loan a.hand.at a.hand.end (loan_at a.records.now a.i) _ _ _ _ (sym (ap opening_outcome c.in-Open.is) ∙ o.ensures) t.ensures in
+    let whole = taken_next a.room.now _ a.hand.loan a.hand.at a.hand.end (loan_at a.records.now a.i) _ _ _ _ (sym (ap opening_outcome c.in-Open.is) ∙ o.ensures) (t.ensures.end_value, t.ensures.loan_after) in
     record { end_value = whole.0; loan_after = whole.1 }

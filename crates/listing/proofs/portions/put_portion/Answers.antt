@@ -7,8 +7,7 @@ use Rattle.listing.proofs.portions.put_portion.Goals as goal
 
 pub returns-in_default : goal.returns-in_default
 returns-in_default c =
-    let whole = absurd (never_refused c.args.listed.loan _ c.requires.drawable.term c.requires.drawable.done (omega arith) _ _ (sym c.draw.ensures.result_value ∙ ap drawing_outcome c.in_default.is)) in
-    record { lists = whole.0; left_value = whole.1 }
+    absurd (never_refused c.args.listed.loan _ c.requires.drawable.term c.requires.drawable.done (omega arith) _ _ (sym c.draw.ensures.result_value ∙ ap drawing_outcome c.in_default.is))
 
 pub put_rows-at-requires : goal.put_rows-at-requires
 put_rows-at-requires c = portion_fits c.args.listed _ c.requires _ refl _ (sym c.draw.ensures.result_value ∙ ap drawing_outcome c.in-Drawn.is) c.draw.new.room c.draw.auto.room
