@@ -9,7 +9,7 @@ use native.Mathlib.Omega.{arith}
 use lib.Dec.{ltb}
 use lib.ListN.{length, take, get_or, set, replicate, length-set, length-map, length-replicate, get_or-map}
 use lib.Seq.{take-suc, take-suc-set, take-length}
-use lib.Ieee.{Float}
+use lib.Ieee.{Float, nan}
 use borrow.Author.Tests.{ltb-false, lt-ltb, le-ltb}
 use Rattle.numbers.specs.Clamps.{plus_zero}
 use Rattle.spread_analytics.specs.declared.dated.CashFlow.{CashFlow}
@@ -18,8 +18,8 @@ use Rattle.spread_analytics.specs.Dated.{times_of, amounts_of}
 
 -- ---- one column
 -- what stands past the end, which nothing reads
-unfoldable pub none : CashFlow
-none = record { time = plus_zero; amount = plus_zero }
+abbrev pub none : CashFlow
+none = record { time = nan; amount = nan }
 
 -- a room, once the first k are in
 unfoldable pub column : (CashFlow → Float) → ℕ → List CashFlow → List Float
