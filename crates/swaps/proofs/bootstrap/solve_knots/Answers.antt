@@ -1,7 +1,7 @@
 -- `swaps::bootstrap::solve_knots` meets its contract: the tenors and the zero rates up to the knot in hand stand in front. Assumes nothing.
 use mathlib.Core.Path.{◌≡◌, refl}
 use mathlib.Core.List.{List}
-use Prim.Native.Nat.{ℕ, ◌+◌, ◌-◌, ◌<◌, ◌≤◌}
+use Prim.Native.Nat.{ℕ, ◌+◌, ◌<◌, ◌≤◌}
 use native.Mathlib.Omega.{arith}
 use lib.ListN.{length, take, set, get_or, length-set}
 use lib.Ieee.{Float, nan}

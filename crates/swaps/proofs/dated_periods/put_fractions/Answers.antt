@@ -1,5 +1,5 @@
 -- `swaps::dated_periods::put_fractions` meets its contract: each turn of the loop writes one fraction more. Assumes nothing.
-use Prim.Native.Nat.{ℕ, ◌-◌}
+use Prim.Native.Nat.{ℕ}
 use native.Mathlib.Omega.{arith}
 use lib.ListN.{length-set}
 use lib.Ieee.{nan}

@@ -21,8 +21,8 @@ returns c =
     let dates = both_are_dates a.first a.second free in
     let days : c.match-day_count.days ≡ days_by a.day_count a.first a.second =
     elim c.match-day_count.branch [
-      in-Actual360 w ↦ over_360 a.day_count a.first a.second w.days-is w.in-Actual360.is (w.actual_days-days.ensures dates.0 dates.1)
-    | in-Actual365 w ↦ over_365 a.day_count a.first a.second w.days-is w.in-Actual365.is (w.actual_days-days-in-Actual365.ensures dates.0 dates.1)
-    | in-Thirty360 w ↦ by_thirties_lem a.day_count a.first a.second w.days-is w.in-Thirty360.is w.thirty_days-days.ensures
+      | in-Actual360 w ↦ over_360 a.day_count a.first a.second w.days-is w.in-Actual360.is (w.actual_days-days.ensures dates.0 dates.1)
+      | in-Actual365 w ↦ over_365 a.day_count a.first a.second w.days-is w.in-Actual365.is (w.actual_days-days-in-Actual365.ensures dates.0 dates.1)
+      | in-Thirty360 w ↦ by_thirties_lem a.day_count a.first a.second w.days-is w.in-Thirty360.is w.thirty_days-days.ensures
     ] in
     ap accepted (c.day_count_fraction.ensures ∙ ap (day_fraction a.day_count) days) ∙ all_clear _ 15 _ free

@@ -1,5 +1,4 @@
 -- `swaps::knots::less_par` meets its contract: the errors passed are made of the two numbers at their place. Assumes nothing.
-use Prim.Native.Nat.{◌-◌}
 use native.Mathlib.Omega.{arith}
 use mathlib.Core.Path.{refl}
 use Rattle.swaps.proofs.Eights.{none_made, one_made, all_made}

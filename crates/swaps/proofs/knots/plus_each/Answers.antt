@@ -1,5 +1,4 @@
 -- `swaps::knots::plus_each` meets its contract: the sums passed have their coupon more. Assumes nothing.
-use Prim.Native.Nat.{◌-◌}
 use native.Mathlib.Omega.{arith}
 use mathlib.Core.Path.{refl}
 use lib.ListN.{length-set}

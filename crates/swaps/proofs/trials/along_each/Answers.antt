@@ -1,5 +1,4 @@
 -- `swaps::trials::along_each` meets its contract: the rates passed are made of the two at their place. Assumes nothing.
-use Prim.Native.Nat.{◌-◌}
 use native.Mathlib.Omega.{arith}
 use Rattle.curves.specs.Kinds.{along}
 use Rattle.swaps.proofs.Eights.{none_made, one_made, all_made}
