@@ -4,18 +4,14 @@ use Rattle.refusals.specs.Answers.{number_outcome}
 use Rattle.replaying.proofs.Agreeing.{refused_alone, both_refused, both_accepted, accepted_alone}
 use Rattle.replaying.proofs.answer_agrees.Goals as goal
 
--- src/lib.rt:103:1
 pub returns-then-result-eq0 : goal.returns-then-result-eq0
 returns-then-result-eq0 c = refused_alone _ _ c.word_at-result.ensures (ap number_outcome c.in-Refused.is) c.if-result-eq0.true
 
--- src/lib.rt:103:1
 pub returns-else-result-eq0 : goal.returns-else-result-eq0
 returns-else-result-eq0 c = both_refused _ _ c.word_at-result.ensures (ap number_outcome c.in-Refused.is) c.if-result-eq0.false c.result_of.ensures
 
--- src/lib.rt:103:1
 pub returns-then-result-eq0-2 : goal.returns-then-result-eq0-2
 returns-then-result-eq0-2 c = both_accepted _ _ c.word_at-result.ensures (ap number_outcome c.in-Given.is) c.if-result-eq0-2.true c.float_at.ensures c.float_at-then-result-eq0-2.ensures c.agrees.ensures
 
--- src/lib.rt:103:1
 pub returns-else-result-eq0-2 : goal.returns-else-result-eq0-2
 returns-else-result-eq0-2 c = accepted_alone _ _ c.word_at-result.ensures (ap number_outcome c.in-Given.is) c.if-result-eq0-2.false

@@ -4,32 +4,27 @@ use Rattle.records.specs.Bytes.{value_of}
 use Rattle.replaying.proofs.EightBytes.{room, one_more}
 use Rattle.replaying.proofs.eight_bytes.Goals as goal
 
--- src/lib.rt:39:5
 pub loop-left-init : goal.loop-left-init
 unfolding value_of
 loop-left-init c = (omega arith, refl)
 
--- src/lib.rt:41:41
 pub overflow_mul-value : goal.overflow_mul-value
 overflow_mul-value c =
     let turn = c.loop-left in
     let bytes = c.args.list.now in
     omega (arith, room _ _ bytes (λ i. search rules) (omega arith) turn.invariant.0 turn.invariant.1)
 
--- src/lib.rt:41:17
 pub overflow_add-value : goal.overflow_add-value
 overflow_add-value c =
     let turn = c.loop-left in
     let bytes = c.args.list.now in
     omega (arith, c.wide.ensures, room _ _ bytes (λ i. search rules) (omega arith) turn.invariant.0 turn.invariant.1)
 
--- src/lib.rt:39:5
 pub loop-left-preserved : goal.loop-left-preserved
 loop-left-preserved c =
     let turn = c.loop-left in
     (omega arith, rw c.wide.ensures (one_more turn.left c.args.at _ (omega arith) turn.invariant.0 c.requires turn.invariant.1))
 
--- src/lib.rt:33:1
 pub returns : goal.returns
 returns c =
     let at = c.args.at in

@@ -3,12 +3,10 @@ use Rattle.std.proofs.Common.{sym, le-ltb, lt-ltb}
 use Rattle.replaying.specs.Words.{whole_at}
 use Rattle.replaying.proofs.whole_at.Goals as goal
 
--- src/lib.rt:65:1
 pub returns-then-word-lt4294967296 : goal.returns-then-word-lt4294967296
 unfolding whole_at
 returns-then-word-lt4294967296 c = rw (sym c.word_at-word.ensures, lt-ltb _ _ c.if-word-lt4294967296.true)
 
--- src/lib.rt:65:1
 pub returns-else-word-lt4294967296 : goal.returns-else-word-lt4294967296
 unfolding whole_at
 returns-else-word-lt4294967296 c = rw (sym c.word_at-word.ensures, le-ltb _ _ c.if-word-lt4294967296.false, c.refuse.ensures.0, c.refuse.ensures.1)
