@@ -1,8 +1,8 @@
 -- Where rounding changes nothing: x·1 is x, x/x is 1, and a zero added to a value other than 0 leaves it. A zero times a finite number is a zero, and so is a zero over a value other than 0.
 -- Values that are equal, and other than 0, are the same. Assumes nothing.
-use mathlib.Core.Path.{◌≡◌, refl, sym, ap, ◌∙◌, subst}
+use mathlib.Core.Path.{◌≡◌, refl, sym, ap, ◌∙◌}
 use mathlib.Core.Bool.{Bool, true, false, ◌||◌, beq}
-use Prim.Native.Nat.{ℕ, zero, suc, ◌+◌, ◌-◌, ◌*◌, ◌^◌, ◌<◌}
+use Prim.Native.Nat.{ℕ, zero, suc, ◌*◌, ◌^◌, ◌<◌}
 use native.Mathlib.Nat.{mul-pos, zero-lt-suc, le_of_lt}
 use native.Mathlib.Omega.{arith}
 use lib.IntN.{ℤ, pos}

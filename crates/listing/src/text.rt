@@ -1,13 +1,13 @@
 // Text put into lent memory from a place on: each function gives the place behind what it put.
 ghost use Rattle.std.specs.Prelude.{◌≡◌, ◌+◌, ◌<◌, ◌≤◌, length};
-ghost use Rattle.listing.specs.Digits.{digit as digitOf, decimal};
+ghost use Rattle.listing.specs.Digits.{digit as digit_of, decimal};
 ghost use Rattle.listing.specs.Listing.{spaced};
 ghost use Rattle.listing.specs.inner.Putting.{Put, digits_in};
 
 // A digit below 16: 0 to 9, then a to f.
 fn digit(d: u64) -> u8
     requires { d < 16 }
-    ensures { result ≡ digitOf d }
+    ensures { result ≡ digit_of d }
 {
     if d < 10 { 48 + d as u8 } else { 87 + d as u8 }
 }

@@ -7,7 +7,7 @@ ghost use Rattle.mortgage.specs.Month.{end_month};
 ghost use Rattle.steps.specs.Steps.{laid};
 ghost use Rattle.mortgage.specs.Rows.{after_on, rows_on, after, rows};
 ghost use Rattle.mortgage.specs.Draws.{draw_lines, portion, drawn, filled, drawing_outcome};
-ghost use Rattle.mortgage.specs.Level.{drawn as levelDrawn, filled as levelFilled};
+ghost use Rattle.mortgage.specs.Level.{drawn as level_drawn, filled as level_filled};
 ghost use Rattle.mortgage.specs.inner.Coming.{Listed};
 ghost use Rattle.refusals.specs.Outcome.{judged};
 ghost use Rattle.refusals.specs.Answers.{verdict_outcome};
@@ -280,8 +280,8 @@ pub fn draw_kind(kind: Kind, loan: Loan, index: &[f64], room: &mut [f64]) -> Dra
 
 // The same of a level loan.
 pub fn draw(loan: Loan, room: &mut [f64]) -> Drawing
-    ensures result_value { drawing_outcome result ≡ levelDrawn loan room.old }
-    ensures room_after { room.new ≡ levelFilled loan room.old }
+    ensures result_value { drawing_outcome result ≡ level_drawn loan room.old }
+    ensures room_after { room.new ≡ level_filled loan room.old }
 {
     draw_kind(Kind::Level, loan, &[0.0; 1], room)
 }

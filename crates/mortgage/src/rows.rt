@@ -11,7 +11,7 @@ ghost use Rattle.mortgage.specs.inner.Coming.{Listed};
 ghost use Rattle.mortgage.specs.Rows.{state_lines, next_row, next_outcome};
 ghost use Rattle.refusals.specs.Outcome.{judged};
 ghost use Rattle.refusals.specs.Answers.{verdict_outcome};
-ghost use Rattle.mortgage.specs.Level.{due as levelDue, next_row as nextLevelRow};
+ghost use Rattle.mortgage.specs.Level.{due as level_due, next_row as next_level_row};
 
 use crate::Loan;
 use crate::kinds::{Course, Kind};
@@ -42,7 +42,7 @@ pub fn kind_rows_due(kind: Kind, loan: Loan) -> u32
 }
 
 pub fn rows_due(loan: Loan) -> u32
-    ensures { result ≡ levelDue loan }
+    ensures { result ≡ level_due loan }
 {
     kind_rows_due(Kind::Level, loan)
 }
@@ -166,7 +166,7 @@ pub fn next_kind_row(kind: Kind, loan: Loan, index: &[f64]) -> Next
 
 // The next row alone of a level loan.
 pub fn next_row(loan: Loan) -> Next
-    ensures { next_outcome result ≡ nextLevelRow loan }
+    ensures { next_outcome result ≡ next_level_row loan }
 {
     next_kind_row(Kind::Level, loan, &[0.0; 1])
 }

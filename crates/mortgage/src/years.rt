@@ -7,7 +7,7 @@ ghost use Rattle.mortgage.specs.Row.{width};
 ghost use Rattle.mortgage.specs.Draws.{drawing_outcome};
 ghost use Rattle.mortgage.specs.Years.{started_years, year_width, year_places, year_from, unbegun, goes_on_from, entered_up_to};
 ghost use Rattle.mortgage.specs.YearDraws.{drawn_with_years, filled_with_years, summed, looked_up, year_outcome};
-ghost use Rattle.mortgage.specs.Level.{drawn_with_years as levelDrawnWithYears, filled_with_years as levelFilledWithYears, summed as levelSummed, looked_up as levelLookedUp};
+ghost use Rattle.mortgage.specs.Level.{drawn_with_years as level_drawn_with_years, filled_with_years as level_filled_with_years, summed as level_summed, looked_up as level_looked_up};
 ghost use Rattle.mortgage.specs.inner.RoomRows.{rows_from, with_rows};
 
 use crate::Loan;
@@ -186,9 +186,9 @@ pub fn draw_kind_with_years(
 
 // The same of a level loan.
 pub fn draw_with_years(loan: Loan, room: &mut [f64], years: &mut [f64]) -> Drawing
-    ensures result_value { drawing_outcome result ≡ levelDrawnWithYears loan room.old years.old }
-    ensures room_after { room.new ≡ levelFilledWithYears loan room.old years.old }
-    ensures years_after { years.new ≡ levelSummed loan room.old years.old }
+    ensures result_value { drawing_outcome result ≡ level_drawn_with_years loan room.old years.old }
+    ensures room_after { room.new ≡ level_filled_with_years loan room.old years.old }
+    ensures years_after { years.new ≡ level_summed loan room.old years.old }
 {
     draw_kind_with_years(Kind::Level, loan, &[0.0; 1], room, years)
 }
@@ -221,7 +221,7 @@ pub fn look_up_kind_year(kind: Kind, loan: Loan, years: &[f64], year: u32) -> Ye
 
 // The same of a level loan.
 pub fn look_up_year(loan: Loan, years: &[f64], year: u32) -> YearAnswer
-    ensures { year_outcome result ≡ levelLookedUp loan years.now year }
+    ensures { year_outcome result ≡ level_looked_up loan years.now year }
 {
     look_up_kind_year(Kind::Level, loan, years, year)
 }

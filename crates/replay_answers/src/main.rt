@@ -14,9 +14,10 @@ mod rows;
 mod spreads;
 mod swap_values;
 
-use libc::STDIN_FILENO;
 use refusals::Number;
 use replaying::{QUESTION, Tally};
+use std::io;
+use std::io::{Cursor, Read};
 
 // Room for the list; a longer one is cut short, and says so by its tally.
 const ROOM: usize = 400000;
@@ -57,8 +58,12 @@ fn replay(list: &[u8]) -> Tally {
     tally
 }
 
-fn main() {
+fn main(rt: HostRuntime) -> io::Result<()> {
     let mut list = [0u8; ROOM];
-    let count = io::read_full(STDIN_FILENO, &mut list);
-    replaying::say(replay(&list[..count]));
+    let read = io::copy(
+        &mut rt.stdin().take(ROOM as u64),
+        &mut Cursor::new(&mut list[..]),
+    )?;
+    let count = read.min(ROOM as u64) as usize;
+    replaying::say(&rt, replay(&list[..count]))
 }

@@ -1,5 +1,5 @@
 -- A value grows by one byte at its low end, and the value of fewer than eight bytes leaves room for one more. Assumes nothing.
-use Rattle.std.proofs.Common.{◌≡◌, ℕ, zero, suc, ◌+◌, ◌-◌, ◌*◌, ◌^◌, ◌<◌, ◌≤◌, List, [], ◌∷◌, length, get_or, take, drop, ap, lt_of_lt_of_le, arith, get_or-drop}
+use Rattle.std.proofs.Common.{◌≡◌, ℕ, zero, suc, ◌+◌, ◌-◌, ◌*◌, ◌^◌, ◌<◌, ◌≤◌, List, [], ◌∷◌, length, get_or, take, drop, lt_of_lt_of_le, arith, get_or-drop}
 use native.Mathlib.Nat.{pow-succ', pow-le-pow_right}
 use Rattle.records.specs.Bytes.{value_of, field}
 use Rattle.records.specs.OneNan.{AreBytes}

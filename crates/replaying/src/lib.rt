@@ -9,8 +9,8 @@ ghost use Rattle.refusals.specs.Answers.{number_outcome, count_outcome};
 ghost use Rattle.replaying.specs.Words.{word_at, float_at, whole_at, first_case};
 ghost use Rattle.replaying.specs.Agreement.{agrees, result_of, answer_agrees, counted};
 
-use libc::STDOUT_FILENO;
 use refusals::{Count, Number, Refusal};
+use std::io;
 
 // Words of a case: what is asked about stands from 5 on.
 pub const QUESTION: usize = 1;
@@ -166,10 +166,6 @@ pub fn count_case(tally: Tally, agreed: bool) -> Tally
 }
 
 // Writes the tally as a line.
-pub fn say(tally: Tally) {
-    io::write_all(STDOUT_FILENO, b"replayed ");
-    io::print_decimal(STDOUT_FILENO, tally.replayed);
-    io::write_all(STDOUT_FILENO, b", apart ");
-    io::print_decimal(STDOUT_FILENO, tally.apart);
-    io::write_all(STDOUT_FILENO, b"\n");
+pub fn say(out: &impl Print, tally: Tally) -> io::Result<()> {
+    println!(out; "replayed {}, apart {}", tally.replayed, tally.apart)
 }

@@ -1,13 +1,20 @@
 // The program: reads one kind 1 record from standard input, and writes its listing to standard output.
 #![tactic(auto)]
 
-use libc::{STDIN_FILENO, STDOUT_FILENO};
+use std::io;
+use std::io::{Cursor, Read};
 
-fn main() {
-    // A byte more than the record has, so that a longer input is seen and refused.
-    let mut input = [0u8; 22];
-    let count = io::read_full(STDIN_FILENO, &mut input);
+// A byte more than the record has, so that a longer input is seen and refused.
+const MOST: usize = 22;
+
+fn main(rt: HostRuntime) -> io::Result<()> {
+    let mut input = [0u8; MOST];
+    let read = io::copy(
+        &mut rt.stdin().take(MOST as u64),
+        &mut Cursor::new(&mut input[..]),
+    )?;
+    let count = read.min(MOST as u64) as usize;
     let mut out = [0u8; listing::ROOM];
     let size = listing::list(&input[..count], &mut out);
-    io::write_all(STDOUT_FILENO, &out[..size]);
+    rt.write_all(&out[..size])
 }

@@ -4,7 +4,7 @@ ghost use Rattle.refusals.specs.Outcome.{judged};
 ghost use Rattle.refusals.specs.Answers.{verdict_outcome};
 ghost use Rattle.bond.specs.Price.{price as price_at, dv01 as dv01At, current_yield, zero_coupon_price};
 ghost use Rattle.bond.specs.Yield.{yield_to_maturity};
-ghost use Rattle.bond.specs.Durations.{macaulay_duration, modified_duration, convexity as convexityAt, price_change, macaulay_at_price, modified_at_price, convexity_at_price};
+ghost use Rattle.bond.specs.Durations.{macaulay_duration, modified_duration, convexity as convexity_at, price_change, macaulay_at_price, modified_at_price, convexity_at_price};
 ghost use Rattle.senyolanda.specs.Told.{told_number};
 ghost use Rattle.senyolanda.specs.Bonds.{uncoded_lines, bond_read, bond_in_outcome, of_bond, periods_per_year_of};
 
@@ -131,7 +131,7 @@ pub extern "C" fn senyolanda_bond_modified_duration(
 
 #[unsafe(no_mangle)]
 pub extern "C" fn senyolanda_bond_convexity(record: &[u8], ytm: f64, convexity: &mut f64) -> u64
-    ensures { (result, convexity.new) ≡ told_number (of_bond «record».now ytm (convexityAt ytm)) convexity.old }
+    ensures { (result, convexity.new) ≡ told_number (of_bond «record».now ytm (convexity_at ytm)) convexity.old }
 {
     match bond_in(record, ytm) {
         BondIn::Refused(refusal) => refusal_result(refusal),

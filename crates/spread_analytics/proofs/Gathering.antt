@@ -1,16 +1,16 @@
 -- A list of dated amounts gathered into two rooms of 1,200 places, one flow after the other: once all are in, the rooms begin with the two lists that the flows are.
 -- And what is answered over those rooms is the core's answer at the flows' two lists. Assumes nothing.
 use mathlib.Core.Path.{◌≡◌, refl, sym, ap, ◌∙◌}
-use mathlib.Core.Bool.{Bool, true, false, cond}
+use mathlib.Core.Bool.{cond}
 use mathlib.Core.List.{List, [], ◌∷◌, ◌++◌, map}
-use Prim.Native.Nat.{ℕ, zero, suc, ◌<◌, ◌≤◌, zero-le}
+use Prim.Native.Nat.{ℕ, zero, suc, ◌<◌, ◌≤◌}
 use native.Mathlib.Nat.{le_refl}
 use native.Mathlib.Omega.{arith}
 use lib.Dec.{ltb}
 use lib.ListN.{length, take, get_or, set, replicate, length-set, length-map, length-replicate, get_or-map}
 use lib.Seq.{take-suc, take-suc-set, take-length}
-use lib.Ieee.{Float}
-use borrow.Author.Tests.{ltb-false, lt-ltb, le-ltb}
+use lib.Ieee.{Float, nan}
+use borrow.Author.Tests.{lt-ltb, le-ltb}
 use Rattle.numbers.specs.Clamps.{plus_zero}
 use Rattle.spread_analytics.specs.declared.dated.CashFlow.{CashFlow}
 use Rattle.spread_analytics.specs.declared.dated.Lists.{Lists}
@@ -18,8 +18,8 @@ use Rattle.spread_analytics.specs.Dated.{times_of, amounts_of}
 
 -- ---- one column
 -- what stands past the end, which nothing reads
-unfoldable pub none : CashFlow
-none = record { time = plus_zero; amount = plus_zero }
+abbrev pub none : CashFlow
+none = record { time = nan; amount = nan }
 
 -- a room, once the first k are in
 unfoldable pub column : (CashFlow → Float) → ℕ → List CashFlow → List Float
@@ -81,14 +81,6 @@ taking_few n h = rw (le-ltb _ _ h)
 
 pub taking_many : (n : ℕ) → 1200 < n → taking n ≡ 0
 taking_many n h = rw (lt-ltb _ _ h)
-
--- as many as are taken stand in the list, and in the room
-pub taking_bounds : (n : ℕ) → (taking n ≤ n) × (taking n ≤ 1200)
-taking_bounds n = go (ltb 1200 n) (ltb-false 1200 n)
-  where
-    go : (z : Bool) → (z ≡ false → n ≤ 1200) → (cond z 0 n ≤ n) × (cond z 0 n ≤ 1200)
-    go true h = (zero-le, zero-le)
-    go false h = (le_refl n, h refl)
 
 -- two rooms hold the flows
 abbrev pub Hold : List CashFlow → Lists → Type 0

@@ -10,8 +10,5 @@ pub mod CarriedOn
 pub mod Halvings
 pub mod TooMany
 pub mod Gathering
-pub mod LocalArrays
-pub mod Enter
-pub mod ThinWalk
 pub mod Tight
 pub mod Exactly

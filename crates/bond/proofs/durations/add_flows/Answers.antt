@@ -1,6 +1,6 @@
 -- `bond::durations::add_flows` meets its contract: each turn of the loop adds one term. Assumes nothing.
 use mathlib.Core.Path.{◌≡◌, ◌∙◌}
-use Prim.Native.Nat.{◌+◌, ◌-◌, ◌*◌, ◌/◌, ◌≤◌, ◌<◌}
+use Prim.Native.Nat.{◌+◌, ◌*◌, ◌/◌, ◌≤◌, ◌<◌}
 use native.Mathlib.Omega.{arith}
 use Rattle.bond.specs.inner.Weighted.{weighted_by}
 use Rattle.bond.proofs.FlowSums.{added_at, coupon_worth, power_of, term}

@@ -1,6 +1,5 @@
 -- `curves::curve::judge_knots` meets its contract: what line 6 says of all the knots is what it says from the knot in hand on. Assumes nothing.
 use mathlib.Core.Path.{sym, ◌∙◌}
-use Prim.Native.Nat.{◌-◌}
 use native.Mathlib.Omega.{arith}
 use lib.Ieee.{neg}
 use Rattle.curves.proofs.KnotLine.{at_start, stops, goes_on, ended}

@@ -1,7 +1,7 @@
 -- `curves::each::answer_few` meets its contract: the answers passed have come back from the room. Assumes nothing.
 use mathlib.Core.Path.{refl, sym, ap, ◌∙◌}
 use mathlib.Core.List.{List, map}
-use Prim.Native.Nat.{◌-◌, ◌≤◌, ◌<◌}
+use Prim.Native.Nat.{◌≤◌, ◌<◌}
 use native.Mathlib.Omega.{arith}
 use lib.ListN.{length, length-set, length-map, get_or}
 use lib.Seq.{ext_get_or}

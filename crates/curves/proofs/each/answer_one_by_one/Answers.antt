@@ -1,6 +1,5 @@
 -- `curves::each::answer_one_by_one` meets its contract: the times passed have given way to their answers. Assumes nothing.
 use mathlib.Core.Path.{refl}
-use Prim.Native.Nat.{◌-◌}
 use native.Mathlib.Omega.{arith}
 use lib.ListN.{length-set}
 use Rattle.elementary.proofs.PartWay.{none_passed, as_it_was, one_passed, all_passed}

@@ -1,6 +1,5 @@
 -- `curves::each::answer_onward` meets its contract: the times passed have given way to their answers, and the last of them is past the segments before the one in hand. Assumes nothing.
 use mathlib.Core.Path.{refl, sym, ap, ◌∙◌, subst}
-use Prim.Native.Nat.{◌-◌}
 use native.Mathlib.Omega.{arith}
 use lib.ListN.{length-set, get_or}
 use lib.Ieee.{Float, nan}

@@ -1,6 +1,5 @@
 -- `curves::each::judge_times` meets its contract: no time before the one in hand is bad. Assumes nothing.
 use mathlib.Core.Path.{sym, ◌∙◌}
-use Prim.Native.Nat.{◌-◌}
 use native.Mathlib.Omega.{arith}
 use lib.Ieee.{nan}
 use Rattle.refusals.specs.Table.{bad_time}

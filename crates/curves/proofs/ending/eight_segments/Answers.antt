@@ -1,6 +1,5 @@
 -- `curves::ending::eight_segments` meets its contract: each turn of the outer loop is a turn of all eight lanes. Assumes nothing.
 use mathlib.Core.Path.{refl}
-use Prim.Native.Nat.{◌-◌}
 use native.Mathlib.Omega.{arith}
 use lib.ListN.{length-set}
 use Rattle.curves.specs.inner.Halving.{ending, segment_by}

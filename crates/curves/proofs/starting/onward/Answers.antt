@@ -1,5 +1,4 @@
 -- `curves::starting::onward` meets its contract: the time is past every segment before the one in hand. Assumes nothing.
-use Prim.Native.Nat.{◌-◌}
 use native.Mathlib.Omega.{arith}
 use Rattle.curves.specs.inner.Halving.{starting, segment_by, passes}
 use Rattle.curves.proofs.Onward.{started, one_further, found_here, found_last}

@@ -1,5 +1,5 @@
 -- `dates::day_numbers::month_at` meets its contract. The loop's invariant: the month is one of the year's and no more days lie before it. The measure is the months left to the thirteenth. Assumes nothing.
-use Prim.Native.Nat.{◌+◌, ◌-◌, ◌/◌, ◌≤◌}
+use Prim.Native.Nat.{◌+◌, ◌/◌, ◌≤◌}
 use native.Mathlib.Omega.{arith}
 use Rattle.dates.specs.DayNumbers.{days_before_month}
 use Rattle.dates.proofs.Parts.{days_in_bounds}

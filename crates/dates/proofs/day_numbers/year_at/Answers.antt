@@ -1,5 +1,5 @@
 -- `dates::day_numbers::year_at` meets its contract. The loop's invariant: the year is from 1900 to 2199 and no more days lie before it. The measure is the years left to 2200. Assumes nothing.
-use Prim.Native.Nat.{◌+◌, ◌-◌, ◌/◌, ◌≤◌}
+use Prim.Native.Nat.{◌+◌, ◌/◌, ◌≤◌}
 use native.Mathlib.Omega.{arith}
 use Rattle.dates.specs.DayNumbers.{days_before_year}
 use Rattle.dates.proofs.YearDays.{starts_early, before_2200}

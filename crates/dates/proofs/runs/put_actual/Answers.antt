@@ -1,5 +1,4 @@
 -- `dates::runs::put_actual` meets its contract: each turn writes the days between two numbers more. Assumes nothing.
-use Prim.Native.Nat.{◌-◌}
 use native.Mathlib.Omega.{arith}
 use lib.ListN.{length-set}
 use Rattle.dates.proofs.DayLists.{one_more_follows, fewer_follow}

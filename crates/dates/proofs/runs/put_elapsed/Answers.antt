@@ -1,5 +1,4 @@
 -- `dates::runs::put_elapsed` meets its contract: each turn writes the days to one number more. Assumes nothing.
-use Prim.Native.Nat.{◌-◌}
 use native.Mathlib.Omega.{arith}
 use lib.ListN.{length-set}
 use Rattle.dates.proofs.DayLists.{one_more_follows, fewer_follow}

@@ -1,5 +1,4 @@
 -- `dates::runs::put_numbers` meets its contract: each turn writes the number of one rank more. Assumes nothing.
-use Prim.Native.Nat.{◌-◌}
 use native.Mathlib.Omega.{arith}
 use lib.ListN.{length-set}
 use Rattle.dates.proofs.DayLists.{one_more_follows, fewer_follow}

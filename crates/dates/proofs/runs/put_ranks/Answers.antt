@@ -1,5 +1,4 @@
 -- `dates::runs::put_ranks` meets its contract: each turn writes the rank of one bound more. Assumes nothing.
-use Prim.Native.Nat.{◌-◌}
 use native.Mathlib.Omega.{arith}
 use lib.ListN.{length-set}
 use Rattle.dates.proofs.DayLists.{one_more_follows, fewer_follow}

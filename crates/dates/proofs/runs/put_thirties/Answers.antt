@@ -1,5 +1,4 @@
 -- `dates::runs::put_thirties` meets its contract: each turn writes the count between two ranks more. Assumes nothing.
-use Prim.Native.Nat.{◌-◌}
 use native.Mathlib.Omega.{arith}
 use lib.ListN.{length-set}
 use Rattle.dates.proofs.DayLists.{one_more_follows, fewer_follow}

@@ -1,5 +1,4 @@
 -- `elementary::exp::all_inside` meets its contract: each number passed is neither a NaN nor beyond an end. Assumes nothing.
-use Prim.Native.Nat.{◌-◌}
 use native.Mathlib.Omega.{arith}
 use borrow.Author.Count.{below_more}
 use Rattle.elementary.proofs.ExpSteps.{minus_708, further_inside}

@@ -1,6 +1,5 @@
 -- `elementary::exp::exp_blocks` meets its contract: the numbers before `at` are done, the others as they were. Assumes nothing.
 use mathlib.Core.Path.{refl}
-use Prim.Native.Nat.{◌-◌}
 use native.Mathlib.Omega.{arith}
 use lib.ListN.{length-take, length-drop}
 use Rattle.elementary.specs.Exp.{exp}

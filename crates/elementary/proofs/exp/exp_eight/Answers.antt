@@ -1,5 +1,4 @@
 -- `elementary::exp::exp_eight` meets its contract: eight at once where none passes an end, otherwise one by one. Assumes nothing.
-use Prim.Native.Nat.{◌-◌}
 use native.Mathlib.Omega.{arith}
 use Rattle.elementary.proofs.Lanes.{none_ready, inside_here, one_ready, all_ready, none_joined, one_joined, all_joined}
 use Rattle.elementary.proofs.exp.exp_eight.Goals as goal

@@ -1,6 +1,5 @@
 -- `elementary::exp::exp_one_by_one` meets its contract: the numbers passed are done, the others as they were. Assumes nothing.
 use mathlib.Core.Path.{refl, ap, ◌∙◌}
-use Prim.Native.Nat.{◌-◌}
 use native.Mathlib.Omega.{arith}
 use Rattle.elementary.specs.Exp.{exp}
 use Rattle.elementary.proofs.PartWay.{none_passed, as_it_was, one_passed, all_passed}

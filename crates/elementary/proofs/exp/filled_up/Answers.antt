@@ -1,6 +1,5 @@
 -- `elementary::exp::filled_up` meets its contract: the numbers passed stand in the room. Assumes nothing.
 use mathlib.Core.Path.{refl}
-use Prim.Native.Nat.{◌-◌}
 use native.Mathlib.Omega.{arith}
 use lib.ListN.{length-set}
 use Rattle.elementary.proofs.PartWay.{copied_further}

@@ -1,6 +1,5 @@
 -- `elementary::powers::multiply_each` meets its contract: the numbers passed are multiplied, the others as they were. Assumes nothing.
 use mathlib.Core.Path.{refl, ap}
-use Prim.Native.Nat.{◌-◌}
 use native.Mathlib.Omega.{arith}
 use Rattle.elementary.proofs.PartWay.{none_passed, as_it_was, one_passed, all_passed}
 use Rattle.elementary.proofs.powers.multiply_each.Invariants.{times}

@@ -19,10 +19,10 @@ loop-left-preserved c =
     let h = c.loop-left in
     -- the numbers after the `if`, at an odd exponent and at an even one
     let multiplied : (map (λ (x : Float). turns h.left h.left x h.square) h.numbers ≡ map (λ (x : Float). turns (h.left / 2) (h.left / 2) x (mul binary64 h.square h.square)) c.if-left-eq1.numbers) × (length c.if-left-eq1.numbers ≡ length h.numbers) =
-      elim c.if-left-eq1.branch [
-        | then-left-eq1 w ↦ (let e = w.numbers-is ∙ w.multiply_each.ensures in (odd_turn h.left h.square h.numbers w.if-left-eq1.true ∙ ap (map _) (sym e), rw e (length-map h.numbers _)))
-        | else-left-eq1 w ↦ (even_turn h.left h.square h.numbers w.if-left-eq1.false ∙ ap (map _) (sym w.numbers-is), ap length w.numbers-is)
-      ] in
+    elim c.if-left-eq1.branch [
+      | then-left-eq1 w ↦ (let e = w.numbers-is ∙ w.multiply_each.ensures in (odd_turn h.left h.square h.numbers w.if-left-eq1.true ∙ ap (map _) (sym e), rw e (length-map h.numbers _)))
+      | else-left-eq1 w ↦ (even_turn h.left h.square h.numbers w.if-left-eq1.false ∙ ap (map _) (sym w.numbers-is), ap length w.numbers-is)
+    ] in
     (h.invariant.0 ∙ multiplied.0, multiplied.1 ∙ h.invariant.1)
 
 pub shape_of-numbers : goal.shape_of-numbers

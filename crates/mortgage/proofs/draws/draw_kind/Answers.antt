@@ -10,7 +10,8 @@ use Rattle.mortgage.proofs.draws.draw_kind.Goals as goal
 pub lay_due-requires : goal.lay_due-requires
 lay_due-requires c =
     let a = c.args in
-    may_lay (way_of a.kind a.index.now) a.loan (length a.room.now) (sym (ap verdict_outcome c.in-Accepted.is) ∙ c.judge_draw.ensures)
+    let whole = may_lay (way_of a.kind a.index.now) a.loan (length a.room.now) (sym (ap verdict_outcome c.in-Accepted.is) ∙ c.judge_draw.ensures) in
+    record { done_bound = whole.0; term_bound = whole.1 }
 
 pub returns-in-Refused : goal.returns-in-Refused
 returns-in-Refused c =

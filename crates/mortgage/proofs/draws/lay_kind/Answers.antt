@@ -1,28 +1,24 @@
 -- `mortgage::draws::lay_kind` meets its contract: an adjustable loan's rows are laid year by year, and every other kind's are those of its course. Assumes nothing.
-use mathlib.Core.Path.{◌≡◌}
-use mathlib.Core.Logic.{⊎_elim}
-use mathlib.Core.List.{List, [], ◌∷◌}
-use native.Mathlib.Omega.{arith}
+use mathlib.Core.Path.{◌≡◌, refl}
+use mathlib.Core.List.{List}
 use lib.Ieee.{Float}
-use denote.Enum.Declared.{tag_of}
-use types.Run.{OneOf}
 use Rattle.mortgage.specs.declared.Loan.{Loan}
+use Rattle.mortgage.specs.declared.kinds.Adjustment.{Adjustment}
 use Rattle.mortgage.specs.declared.kinds.Kind.{Kind}
 use Rattle.mortgage.specs.declared.kinds.Kind.TheVariants as kind_is
 use Rattle.mortgage.specs.Kinds.{way_of}
 use Rattle.mortgage.specs.Rates.{in_force}
-use Rattle.mortgage.specs.contracts.kinds.Kind.{the_type}
 use Rattle.mortgage.proofs.SteadyKinds.{steady_laid, level_steady, interest_only_steady, balloon_steady}
 use Rattle.mortgage.proofs.RowsLaid.{end_is}
 use Rattle.mortgage.proofs.DrawOrder.{adjustable_needs, adjustable_laid}
 use Rattle.mortgage.proofs.draws.lay_kind.Goals as goal
 
 -- what the other arm leaves over
-other_kinds : (kind : Kind) (index : List Float) → OneOf (0 ∷ 1 ∷ 2 ∷ []) (tag_of the_type kind) → (l : Loan) → in_force (way_of kind index) l ≡ l
+other_kinds : (kind : Kind) (index : List Float) → ((x : Adjustment) → kind ≡ kind_is.Adjustable x → ⊥) → (l : Loan) → in_force (way_of kind index) l ≡ l
 other_kinds kind_is.Level index k l = level_steady l
 other_kinds (kind_is.InterestOnly months) index k l = interest_only_steady months l
 other_kinds (kind_is.Balloon month) index k l = balloon_steady month l
-other_kinds (kind_is.Adjustable a) index k l = absurd (⊎_elim (λ e. omega arith) (λ f. ⊎_elim (λ e. omega arith) (λ e. omega arith) f) k)
+other_kinds (kind_is.Adjustable a) index k l = absurd (k a refl)
 
 pub lay_years-requires : goal.lay_years-requires
 lay_years-requires c =
@@ -46,6 +42,6 @@ pub returns-in_default : goal.returns-in_default
 returns-in_default c =
     let y = c.lay_course in
     let a = c.args in
-    let whole = steady_laid (way_of a.kind a.index.now) (other_kinds a.kind a.index.now c.in_default.keys2) c.course_of-course.result a.count a.loan y.result a.room.now _
+    let whole = steady_laid (way_of a.kind a.index.now) (other_kinds a.kind a.index.now c.in_default.not-Adjustable) c.course_of-course.result a.count a.loan y.result a.room.now _
     (c.course_of-course.ensures a.index.now) y.ensures.value y.ensures.room_after in
     record { value = whole.0; room_after = whole.1 }

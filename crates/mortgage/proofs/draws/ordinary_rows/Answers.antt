@@ -15,10 +15,7 @@ loop-k-init c = let a = c.args in begun (next_on a.course) (places_on a.course) 
 pub ordinary_month-month-requires : goal.ordinary_month-month-requires
 ordinary_month-month-requires c =
     let i = c.loop-k.invariant in
-    let w = c.loop-k-test.true in (
-      (not_alone_on c.args.course c.loop-k.k c.args.loan _ i.1 (omega (arith, c.requires.1)), next_not_last c.args.course c.loop-k.k c.args.most _ _ i.1 w c.requires.2),
-      ((rw c.monthly_rate-rate.ensures (interest_on_lem c.args.course c.loop-k.k c.args.loan _ i.1), refl), (c.if-principal.true, c.if-principal-l.true)),
-    )
+    let w = c.loop-k-test.true in record { only_le_done = (not_alone_on c.args.course c.loop-k.k c.args.loan _ i.1 (omega (arith, c.requires.1)), next_not_last c.args.course c.loop-k.k c.args.most _ _ i.1 w c.requires.2); interest_value = (rw c.monthly_rate-rate.ensures (interest_on_lem c.args.course c.loop-k.k c.args.loan _ i.1), refl); principal_value = (c.if-principal.true, c.if-principal-l.true) }
 
 pub loop-k-preserved : goal.loop-k-preserved
 loop-k-preserved c =

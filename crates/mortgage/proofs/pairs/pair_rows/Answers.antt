@@ -18,14 +18,14 @@ ordinary_month-x_month-requires c =
     let i = c.loop-k.invariant in
     let w = c.loop-k-test.true in
     let o = c.level_course-x_course in
-    (no_last_along o.result c.loop-k.k c.args.first _ o.ensures i.1 c.args.most w c.requires.most_bound.0, ((rw c.monthly_rate-x_rate.ensures (interest_along o.result c.loop-k.k c.args.first _ o.ensures i.1), refl), (c.if-x_principal.true, c.if-x_principal-x.true)))
+    record { only_le_done = no_last_along o.result c.loop-k.k c.args.first _ o.ensures i.1 c.args.most w c.requires.most_bound.0; interest_value = (rw c.monthly_rate-x_rate.ensures (interest_along o.result c.loop-k.k c.args.first _ o.ensures i.1), refl); principal_value = (c.if-x_principal.true, c.if-x_principal-x.true) }
 
 pub ordinary_month-y_month-requires : goal.ordinary_month-y_month-requires
 ordinary_month-y_month-requires c =
     let i = c.loop-k.invariant in
     let w = c.loop-k-test.true in
     let o = c.level_course-y_course in
-    (no_last_along o.result c.loop-k.k c.args.second _ o.ensures i.2 c.args.most w c.requires.most_bound.1, ((rw c.monthly_rate-y_rate.ensures (interest_along o.result c.loop-k.k c.args.second _ o.ensures i.2), refl), (c.if-y_principal.true, c.if-y_principal-y.true)))
+    record { only_le_done = no_last_along o.result c.loop-k.k c.args.second _ o.ensures i.2 c.args.most w c.requires.most_bound.1; interest_value = (rw c.monthly_rate-y_rate.ensures (interest_along o.result c.loop-k.k c.args.second _ o.ensures i.2), refl); principal_value = (c.if-y_principal.true, c.if-y_principal-y.true) }
 
 pub put_row-requires : goal.put_row-requires
 put_row-requires c = omega (arith, c.requires.most_nonzero, c.loop-k.invariant, c.loop-k-test.true)
@@ -56,7 +56,7 @@ loop-k-preserved c =
     let xm = level_month xc.result c.loop-k.k c.args.first c.loop-k.x xc.ensures c.loop-k.invariant.1 x.result.row x.result.next x.ensures in
     let ym = level_month yc.result c.loop-k.k c.args.second c.loop-k.y yc.ensures c.loop-k.invariant.2 y.result.row y.result.next y.ensures in
     a_turn (next_of level) (row_places level) width (wide level) c.args.room.now c.args.a c.args.b c.args.first c.args.second c.args.most c.loop-k.room first.new.room second.new.room
-    c.loop-k.x c.loop-k.y x.result.next y.result.next c.loop-k.x-at c.loop-k.y-at c.loop-k.k (places x.result.row) (places y.result.row)
+    c.loop-k.x c.loop-k.y x.result.next y.result.next c.loop-k.x_at c.loop-k.y_at c.loop-k.k (places x.result.row) (places y.result.row)
     c.requires.most_nonzero.1 c.loop-k.invariant c.loop-k-test.true
     (ap places xm.0) xm.1 (ap places ym.0) ym.1
     first.ensures second.ensures (second.auto.room ∙ first.auto.room)

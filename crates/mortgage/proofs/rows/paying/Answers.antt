@@ -9,4 +9,4 @@ pub returns : goal.returns
 returns c =
     let m = c.month_of.ensures in
     let shown = c.raise_to_zero.ensures ∙ nothing_added _ (sub-fits binary64 _ _) in
-    record { row_value = rw (← shown) m.0; next_value = m.1 }
+    record { row_value = rw (← shown) m.row_value; next_value = m.next_value }

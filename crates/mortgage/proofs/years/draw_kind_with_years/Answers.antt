@@ -9,14 +9,14 @@ pub returns-then-bad_term : goal.returns-then-bad_term
 returns-then-bad_term c =
     let a = c.args in
     let whole = refused_at_once (way_of a.kind a.index.now) a.loan a.room.now a.years.now 2 _ c.refuse.ensures (years_bad_term (way_of a.kind a.index.now) a.loan a.room.now a.years.now (sym c.bad_term.ensures ∙ c.if-bad_term.true)) in
-    record { result_value = whole.0; room_after = whole.1; years_after = whole.2 }
+    record { result_value = whole.0; room_after = whole.1.0; years_after = whole.1.1 }
 
 pub returns-then-too_few : goal.returns-then-too_few
 returns-then-too_few c =
     let a = c.args in
     let whole = refused_at_once (way_of a.kind a.index.now) a.loan a.room.now a.years.now 3 _ c.refuse-then-too_few.ensures
     (years_too_few (way_of a.kind a.index.now) a.loan a.room.now a.years.now (sym c.bad_term.ensures ∙ c.if-bad_term.false) (sym c.too_few.ensures ∙ c.if-too_few.true)) in
-    record { result_value = whole.0; room_after = whole.1; years_after = whole.2 }
+    record { result_value = whole.0; room_after = whole.1.0; years_after = whole.1.1 }
 
 pub enter_rows-requires : goal.enter_rows-requires
 enter_rows-requires c =
@@ -29,10 +29,11 @@ returns-in-Refused c =
     let a = c.args in
     let whole = refused_by_draw (way_of a.kind a.index.now) a.loan a.room.now a.years.now (sym c.bad_term.ensures ∙ c.if-bad_term.false) (sym c.too_few.ensures ∙ c.if-too_few.false) _ _ c.draw_kind.new.room
     (sym (ap drawing_outcome c.in-Refused.is) ∙ c.draw_kind.ensures.result_value) c.draw_kind.ensures.room_after in
-    record { result_value = whole.0; room_after = whole.1; years_after = whole.2 }
+    record { result_value = whole.0; room_after = whole.1.0; years_after = whole.1.1 }
 
 pub returns-in-Drawn : goal.returns-in-Drawn
 returns-in-Drawn c =
     let a = c.args in
-    drawn_and_entered (way_of a.kind a.index.now) a.loan a.room.now a.years.now (sym c.bad_term.ensures ∙ c.if-bad_term.false) (sym c.too_few.ensures ∙ c.if-too_few.false) _ c.draw_kind.new.room
-    (sym (ap drawing_outcome c.in-Drawn.is) ∙ c.draw_kind.ensures.result_value) c.draw_kind.ensures.room_after _ c.enter_rows.ensures
+    let whole = drawn_and_entered (way_of a.kind a.index.now) a.loan a.room.now a.years.now (sym c.bad_term.ensures ∙ c.if-bad_term.false) (sym c.too_few.ensures ∙ c.if-too_few.false) _ c.draw_kind.new.room
+    (sym (ap drawing_outcome c.in-Drawn.is) ∙ c.draw_kind.ensures.result_value) c.draw_kind.ensures.room_after _ c.enter_rows.ensures in
+    record { result_value = whole.0; room_after = whole.1.0; years_after = whole.1.1 }

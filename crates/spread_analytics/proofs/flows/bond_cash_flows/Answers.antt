@@ -23,10 +23,11 @@ pub returns-in-Refused : goal.returns-in-Refused
 returns-in-Refused c =
     let a = c.args in
     let whole = refused_untouched a.face a.coupon a.tenor a.frequency _ a.times.now a.amounts.now _ c.flow_count-count.ensures c.judge_bond_flows.ensures _ c.in-Refused.is in
-    record { result_value = whole.0; times_after = whole.1; amounts_after = whole.2 }
+    record { result_value = whole.0; times_after = whole.1.0; amounts_after = whole.1.1 }
 
 pub returns-in-Accepted : goal.returns-in-Accepted
 returns-in-Accepted c =
     let a = c.args in
-    accepted_put a.face a.coupon a.tenor a.frequency _ a.times.now a.amounts.now _ c.flow_count-count.ensures c.judge_bond_flows.ensures c.in-Accepted.is
-    _ _ c.flow_period.ensures c.flow_coupon.ensures _ _ c.put_times.ensures c.put_amounts.ensures
+    let whole = accepted_put a.face a.coupon a.tenor a.frequency _ a.times.now a.amounts.now _ c.flow_count-count.ensures c.judge_bond_flows.ensures c.in-Accepted.is
+    _ _ c.flow_period.ensures c.flow_coupon.ensures _ _ c.put_times.ensures c.put_amounts.ensures in
+    record { result_value = whole.0; times_after = whole.1.0; amounts_after = whole.1.1 }

@@ -1,6 +1,5 @@
 -- `spread_analytics::flows::put_amounts` meets its contract: after i turns the first i amounts are put. Assumes nothing.
 use mathlib.Core.Path.{◌∙◌}
-use Prim.Native.Nat.{◌-◌}
 use native.Mathlib.Numerals.{add-one}
 use native.Mathlib.Omega.{arith}
 use Rattle.steps.proofs.Places.{none_put, one_more, all_put}

@@ -1,5 +1,4 @@
 -- `spread_analytics::flows::put_times` meets its contract: after i turns the first i times are put. Assumes nothing.
-use Prim.Native.Nat.{◌-◌}
 use native.Mathlib.Numerals.{add-one}
 use native.Mathlib.Omega.{arith}
 use Rattle.steps.proofs.Places.{none_put, one_more, all_put}

@@ -1,7 +1,6 @@
 -- `spread_analytics::judging::judge_items` meets its contract: what the line says of all the items is what it says from the item in hand on. Assumes nothing.
 use mathlib.Core.Path.{sym, ap, ◌∙◌}
 use mathlib.Core.Bool.{not}
-use Prim.Native.Nat.{◌-◌}
 use lib.Ieee.{nan}
 use Rattle.refusals.specs.Table.{bad_number}
 use Rattle.refusals.proofs.Placing.{none_bad}

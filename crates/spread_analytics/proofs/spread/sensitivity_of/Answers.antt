@@ -10,4 +10,4 @@ returns-then-absolute_value c =
 pub returns : goal.returns
 returns c =
     let a = c.args in
-    sensitivity_is a.times.now a.amounts.now a.tenors.now a.rates.now _ _ _ c.sums_over-sums.ensures.worth_value c.absolute_value.ensures c.if-absolute_value.false _ _ c.sums_over-sums.ensures.timed_value.0 c.sums_over-sums.ensures.timed_value.1
+    sensitivity_is a.times.now a.amounts.now a.tenors.now a.rates.now _ _ _ c.sums_over-sums.ensures.worth_value c.absolute_value.ensures c.if-absolute_value.false _ _ c.sums_over-sums.ensures.timed_value c.sums_over-sums.ensures.squared_value

@@ -1,8 +1,8 @@
 -- `spread_analytics::spread::spread_within` meets its contract: what the search is still to give is what it gives from the ends in hand, whose lower error is kept. Assumes nothing.
 use mathlib.Core.Path.{refl, sym, ◌∙◌}
-use mathlib.Core.Logic.{⊎_elim}
 use Rattle.spread_analytics.proofs.Halvings.{no_turn, close, lower_half, upper_half}
 use native.Mathlib.Omega.{arith}
+use Rattle.spread_analytics.proofs.spread.spread_within.Goals.{then-below-error, else-below-error}
 use Rattle.spread_analytics.proofs.spread.spread_within.Goals as goal
 
 pub loop-left-init : goal.loop-left-init
@@ -28,12 +28,12 @@ loop-left-preserved c =
       λ tenors rates k l.
           let i = c.loop-left.invariant.1 tenors rates k l in
           let error = c.error_at-error.ensures tenors rates k in
-          ⊎_elim
-          (λ u. lower_half a.times.now a.amounts.now tenors rates a.market c.loop-left.lo c.loop-left.hi c.loop-left.left c.loop-left-test.true _ c.absolute_value.ensures
-          c.if-absolute_value.false c.loop-left.below _ i.0 error _ c.if-below-error.lo c.if-below-error.hi c.if-below-error.below i.1 u.0.taken u.1 u.2 u.3)
-          (λ u. upper_half a.times.now a.amounts.now tenors rates a.market c.loop-left.lo c.loop-left.hi c.loop-left.left c.loop-left-test.true _ c.absolute_value.ensures
-          c.if-absolute_value.false c.loop-left.below _ i.0 error _ c.if-below-error.lo c.if-below-error.hi c.if-below-error.below i.1 u.0.left u.1 u.2 u.3)
-          c.if-below-error.branch,
+          elim c.if-below-error.branch [
+            | then-below-error w ↦ lower_half a.times.now a.amounts.now tenors rates a.market c.loop-left.lo c.loop-left.hi c.loop-left.left c.loop-left-test.true _ c.absolute_value.ensures
+                c.if-absolute_value.false c.loop-left.below _ i.0 error _ c.if-below-error.lo c.if-below-error.hi c.if-below-error.below i.1 w.if-below-error.true w.lo-is w.hi-is w.below-is
+            | else-below-error w ↦ upper_half a.times.now a.amounts.now tenors rates a.market c.loop-left.lo c.loop-left.hi c.loop-left.left c.loop-left-test.true _ c.absolute_value.ensures
+                c.if-absolute_value.false c.loop-left.below _ i.0 error _ c.if-below-error.lo c.if-below-error.hi c.if-below-error.below i.1 w.if-below-error.false w.lo-is w.hi-is w.below-is
+          ],
     )
 
 pub shape_of-room : goal.shape_of-room

@@ -1,6 +1,6 @@
 -- `spread_analytics::spread::sums_over` meets its contract: the blocks before are added, in each sum. Assumes nothing.
 use mathlib.Core.Path.{◌≡◌, refl, sym, ap, ◌∙◌}
-use Prim.Native.Nat.{ℕ, ◌-◌, ◌≤◌}
+use Prim.Native.Nat.{ℕ, ◌≤◌}
 use native.Mathlib.Omega.{arith}
 use lib.ListN.{length, length-take, length-drop}
 use lib.Ieee.{Float, binary64, mul}
@@ -50,8 +50,8 @@ loop-at-preserved c =
     let n = to_end times a e h l in (
       l,
       c.sums_on-sums.ensures.by_index _ a c.loop-at.invariant.1 (worth_term times amounts tenors rates factors s a e h l c.requires.0 g) ∙ ap (added_up _) n,
-      c.sums_on-sums.ensures.by_index_2.0 _ a c.loop-at.invariant.2 (timed_term_lem times amounts tenors rates factors s a e h l c.requires.0 g) ∙ ap (added_up _) n,
-      c.sums_on-sums.ensures.by_index_2.1 _ a c.loop-at.invariant.3 (squared_term times amounts tenors rates factors s a e h l c.requires.0 g) ∙ ap (added_up _) n,
+      c.sums_on-sums.ensures.by_index_2 _ a c.loop-at.invariant.2 (timed_term_lem times amounts tenors rates factors s a e h l c.requires.0 g) ∙ ap (added_up _) n,
+      c.sums_on-sums.ensures.by_index_3 _ a c.loop-at.invariant.3 (squared_term times amounts tenors rates factors s a e h l c.requires.0 g) ∙ ap (added_up _) n,
     )
 
 pub returns : goal.returns
@@ -62,10 +62,9 @@ returns c =
     let n = length times in
     let factor : Float → ℕ → Float = factor_of times amounts c.args.tenors.now c.args.rates.now in
     let e : c.loop-at.at ≡ n = omega arith in
-    let s = c.to_decimal-s.ensures in (
-      c.loop-at.invariant.1 ∙ ap (added_up _) e ∙ ap (λ (z : Float). added_up (λ (i : ℕ). mul binary64 (knot amounts i) (factor z i)) n) s,
-      (
-        c.loop-at.invariant.2 ∙ ap (added_up _) e ∙ ap (λ (z : Float). added_up (λ (i : ℕ). mul binary64 (mul binary64 (knot times i) (knot amounts i)) (factor z i)) n) s,
-        c.loop-at.invariant.3 ∙ ap (added_up _) e ∙ ap (λ (z : Float). added_up (λ (i : ℕ). mul binary64 (mul binary64 (mul binary64 (knot times i) (knot times i)) (knot amounts i)) (factor z i)) n) s,
-      ),
-    )
+    let s = c.to_decimal-s.ensures in
+    record {
+      worth_value = c.loop-at.invariant.1 ∙ ap (added_up _) e ∙ ap (λ (z : Float). added_up (λ (i : ℕ). mul binary64 (knot amounts i) (factor z i)) n) s;
+      timed_value = c.loop-at.invariant.2 ∙ ap (added_up _) e ∙ ap (λ (z : Float). added_up (λ (i : ℕ). mul binary64 (mul binary64 (knot times i) (knot amounts i)) (factor z i)) n) s;
+      squared_value = c.loop-at.invariant.3 ∙ ap (added_up _) e ∙ ap (λ (z : Float). added_up (λ (i : ℕ). mul binary64 (mul binary64 (mul binary64 (knot times i) (knot times i)) (knot amounts i)) (factor z i)) n) s;
+    }

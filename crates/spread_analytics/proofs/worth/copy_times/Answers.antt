@@ -1,6 +1,5 @@
 -- `spread_analytics::worth::copy_times` meets its contract: the times passed stand in the room. Assumes nothing.
 use mathlib.Core.Path.{refl}
-use Prim.Native.Nat.{◌-◌}
 use native.Mathlib.Omega.{arith}
 use lib.ListN.{length-set}
 use Rattle.elementary.proofs.PartWay.{copied_further}

@@ -1,6 +1,5 @@
 -- `spread_analytics::worth::discounted_on` meets its contract: after i turns the first i terms are added to those before. Assumes nothing.
 use mathlib.Core.Path.{◌≡◌}
-use Prim.Native.Nat.{◌-◌}
 use lib.ListN.{length}
 use Rattle.curves.proofs.Adding.{nothing_yet_lem, further, all_of}
 use native.Mathlib.Omega.{arith}

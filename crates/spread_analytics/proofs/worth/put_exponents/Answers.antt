@@ -1,6 +1,6 @@
 -- `spread_analytics::worth::put_exponents` meets its contract: after i turns the room holds the first i exponents. Assumes nothing.
 use mathlib.Core.Path.{refl}
-use Prim.Native.Nat.{ℕ, ◌-◌}
+use Prim.Native.Nat.{ℕ}
 use lib.ListN.{length-set}
 use Rattle.curves.specs.Segments.{knot}
 use borrow.Author.Count.{below_none}

@@ -1,6 +1,5 @@
 -- `spread_analytics::worth::sums_on` meets its contract: after i turns the first i terms of each sum are added to those before. Assumes nothing.
 use mathlib.Core.Path.{◌≡◌}
-use Prim.Native.Nat.{◌-◌}
 use lib.ListN.{length}
 use Rattle.curves.proofs.Adding.{nothing_yet_lem, further, all_of}
 use native.Mathlib.Omega.{arith}
@@ -18,4 +17,8 @@ pub returns : goal.returns
 returns c =
     let l = c.loop-i in
     let e : l.i ≡ length c.args.times.now = omega arith in
-    (all_of _ _ l.worth l.i _ e l.invariant.1, (all_of _ _ l.timed l.i _ e l.invariant.2, all_of _ _ l.squared l.i _ e l.invariant.3))
+    record {
+      by_index = all_of _ _ l.worth l.i _ e l.invariant.1;
+      by_index_2 = all_of _ _ l.timed l.i _ e l.invariant.2;
+      by_index_3 = all_of _ _ l.squared l.i _ e l.invariant.3;
+    }

@@ -1,6 +1,5 @@
 -- `swaps::bootstrap::judge_each` meets its contract: what line 6 says of all the knots is what it says from the knot in hand on. Assumes nothing.
 use mathlib.Core.Path.{sym, ◌∙◌}
-use Prim.Native.Nat.{◌-◌}
 use native.Mathlib.Omega.{arith}
 use lib.Ieee.{neg}
 use Rattle.swaps.proofs.ParLines.{at_start, stops, goes_on, ended}

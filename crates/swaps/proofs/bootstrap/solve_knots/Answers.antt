@@ -1,7 +1,7 @@
 -- `swaps::bootstrap::solve_knots` meets its contract: the tenors and the zero rates up to the knot in hand stand in front. Assumes nothing.
 use mathlib.Core.Path.{◌≡◌, refl}
 use mathlib.Core.List.{List}
-use Prim.Native.Nat.{ℕ, ◌+◌, ◌-◌, ◌≤◌}
+use Prim.Native.Nat.{ℕ, ◌+◌, ◌<◌, ◌≤◌}
 use native.Mathlib.Omega.{arith}
 use lib.ListN.{length, take, set, get_or, length-set}
 use lib.Ieee.{Float, nan}
@@ -11,34 +11,22 @@ use Rattle.swaps.proofs.Writing.{one_more_written, all_written}
 use Rattle.swaps.proofs.SolvedKnots.{room_rises, one_knot_more, knot_solved, all_solved}
 use Rattle.swaps.proofs.bootstrap.solve_knots.Goals as goal
 
--- ---- the room once the tenor of the knot in hand is put into it
-abbrev Known : Type 0
-Known = goal.After-shared_slice_known-in-loop-i-1 invariant_loop decreases_loop
+-- the room once the tenor of the knot in hand is put into it
+put : (tenors times : List Float) (i : ℕ) → i < length tenors → i < length times → take i times ≡ take i tenors → take (i + 1) (set times i (get_or tenors i nan)) ≡ take (i + 1) tenors
+put tenors times i h g e = one_more_written tenors times i nan _ h g e refl
 
-abbrev tenors_of : Known → List Float
-tenors_of c = c.before.before.before.before.before.before.before.args.tenors.now
-
-abbrev knot_of : Known → ℕ
-knot_of c = c.before.before.loop.i
-
-abbrev room_of : Known → List Float
-room_of c = set c.before.before.loop.times (knot_of c) (get_or (tenors_of c) (knot_of c) nan)
-
-put : (c : Known) → take (knot_of c + 1) (room_of c) ≡ take (knot_of c + 1) (tenors_of c)
-put c = let l = c.before.before.loop in one_more_written _ l.times l.i _ _ c.before.loop-test.true (omega arith) l.invariant.3 refl
-
-within : (c : Known) → knot_of c + 1 ≤ length (room_of c)
-within c = let l = c.before.before.loop in let e = length-set l.times l.i (get_or (tenors_of c) l.i nan) in omega arith
+within : (times : List Float) (i : ℕ) (x : Float) → i < length times → i + 1 ≤ length (set times i x)
+within times i x h = let e = length-set times i x in omega arith
 
 pub loop-i-init : goal.loop-i-init
 unfolding zeros_up_to
 loop-i-init c = (omega arith, refl, refl, refl, refl)
 
 pub slice_bounds-next_zero-end : goal.slice_bounds-next_zero-end
-slice_bounds-next_zero-end c = within c
+slice_bounds-next_zero-end c = within _ _ _ (omega arith)
 
 pub slice_bounds-next_zero-end-in-loop-i : goal.slice_bounds-next_zero-end-in-loop-i
-slice_bounds-next_zero-end-in-loop-i c = counted _ _ (within c)
+slice_bounds-next_zero-end-in-loop-i c = counted _ _ (within _ _ _ (omega arith))
 
 pub slice_bounds-next_zero-end-in-loop-i-3 : goal.slice_bounds-next_zero-end-in-loop-i-3
 slice_bounds-next_zero-end-in-loop-i-3 c = counted _ _ (omega arith)
@@ -48,16 +36,18 @@ next_zero-zero-requires c =
     let l = c.loop-i in
     let tenors = c.args.tenors.now in
     let h = c.loop-i-test.true in
-    (one_knot_more tenors c.args.pars.now _ l.zeros l.i h (omega arith) (put c), room_rises tenors _ l.i h (put c) c.requires.3)
+    let known = put tenors l.times l.i h (omega arith) l.invariant.3 in
+    (one_knot_more tenors c.args.pars.now _ l.zeros l.i h (omega arith) known, room_rises tenors _ l.i h known c.requires.3)
 
 pub loop-i-preserved : goal.loop-i-preserved
 loop-i-preserved c =
-    let l = c.loop-i in (
+    let l = c.loop-i in
+    let known = put c.args.tenors.now l.times l.i c.loop-i-test.true (omega arith) l.invariant.3 in (
       omega arith,
       simp length-set l.invariant.1,
       simp length-set l.invariant.2,
-      put c,
-      knot_solved _ _ _ l.zeros l.i c.loop-i-test.true (omega arith) (put c) _ l.invariant.4 c.next_zero-zero.ensures,
+      known,
+      knot_solved _ _ _ l.zeros l.i c.loop-i-test.true (omega arith) known _ l.invariant.4 c.next_zero-zero.ensures,
     )
 
 pub shape_of-times : goal.shape_of-times

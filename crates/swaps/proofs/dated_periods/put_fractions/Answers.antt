@@ -1,5 +1,5 @@
 -- `swaps::dated_periods::put_fractions` meets its contract: each turn of the loop writes one fraction more. Assumes nothing.
-use Prim.Native.Nat.{ℕ, ◌-◌}
+use Prim.Native.Nat.{ℕ}
 use native.Mathlib.Omega.{arith}
 use lib.ListN.{length-set}
 use lib.Ieee.{nan}
@@ -19,7 +19,7 @@ loop-j-preserved c =
     let l = c.loop-j in
     let a = c.args in
     let same = length-set l.fractions l.j c.day_count_fraction.result in
-    (omega arith, omega arith, one_more_follows nan (λ (i : ℕ). day_fraction a.day-count (entry a.days.now i)) l.fractions l.j _ (omega arith) c.day_count_fraction.ensures l.invariant.2)
+    (omega arith, omega arith, one_more_follows nan (λ (i : ℕ). day_fraction a.day_count (entry a.days.now i)) l.fractions l.j _ (omega arith) c.day_count_fraction.ensures l.invariant.2)
 
 pub returns : goal.returns
 returns c = let l = c.loop-j in λ i h. l.invariant.2 i (let n = l.invariant.1 in omega arith)

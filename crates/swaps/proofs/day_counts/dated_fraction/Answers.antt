@@ -1,6 +1,5 @@
 -- `swaps::day_counts::dated_fraction` meets its contract: the days by each day count, over its year. Assumes nothing.
 use mathlib.Core.Path.{◌≡◌, sym, ap, ◌∙◌}
-use mathlib.Core.Logic.{⊎_elim}
 use Rattle.refusals.specs.Outcome.{accepted}
 use Rattle.refusals.proofs.Verdicts.{refused_as}
 use Rattle.refusals.proofs.OneCause.{caused, all_clear}
@@ -8,6 +7,7 @@ use Rattle.swaps.specs.DayCounts.{day_fraction, days_by, dated_fraction, dated_f
 use Rattle.swaps.proofs.DatedSpans.{both_are_dates}
 use Rattle.swaps.proofs.DaysBy.{over_360, over_365, by_thirties_lem}
 use Rattle.swaps.proofs.day_counts.dated_fraction.Goals as goal
+use Rattle.swaps.proofs.day_counts.dated_fraction.Goals.{in-Actual360, in-Actual365, in-Thirty360}
 
 pub returns-then-bad_dates : goal.returns-then-bad_dates
 unfolding dated_fraction_of
@@ -19,8 +19,10 @@ returns c =
     let a = c.args in
     let free = sym c.bad_dates.ensures ∙ c.if-bad_dates.false in
     let dates = both_are_dates a.first a.second free in
-    let days : c.match-day_count.days ≡ days_by a.day-count a.first a.second =
-    ⊎_elim (λ w. over_360 a.day-count a.first a.second w.3 w.1.given.1 (w.2.ensures dates.0 dates.1))
-    (λ v. ⊎_elim (λ w. over_365 a.day-count a.first a.second w.3 w.1.given.1 (w.2.ensures dates.0 dates.1)) (λ w. by_thirties_lem a.day-count a.first a.second w.3 w.1.given.1 w.2.ensures) v)
-    c.match-day_count.branch in
-    ap accepted (c.day_count_fraction.ensures ∙ ap (day_fraction a.day-count) days) ∙ all_clear _ 15 _ free
+    let days : c.match-day_count.days ≡ days_by a.day_count a.first a.second =
+    elim c.match-day_count.branch [
+      | in-Actual360 w ↦ over_360 a.day_count a.first a.second w.days-is w.in-Actual360.is (w.actual_days-days.ensures dates.0 dates.1)
+      | in-Actual365 w ↦ over_365 a.day_count a.first a.second w.days-is w.in-Actual365.is (w.actual_days-days-in-Actual365.ensures dates.0 dates.1)
+      | in-Thirty360 w ↦ by_thirties_lem a.day_count a.first a.second w.days-is w.in-Thirty360.is w.thirty_days-days.ensures
+    ] in
+    ap accepted (c.day_count_fraction.ensures ∙ ap (day_fraction a.day_count) days) ∙ all_clear _ 15 _ free

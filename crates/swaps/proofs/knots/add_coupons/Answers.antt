@@ -1,6 +1,6 @@
 -- `swaps::knots::add_coupons` meets its contract: each turn of the loop adds one coupon. Assumes nothing.
 use mathlib.Core.Path.{◌≡◌, ap, ◌∙◌}
-use Prim.Native.Nat.{◌+◌, ◌-◌}
+use Prim.Native.Nat.{◌+◌}
 use native.Mathlib.Omega.{arith}
 use Rattle.numbers.specs.Sums.{added_up}
 use Rattle.curves.proofs.Adding.{one_more}

@@ -1,7 +1,7 @@
 -- `swaps::knots::bisect` meets its contract: the halvings that are left, from the bracket in hand, give the answer; three of them go by errors that were
 -- worked out together. Assumes nothing.
 use mathlib.Core.Path.{◌≡◌}
-use Prim.Native.Nat.{◌*◌, ◌-◌}
+use Prim.Native.Nat.{◌*◌}
 use Rattle.swaps.specs.Bootstrap.{bisected}
 use Rattle.swaps.specs.inner.Knots.{error_of}
 use Rattle.swaps.proofs.knots.bisect.Given as goal

@@ -1,6 +1,5 @@
 -- `swaps::knots::errors_of` meets its contract: the sums of the settled coupons are carried on to the last date. Assumes nothing.
 use mathlib.Core.Path.{◌≡◌, sym, ap, ◌∙◌}
-use Prim.Native.Nat.{◌-◌}
 use native.Mathlib.Omega.{arith}
 use lib.ListN.{length, length-map}
 use Rattle.swaps.specs.inner.Knots.{sum_to}

@@ -1,7 +1,7 @@
 -- `swaps::knots::settled_dates` meets its contract: every date passed is settled. Assumes nothing.
 use mathlib.Core.Path.{◌≡◌}
 use mathlib.Core.Bool.{true, false}
-use Prim.Native.Nat.{ℕ, suc, ◌-◌}
+use Prim.Native.Nat.{ℕ, suc}
 use native.Mathlib.Omega.{arith}
 use lib.Ieee.{le}
 use borrow.Author.Count.{below_more}

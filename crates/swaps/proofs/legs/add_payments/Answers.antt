@@ -1,6 +1,6 @@
 -- `swaps::legs::add_payments` meets its contract: each turn of the loop adds one period to the four sums. Assumes nothing.
 use mathlib.Core.Path.{◌≡◌, sym, ap}
-use Prim.Native.Nat.{ℕ, ◌+◌, ◌-◌}
+use Prim.Native.Nat.{ℕ, ◌+◌}
 use native.Mathlib.Nat.{add-zero}
 use native.Mathlib.Omega.{arith}
 use Rattle.swaps.proofs.PaymentSums.{one_period_more, so_many}

@@ -81,7 +81,7 @@ returns-then-both c =
     record { on_base = c.add_on-base.ensures a.first listed c.requires.5.on_base; on_higher = λ both. c.add_on.ensures a.first listed (c.requires.5.on_higher both) }
 
 pub returns : goal.returns
-returns c = record { on_base = c.add_on-base.ensures c.args.first (listed c) c.requires.5.on_base; on_higher =
+returns c =
     let first_fits : c.args.count ≤ length c.empty_run-times.result = omega (arith, c.requires.0, c.empty_run-times.ensures) in
     let second_fits : c.args.count ≤ length c.empty_run-fractions.result = omega (arith, c.requires.0, c.empty_run-fractions.ensures) in
     let listed : Listed (terms_of c.args.swap).periods c.args.first c.args.count (c.put_periods.new.times ++ drop c.args.count c.empty_run-times.result)
@@ -89,4 +89,4 @@ returns c = record { on_base = c.add_on-base.ensures c.args.first (listed c) c.r
     listed_in_front (terms_of c.args.swap).periods c.args.first count c.put_periods.new.times c.put_periods.new.fractions _ _
     (c.put_periods.auto.times ∙ sym (counted c.empty_run-times.result count first_fits))
     (c.put_periods.auto.fractions ∙ sym (counted c.empty_run-fractions.result count second_fits)) c.put_periods.ensures in
-    λ both. absurd (clash both c.if-both.false) }
+    record { on_base = c.add_on-base.ensures c.args.first listed c.requires.5.on_base; on_higher = λ both. absurd (clash both c.if-both.false) }

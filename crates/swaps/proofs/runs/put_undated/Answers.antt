@@ -1,5 +1,5 @@
 -- `swaps::runs::put_undated` meets its contract: each turn of the loop writes one period more. Assumes nothing.
-use Prim.Native.Nat.{◌+◌, ◌-◌}
+use Prim.Native.Nat.{◌+◌}
 use native.Mathlib.Omega.{arith}
 use lib.IntN.{pos}
 use lib.ListN.{length-set}

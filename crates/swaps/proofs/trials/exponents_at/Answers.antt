@@ -1,5 +1,4 @@
 -- `swaps::trials::exponents_at` meets its contract: the exponents passed are made of the rates at their place. Assumes nothing.
-use Prim.Native.Nat.{◌-◌}
 use native.Mathlib.Omega.{arith}
 use lib.Ieee.{Float}
 use Rattle.swaps.specs.inner.Runs.{exponent_of}

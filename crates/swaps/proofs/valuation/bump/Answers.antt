@@ -1,6 +1,5 @@
 -- `swaps::valuation::bump` meets its contract: the rates passed are raised. Assumes nothing.
 use mathlib.Core.Path.{refl}
-use Prim.Native.Nat.{◌-◌}
 use native.Mathlib.Omega.{arith}
 use lib.ListN.{length-set}
 use Rattle.swaps.proofs.Writing.{one_more_written, all_written, bumped_length, bumped_at}

@@ -11,6 +11,6 @@ returns c =
     let tenors = a.tenors.now in
     let zeros = a.zeros.now in
     let base = c.legs_with_bump-both.ensures.0 in
-    valuation_is t tenors zeros a.receives-fixed (c.net-npv.ensures ∙ net_is t tenors zeros _ base a.receives-fixed)
-    (c.net.ensures ∙ net_is t tenors _ _ c.legs_with_bump-both.ensures.1 a.receives-fixed) base.fixed_is base.floating_is (c.par_of.ensures ∙ par_is t tenors zeros _ base)
+    valuation_is t tenors zeros a.receives_fixed (c.net-npv.ensures ∙ net_is t tenors zeros _ base a.receives_fixed)
+    (c.net.ensures ∙ net_is t tenors _ _ c.legs_with_bump-both.ensures.1 a.receives_fixed) base.fixed_is base.floating_is (c.par_of.ensures ∙ par_is t tenors zeros _ base)
     (c.duration_of.ensures ∙ duration_is t tenors zeros _ base)

@@ -1,6 +1,5 @@
 -- `yield_curve::fitting::least_squares` meets its contract: after i points each equation has their sums. Assumes nothing.
 use mathlib.Core.Path.{◌≡◌, refl, ap, ◌∙◌}
-use Prim.Native.Nat.{◌-◌}
 use native.Mathlib.Omega.{arith}
 use lib.ListN.{length}
 use lib.Ieee.{Float}

@@ -1,6 +1,6 @@
 -- `yield_curve::fitting::put_exponents` meets its contract: each place passed holds the exponent of its point. Assumes nothing.
 use mathlib.Core.Path.{refl}
-use Prim.Native.Nat.{ℕ, ◌-◌}
+use Prim.Native.Nat.{ℕ}
 use native.Mathlib.Omega.{arith}
 use borrow.Author.Count.{below_none}
 use lib.ListN.{length-set}

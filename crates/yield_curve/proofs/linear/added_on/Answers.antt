@@ -1,6 +1,5 @@
 -- `yield_curve::linear::added_on` meets its contract: after j turns the first j numbers are added to the terms before. Assumes nothing.
 use mathlib.Core.Path.{◌≡◌}
-use Prim.Native.Nat.{◌-◌}
 use native.Mathlib.Omega.{arith}
 use Rattle.curves.proofs.Adding.{nothing_yet_lem, further, all_of}
 use Rattle.yield_curve.proofs.linear.added_on.Goals as goal

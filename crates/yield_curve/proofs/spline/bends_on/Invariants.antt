@@ -1,6 +1,6 @@
 -- `yield_curve::spline::bends_on` meets its contract: down to the knot in hand, c is that knot's. Assumes nothing.
 use mathlib.Core.Path.{◌≡◌}
-use Prim.Native.Nat.{suc, ◌-◌, ◌<◌, ◌≤◌}
+use Prim.Native.Nat.{suc, ◌<◌, ◌≤◌}
 use lib.ListN.{length}
 use Rattle.yield_curve.specs.Spline.{c_at}
 use Rattle.yield_curve.proofs.spline.bends_on.Given as goal
