@@ -15,7 +15,7 @@ import sys
 
 WORD = r"[^\s(){}.;,@\"«»\[\]\\`:]+"
 TOKEN = re.compile(r"--[^\n]*|\"(?:[^\"\\\n]|\\.)*\"|«[^»]*»|" + WORD + r"|[.\s(){};,@\[\]\\`:\"«»]", re.S)
-CAMEL = re.compile(r"^[a-z][\w']*[a-z0-9][A-Z][\w']*$")
+CAMEL = re.compile(r"^[a-z][\w']*[A-Z][\w']*$")
 DASHED = re.compile(r"^[a-zA-Z][\w']*(?:-[\w'₀-₉]+)+$")
 DECLARED = re.compile(r"^[ \t]*(?:data |record )?(?:abbrev |unfoldable )?(?:pub )?(?:abbrev |unfoldable |data |record )?((?:" + WORD + r" )+): ?", re.M)
 USE = re.compile(r"^\s*(?:ghost )?(?:pub )?use ([^\s{;]+?)(?:\.\{([^}]*)\}|)(?: as (\S+?))?;?$", re.M)
@@ -63,8 +63,9 @@ def from_outside(text):
 
 
 def spelled(name):
-    name = re.sub(r"(?<=[a-z0-9])([A-Z])", lambda m: "_" + m.group(1).lower(), name) if CAMEL.match(name) else name
-    return name.replace("-", "_")
+    # A part that begins with a capital is a fact's name, and keeps it.
+    parts = [re.sub(r"([A-Z])", lambda m: "_" + m.group(1).lower(), part) if CAMEL.match(part) else part for part in name.split("-")]
+    return "_".join(parts)
 
 
 def wants(name):
@@ -77,6 +78,7 @@ APART = {
     "zeroRates": "zero_rates_of",
     "firstDay": "first_day_of",
     "secondDay": "second_day_of",
+    "getD-sets-other": "get_or_sets_other",
     "next_row": "next_row_call",
     "cut_short": "cut_short_lem",
     "each_after": "each_after_lem",

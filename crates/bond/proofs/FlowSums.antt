@@ -14,7 +14,7 @@ use Rattle.elementary.specs.WholePower.{whole_power}
 use Rattle.elementary.specs.Powers.{powers_from}
 use Rattle.elementary.proofs.InARow.{power_at}
 use Rattle.bond.specs.declared.Bond.{Bond}
-use Rattle.bond.specs.Bonds.{coupons_aYear, period_coupon, periods}
+use Rattle.bond.specs.Bonds.{coupons_a_year, period_coupon, periods}
 use Rattle.bond.specs.Durations.{flow_of, worth, weighted_time, weighted_square}
 use Rattle.bond.specs.inner.Weighted.{weighted_by}
 
@@ -40,7 +40,7 @@ module _ (b : Bond) (r : Float) (t : ℕ) where
   coupon_worth c p n paid counted h e = rw (e, paid, sym counted, ne_eqb t n (λ z. omega arith))
 
   -- its weight times its worth
-  pub term : (squares : Bool) (m w v : Float) → m ≡ coupons_aYear b
+  pub term : (squares : Bool) (m w v : Float) → m ≡ coupons_a_year b
       → w ≡ cond squares (mul binary64 (of_int binary64 (pos t)) (add binary64 (of_int binary64 (pos t)) one)) (div binary64 (of_int binary64 (pos t)) m) → v ≡ worth b r t
       → mul binary64 w v ≡ weighted_by b r squares t
   unfolding weighted_time weighted_square

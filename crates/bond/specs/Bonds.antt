@@ -17,16 +17,16 @@ periods_per_year Quarterly = 4
 periods_per_year Monthly = 12
 
 -- "m", as a float
-abbrev pub coupons_aYear : Bond → Float
-coupons_aYear b = of_int binary64 (pos (periods_per_year b.frequency))
+abbrev pub coupons_a_year : Bond → Float
+coupons_a_year b = of_int binary64 (pos (periods_per_year b.frequency))
 
 -- "c": the coupon of a period, face·rate/m left to right
 unfoldable pub period_coupon : Bond → Float
-period_coupon b = div binary64 (mul binary64 b.face b.coupon) (coupons_aYear b)
+period_coupon b = div binary64 (mul binary64 b.face b.coupon) (coupons_a_year b)
 
 -- "Periods: maturity·m to the nearest whole number, halves away from zero; NaN and anything negative give 0."
 unfoldable pub periods : Bond → ℕ
-periods b = nearest_whole (mul binary64 b.maturity (coupons_aYear b))
+periods b = nearest_whole (mul binary64 b.maturity (coupons_a_year b))
 
 -- 7: "a maturity .. is not finite, or gives more than 1,200 periods"
 unfoldable pub bad_maturity : Bond → Bool

@@ -38,27 +38,27 @@ unfoldable pub secant_only : Search → Bool
 secant_only s = lt (absolute (sub binary64 s.a s.c)) epsilon
 
 -- s = fb/fa, q = fa/fc, r = fb/fc
-unfoldable pub ratio_bA : Search → Float
-ratio_bA s = div binary64 s.fb s.fa
+unfoldable pub ratio_b_a : Search → Float
+ratio_b_a s = div binary64 s.fb s.fa
 
-unfoldable pub ratio_aC : Search → Float
-ratio_aC s = div binary64 s.fa s.fc
+unfoldable pub ratio_a_c : Search → Float
+ratio_a_c s = div binary64 s.fa s.fc
 
-unfoldable pub ratio_bC : Search → Float
-ratio_bC s = div binary64 s.fb s.fc
+unfoldable pub ratio_b_c : Search → Float
+ratio_b_c s = div binary64 s.fb s.fc
 
 -- p and q of the secant: 2·xm·s and 1 - s; of the parabola: s·(2·xm·q·(q - r) - (b - a)·(r - 1)) and (q - 1)·(r - 1)·(s - 1)
 unfoldable pub rise : Search → Float
 rise s =
-    cond (secant_only s) (mul binary64 (mul binary64 two (midway s)) (ratio_bA s))
-    (mul binary64 (ratio_bA s)
-    (sub binary64 (mul binary64 (mul binary64 (mul binary64 two (midway s)) (ratio_aC s)) (sub binary64 (ratio_aC s) (ratio_bC s)))
-    (mul binary64 (sub binary64 s.b s.a) (sub binary64 (ratio_bC s) one))))
+    cond (secant_only s) (mul binary64 (mul binary64 two (midway s)) (ratio_b_a s))
+    (mul binary64 (ratio_b_a s)
+    (sub binary64 (mul binary64 (mul binary64 (mul binary64 two (midway s)) (ratio_a_c s)) (sub binary64 (ratio_a_c s) (ratio_b_c s)))
+    (mul binary64 (sub binary64 s.b s.a) (sub binary64 (ratio_b_c s) one))))
 
 unfoldable pub run : Search → Float
 run s =
-    cond (secant_only s) (sub binary64 one (ratio_bA s))
-    (mul binary64 (mul binary64 (sub binary64 (ratio_aC s) one) (sub binary64 (ratio_bC s) one)) (sub binary64 (ratio_bA s) one))
+    cond (secant_only s) (sub binary64 one (ratio_b_a s))
+    (mul binary64 (mul binary64 (sub binary64 (ratio_a_c s) one) (sub binary64 (ratio_b_c s) one)) (sub binary64 (ratio_b_a s) one))
 
 -- p at or above 0, its sign moved to q
 unfoldable pub rise_up : Search → Float

@@ -9,7 +9,7 @@ use Rattle.numbers.specs.Sums.{added_up}
 use Rattle.refusals.specs.Outcome.{Outcome, and_then, judged}
 use Rattle.elementary.specs.WholePower.{whole_power}
 use Rattle.bond.specs.declared.Bond.{Bond}
-use Rattle.bond.specs.Bonds.{coupons_aYear, period_coupon, periods, bond_lines}
+use Rattle.bond.specs.Bonds.{coupons_a_year, period_coupon, periods, bond_lines}
 use Rattle.bond.specs.Price.{period_rate, price_of}
 use Rattle.bond.specs.Yield.{yield_to_maturity}
 
@@ -26,7 +26,7 @@ worthless b ytm = lt (absolute (price_of b ytm)) epsilon
 
 -- ---- Macaulay: the sum of (t/m)·worth over the price
 unfoldable pub weighted_time : Bond → Float → ℕ → Float
-weighted_time b r t = mul binary64 (div binary64 (of_int binary64 (pos t)) (coupons_aYear b)) (worth b r t)
+weighted_time b r t = mul binary64 (div binary64 (of_int binary64 (pos t)) (coupons_a_year b)) (worth b r t)
 
 unfoldable pub macaulay_of : Bond → Float → Float
 macaulay_of b ytm =
@@ -45,7 +45,7 @@ unfoldable pub convexity_of : Bond → Float → Float
 convexity_of b ytm =
     cond (worthless b ytm) plus_zero
     (div binary64 (added_up (λ (i : ℕ). weighted_square b (period_rate b ytm) (suc i)) (periods b))
-    (mul binary64 (mul binary64 (mul binary64 (price_of b ytm) (whole_power (add binary64 one (period_rate b ytm)) 2)) (coupons_aYear b)) (coupons_aYear b)))
+    (mul binary64 (mul binary64 (mul binary64 (price_of b ytm) (whole_power (add binary64 one (period_rate b ytm)) 2)) (coupons_a_year b)) (coupons_a_year b)))
 
 -- ---- -D·dy + 0.5·C·dy·dy
 unfoldable pub change_of : Bond → Float → Float → Float

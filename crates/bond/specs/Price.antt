@@ -11,11 +11,11 @@ use Rattle.refusals.specs.Table.{bad_number}
 use Rattle.elementary.specs.WholePower.{negative_power}
 use Rattle.elementary.specs.Power.{power}
 use Rattle.bond.specs.declared.Bond.{Bond}
-use Rattle.bond.specs.Bonds.{coupons_aYear, period_coupon, periods, bond_lines}
+use Rattle.bond.specs.Bonds.{coupons_a_year, period_coupon, periods, bond_lines}
 
 -- the rate of a period, ytm/m
 unfoldable pub period_rate : Bond → Float → Float
-period_rate b ytm = div binary64 ytm (coupons_aYear b)
+period_rate b ytm = div binary64 ytm (coupons_a_year b)
 
 -- "If |ytm/m| < 1e-12 the price is c·n + face"
 unfoldable pub undiscounted : Bond → Float

@@ -3,7 +3,7 @@ ghost use Rattle.std.specs.Prelude.{◌≡◌, true, ◌||◌};
 ghost use Rattle.refusals.specs.Outcome.{Outcome, accepted, judged};
 ghost use Rattle.refusals.specs.Answers.{verdict_outcome};
 ghost use Rattle.refusals.specs.Table.{bad_number};
-ghost use Rattle.bond.specs.Bonds.{periods_per_year, coupons_aYear, period_coupon, periods, bad_maturity, number_lines, bond_lines};
+ghost use Rattle.bond.specs.Bonds.{periods_per_year, coupons_a_year, period_coupon, periods, bad_maturity, number_lines, bond_lines};
 ghost use Rattle.bond.specs.inner.Worked.{WorkedOut};
 
 use crate::{Bond, Frequency};
@@ -23,7 +23,7 @@ pub fn periods_per_year(frequency: Frequency) -> u32
 
 // The same as a float.
 fn coupons_a_year(bond: Bond) -> f64
-    ensures { result ≡ coupons_aYear bond }
+    ensures { result ≡ coupons_a_year bond }
 {
     let frequency = bond.frequency;
     periods_per_year(frequency) as f64

@@ -14,7 +14,6 @@ use Rattle.mortgage.specs.Payment.{monthly_rate, growth, equal_part, payment, lo
 use Rattle.mortgage.specs.Row.{width}
 use Rattle.mortgage.specs.Rates as any_rates
 use Rattle.mortgage.specs.Month as any_month
-use Rattle.mortgage.specs.Level.{end_month, due, row_of, next_of}
 use Rattle.mortgage.specs.Month.{last}
 use Rattle.mortgage.specs.RowRule.{interest_of, principal_of, payment_of, left_of}
 use Rattle.steps.specs.Steps.{pieces, stepped}

@@ -15,7 +15,7 @@ use Rattle.mortgage.specs.declared.draws.Portion.{Portion}
 use Rattle.mortgage.specs.Row.{width}
 use Rattle.mortgage.specs.Month as any_month
 use Rattle.mortgage.specs.Draws as any_draws
-use Rattle.mortgage.specs.Level.{due, rows, count, portion, drawn, filled_by, filled}
+use Rattle.mortgage.specs.Level.{due, rows, count, drawn, filled_by, filled}
 use Rattle.steps.specs.Steps.{pieces, laid}
 use Rattle.mortgage.specs.Demand3.{rows_in}
 use Rattle.mortgage.proofs.LevelLaws.{drawn_short, drawn_rows}

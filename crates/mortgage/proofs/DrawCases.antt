@@ -12,7 +12,7 @@ use Rattle.refusals.specs.declared.Verdict.{Verdict}
 use Rattle.refusals.specs.declared.Verdict.TheVariants as verdict_is
 use Rattle.refusals.specs.declared.Refusal.{Refusal}
 use Rattle.refusals.specs.Answers.{verdict_outcome}
-use Rattle.refusals.specs.Outcome.{Outcome, refused, accepted, line, alone}
+use Rattle.refusals.specs.Outcome.{Outcome, refused, accepted, line}
 use Rattle.refusals.specs.Table.{bad_term, no_room, past_end, bad_balloon, bad_initial, bad_cap, too_few_entries, bad_entry}
 use Rattle.refusals.proofs.Causes.{neither, not_zero, alone_clear}
 use Rattle.refusals.proofs.Judging.{none_is, passed}

@@ -17,7 +17,7 @@ use Rattle.numbers.proofs.Order.{amount_by_tests}
 use Rattle.numbers.proofs.Comparing.{clash, finite_real, first_real, second_real, at_or_below_real, lt_le, le_trans, le_itself, compared_itself, finite_within}
 use Rattle.numbers.proofs.Growing.{sum_not_below, difference_not_above}
 use Rattle.numbers.specs.Clamps.{plus_zero}
-use Rattle.refusals.specs.Outcome.{accepted, line}
+use Rattle.refusals.specs.Outcome.{accepted}
 use Rattle.refusals.specs.Table.{bad_initial, bad_cap, too_few_entries, bad_entry}
 use Rattle.refusals.proofs.Causes.{neither, alone_clear}
 use Rattle.refusals.proofs.Judging.{none_is, passed}

@@ -17,7 +17,7 @@ use Rattle.numbers.specs.Literals.{one}
 use Rattle.numbers.specs.Sums.{added_up}
 use Rattle.records.specs.declared.Row.{Row}
 use Rattle.steps.specs.Steps.{pieces, singles}
-use Rattle.steps.proofs.Rooms.{get_d_sets, getD_sets_other, sets_over}
+use Rattle.steps.proofs.Rooms.{get_d_sets, get_or_sets_other, sets_over}
 use Rattle.steps.proofs.Places.{single_at}
 use Rattle.mortgage.specs.declared.years.Year.{Year}
 use Rattle.mortgage.specs.Years.{started_years, year_width, year_places, year_from, year_at, unbegun, with_row, line_behind, goes_on_from, entered, entered_up_to}
@@ -46,7 +46,7 @@ line_elsewhere years p q y apart =
     either k a b (inr h) = inr (omega arith)
 
     at : (k : ℕ) → q ≤ k → k < q + 4 → get_or (sets years p (year_places y)) k nan ≡ get_or years k nan
-    at k a b = getD_sets_other (year_places y) years p k nan (either k a b apart)
+    at k a b = get_or_sets_other (year_places y) years p k nan (either k a b apart)
 
 -- ---- one row
 -- the row behind d months
@@ -107,7 +107,7 @@ module _ (row : ℕ → Row) (d : ℕ) (months : (i : ℕ) → (row i).month ≡
   places_before_stay zero j h = refl
   places_before_stay (suc k) j h =
       ap (λ (o : List Float). get_or o j nan) (entered_behind (row k) (d + k) (entered_up_to row k years) (months k))
-      ∙ getD_sets_other (year_places _) (entered_up_to row k years) (line_behind (d + k) * year_width) j nan (inl (omega arith))
+      ∙ get_or_sets_other (year_places _) (entered_up_to row k years) (line_behind (d + k) * year_width) j nan (inl (omega arith))
       ∙ places_before_stay k j h
 
   pub places_behind_stay : (k j : ℕ) → started_years (d + k) * year_width ≤ j → get_or (entered_up_to row k years) j nan ≡ get_or years j nan
@@ -115,7 +115,7 @@ module _ (row : ℕ → Row) (d : ℕ) (months : (i : ℕ) → (row i).month ≡
   places_behind_stay zero j h = refl
   places_behind_stay (suc k) j h =
       ap (λ (o : List Float). get_or o j nan) (entered_behind (row k) (d + k) (entered_up_to row k years) (months k))
-      ∙ getD_sets_other (year_places _) (entered_up_to row k years) (line_behind (d + k) * year_width) j nan (inr (omega arith))
+      ∙ get_or_sets_other (year_places _) (entered_up_to row k years) (line_behind (d + k) * year_width) j nan (inr (omega arith))
       ∙ places_behind_stay k j (omega arith)
 
 -- ---- from month 1 on, the line q, from 0, of lent lines after k rows is that of the year's own rows

@@ -1,5 +1,5 @@
 -- Openings of a loan of any kind: with the worked-out payment, or with a given one. Definitions only. Assumes nothing.
-use Rattle.std.specs.Prelude.{ℕ, ◌-◌, List, ◌∷◌, ◌++◌, Float}
+use Rattle.std.specs.Prelude.{◌-◌, List, ◌++◌, Float}
 use Rattle.refusals.specs.Outcome.{Outcome, Line, judged}
 use Rattle.records.specs.declared.Terms.{Terms}
 use Rattle.mortgage.specs.declared.Loan.{Loan}

@@ -38,102 +38,102 @@ pub hundred_nearest : hundred ≡ round binary64 false 100 1
 unfolding of_bits round
 hundred_nearest = refl
 
-pub threeHundredSixty_nearest : three_hundred_sixty ≡ round binary64 false 360 1
+pub three_hundred_sixty_nearest : three_hundred_sixty ≡ round binary64 false 360 1
 unfolding of_bits round
-threeHundredSixty_nearest = refl
+three_hundred_sixty_nearest = refl
 
-pub threeHundredSixtyFive_nearest : three_hundred_sixty_five ≡ round binary64 false 365 1
+pub three_hundred_sixty_five_nearest : three_hundred_sixty_five ≡ round binary64 false 365 1
 unfolding of_bits round
-threeHundredSixtyFive_nearest = refl
+three_hundred_sixty_five_nearest = refl
 
-pub sevenHundredNine_nearest : seven_hundred_nine ≡ round binary64 false 709 1
+pub seven_hundred_nine_nearest : seven_hundred_nine ≡ round binary64 false 709 1
 unfolding of_bits round
-sevenHundredNine_nearest = refl
+seven_hundred_nine_nearest = refl
 
-pub twoThousand_nearest : two_thousand ≡ round binary64 false 2000 1
+pub two_thousand_nearest : two_thousand ≡ round binary64 false 2000 1
 unfolding of_bits round
-twoThousand_nearest = refl
+two_thousand_nearest = refl
 
-pub tenThousand_nearest : ten_thousand ≡ round binary64 false 10000 1
+pub ten_thousand_nearest : ten_thousand ≡ round binary64 false 10000 1
 unfolding of_bits round
-tenThousand_nearest = refl
+ten_thousand_nearest = refl
 
-pub minusOne_nearest : minus_one ≡ round binary64 true 1 1
+pub minus_one_nearest : minus_one ≡ round binary64 true 1 1
 unfolding of_bits round
-minusOne_nearest = refl
+minus_one_nearest = refl
 
-pub minusFiveHundred_nearest : minus_five_hundred ≡ round binary64 true 500 1
+pub minus_five_hundred_nearest : minus_five_hundred ≡ round binary64 true 500 1
 unfolding of_bits round
-minusFiveHundred_nearest = refl
+minus_five_hundred_nearest = refl
 
-pub minusSevenHundredEight_nearest : minus_seven_hundred_eight ≡ round binary64 true 708 1
+pub minus_seven_hundred_eight_nearest : minus_seven_hundred_eight ≡ round binary64 true 708 1
 unfolding of_bits round
-minusSevenHundredEight_nearest = refl
+minus_seven_hundred_eight_nearest = refl
 
 pub half_nearest : half ≡ round binary64 false 1 2
 unfolding of_bits round
 half_nearest = refl
 
-pub sixPercent_nearest : six_percent ≡ round binary64 false 6 100
+pub six_percent_nearest : six_percent ≡ round binary64 false 6 100
 unfolding of_bits round
-sixPercent_nearest = refl
+six_percent_nearest = refl
 
 pub thousandth_nearest : thousandth ≡ round binary64 false 1 1000
 unfolding of_bits round
 thousandth_nearest = refl
 
-pub allButThousandth_nearest : all_but_thousandth ≡ round binary64 false 999 1000
+pub all_but_thousandth_nearest : all_but_thousandth ≡ round binary64 false 999 1000
 unfolding of_bits round
-allButThousandth_nearest = refl
+all_but_thousandth_nearest = refl
 
-pub basisPoint_nearest : basis_point ≡ round binary64 false 1 10000
+pub basis_point_nearest : basis_point ≡ round binary64 false 1 10000
 unfolding of_bits round
-basisPoint_nearest = refl
+basis_point_nearest = refl
 
 pub millionth_nearest : millionth ≡ round binary64 false 1 (10 ^ 6)
 unfolding of_bits round
 millionth_nearest = refl
 
-pub tenToMinus8_nearest : ten_to_minus8 ≡ round binary64 false 1 (10 ^ 8)
+pub ten_to_minus8_nearest : ten_to_minus8 ≡ round binary64 false 1 (10 ^ 8)
 unfolding of_bits round
-tenToMinus8_nearest = refl
+ten_to_minus8_nearest = refl
 
-pub tenToMinus10_nearest : ten_to_minus10 ≡ round binary64 false 1 (10 ^ 10)
+pub ten_to_minus10_nearest : ten_to_minus10 ≡ round binary64 false 1 (10 ^ 10)
 unfolding of_bits round
-tenToMinus10_nearest = refl
+ten_to_minus10_nearest = refl
 
 pub tiny_nearest : tiny ≡ round binary64 false 1 (10 ^ 12)
 unfolding of_bits round
 tiny_nearest = refl
 
-pub tenToMinus14_nearest : ten_to_minus14 ≡ round binary64 false 1 (10 ^ 14)
+pub ten_to_minus14_nearest : ten_to_minus14 ≡ round binary64 false 1 (10 ^ 14)
 unfolding of_bits round
-tenToMinus14_nearest = refl
+ten_to_minus14_nearest = refl
 
-pub tenToMinus15_nearest : ten_to_minus15 ≡ round binary64 false 1 (10 ^ 15)
+pub ten_to_minus15_nearest : ten_to_minus15 ≡ round binary64 false 1 (10 ^ 15)
 unfolding of_bits round
-tenToMinus15_nearest = refl
+ten_to_minus15_nearest = refl
 
-pub tenToMinus16_nearest : ten_to_minus16 ≡ round binary64 false 1 (10 ^ 16)
+pub ten_to_minus16_nearest : ten_to_minus16 ≡ round binary64 false 1 (10 ^ 16)
 unfolding of_bits round
-tenToMinus16_nearest = refl
+ten_to_minus16_nearest = refl
 
 pub epsilon_nearest : epsilon ≡ round binary64 false 1 (2 ^ 52)
 unfolding of_bits round
 epsilon_nearest = refl
 
-pub inverseLn2_nearest : inverse_ln2 ≡ round binary64 false 14426950408889634 (10 ^ 16)
+pub inverse_ln2_nearest : inverse_ln2 ≡ round binary64 false 14426950408889634 (10 ^ 16)
 unfolding of_bits round
-inverseLn2_nearest = refl
+inverse_ln2_nearest = refl
 
-pub ln2High_nearest : ln2_high ≡ round binary64 false 693147180369123816490 (10 ^ 21)
+pub ln2_high_nearest : ln2_high ≡ round binary64 false 693147180369123816490 (10 ^ 21)
 unfolding of_bits round
-ln2High_nearest = refl
+ln2_high_nearest = refl
 
-pub ln2Low_nearest : ln2_low ≡ round binary64 false 190821492927058770002 (10 ^ 30)
+pub ln2_low_nearest : ln2_low ≡ round binary64 false 190821492927058770002 (10 ^ 30)
 unfolding of_bits round
-ln2Low_nearest = refl
+ln2_low_nearest = refl
 
-pub rootTwo_nearest : root_two ≡ round binary64 false 14142135623730951 (10 ^ 16)
+pub root_two_nearest : root_two ≡ round binary64 false 14142135623730951 (10 ^ 16)
 unfolding of_bits round
-rootTwo_nearest = refl
+root_two_nearest = refl

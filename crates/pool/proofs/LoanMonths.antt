@@ -15,7 +15,7 @@ use Rattle.mortgage.specs.declared.Loan.{Loan}
 use Rattle.mortgage.specs.Payment.{monthly_rate, payment, loan_of}
 use Rattle.mortgage.specs.Rates as any_rates
 use Rattle.mortgage.specs.Month as of_month
-use Rattle.mortgage.specs.Level.{end_month, row_of, next_of, after}
+use Rattle.mortgage.specs.Level.{end_month, after}
 use Rattle.mortgage.specs.Kinds.{level}
 use Rattle.mortgage.specs.Month.{course, last}
 use Rattle.mortgage.specs.RowRule.{interest_of, principal_of, left_of}

@@ -1,6 +1,6 @@
 // Cash flows as one lent list of dated amounts: time, amount, time, amount and so on.
 ghost use Rattle.std.specs.Prelude.{◌≡◌, ◌/◌, min, length, take};
-ghost use Rattle.spread_analytics.specs.Spread.{pv_cash_flows, zSpread, duration_convexity};
+ghost use Rattle.spread_analytics.specs.Spread.{pv_cash_flows, z_spread, duration_convexity};
 ghost use Rattle.senyolanda.specs.Told.{told, told_number};
 ghost use Rattle.senyolanda.specs.Spreads.{spread_numbers, sensitivity_numbers};
 ghost use Rattle.senyolanda.specs.Dated.{times_in, amounts_in};
@@ -73,7 +73,7 @@ pub extern "C" fn senyolanda_dated_z_spread(
     points: &mut f64,
     found: &mut u32,
 ) -> u64
-    ensures { (result, (points.new, found.new)) ≡ told spread_numbers (zSpread (times_in flows.now) (amounts_in flows.now) tenors.now rates.now market) (points.old, found.old) }
+    ensures { (result, (points.new, found.new)) ≡ told spread_numbers (z_spread (times_in flows.now) (amounts_in flows.now) tenors.now rates.now market) (points.old, found.old) }
 {
     if flows.len() % 2 != 0 {
         return refusal_result(refusals::refuse(4));

@@ -3,7 +3,7 @@ ghost use Rattle.std.specs.Prelude.{◌≡◌};
 ghost use Rattle.spread_analytics.specs.Units.{as_decimal};
 ghost use Rattle.spread_analytics.specs.Curves.{rate_at, discount_factor, forward_rate};
 ghost use Rattle.spread_analytics.specs.Flows.{bond_cash_flows, flow_time, flow_amount, column_in};
-ghost use Rattle.spread_analytics.specs.Spread.{pv_cash_flows, zSpread, duration_convexity, spread_outcome, sensitivity_outcome};
+ghost use Rattle.spread_analytics.specs.Spread.{pv_cash_flows, z_spread, duration_convexity, spread_outcome, sensitivity_outcome};
 ghost use Rattle.senyolanda.specs.Told.{always, told, told_number};
 ghost use Rattle.senyolanda.specs.Spreads.{spread_numbers, sensitivity_numbers};
 
@@ -162,7 +162,7 @@ pub extern "C" fn senyolanda_z_spread(
     points: &mut f64,
     found: &mut u32,
 ) -> u64
-    ensures { (result, (points.new, found.new)) ≡ told spread_numbers (zSpread times.now amounts.now tenors.now rates.now market) (points.old, found.old) }
+    ensures { (result, (points.new, found.new)) ≡ told spread_numbers (z_spread times.now amounts.now tenors.now rates.now market) (points.old, found.old) }
 {
     let answer = spread_analytics::spread::z_spread(times, amounts, tenors, rates, market);
     put_spread(answer, points, found)

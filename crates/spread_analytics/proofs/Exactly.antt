@@ -15,7 +15,7 @@ use Rattle.curves.specs.Lists.{each_lines, each_outcome}
 use Rattle.curves.proofs.Exactly as of_a_curve
 use Rattle.spread_analytics.specs.Curves.{rate_at, discount_factor, forward_rate}
 use Rattle.spread_analytics.specs.Flows.{flow_lines, bond_cash_flows}
-use Rattle.spread_analytics.specs.Spread.{spread_lines, pv_cash_flows, zSpread, duration_convexity}
+use Rattle.spread_analytics.specs.Spread.{spread_lines, pv_cash_flows, z_spread, duration_convexity}
 
 -- ---- the curves
 module _ (tenors rates : List Float) where
@@ -51,8 +51,8 @@ module _ (times amounts tenors rates : List Float) where
   unfolding pv_cash_flows above
   worth_refused_exactly points = exactly _ (spread_lines times amounts tenors rates false) tt
 
-  pub spread_refused_exactly : (market : Float) → ExactlyWhen (spread_lines times amounts tenors rates (bad_number market)) (zSpread times amounts tenors rates market)
-  unfolding zSpread above
+  pub spread_refused_exactly : (market : Float) → ExactlyWhen (spread_lines times amounts tenors rates (bad_number market)) (z_spread times amounts tenors rates market)
+  unfolding z_spread above
   spread_refused_exactly market = exactly _ (spread_lines times amounts tenors rates (bad_number market)) tt
 
   pub sensitivity_refused_exactly : (points : Float) → ExactlyWhen (spread_lines times amounts tenors rates false) (duration_convexity times amounts tenors rates points)

@@ -14,7 +14,7 @@ use Rattle.spread_analytics.specs.declared.spread.SpreadAnswer.TheVariants as sp
 use Rattle.spread_analytics.specs.declared.spread.SensitivityAnswer.{SensitivityAnswer}
 use Rattle.spread_analytics.specs.declared.spread.SensitivityAnswer.TheVariants as sensitivity_is
 use Rattle.spread_analytics.specs.declared.dated.CashFlow.{CashFlow}
-use Rattle.spread_analytics.specs.Spread.{pv_cash_flows, zSpread, duration_convexity, spread_outcome, sensitivity_outcome}
+use Rattle.spread_analytics.specs.Spread.{pv_cash_flows, z_spread, duration_convexity, spread_outcome, sensitivity_outcome}
 use Rattle.spread_analytics.specs.Dated.{times_of, amounts_of}
 use Rattle.spread_analytics.proofs.units.to_decimal.Kinds as to_decimal_kinds
 use Rattle.spread_analytics.proofs.units.to_decimal.Reads as to_decimal
@@ -103,8 +103,8 @@ module _ (flows : List CashFlow) (tenors rates : List Float) (s : Float) where
       → number_outcome y ≡ pv_cash_flows (times_of flows) (amounts_of flows) tenors rates s → x ≡ y
   pv_of_determined x y p q = number_one_to_one x y (p ∙ sym q)
 
-  pub z_spread_of_determined : (x y : SpreadAnswer) → spread_outcome x ≡ zSpread (times_of flows) (amounts_of flows) tenors rates s
-      → spread_outcome y ≡ zSpread (times_of flows) (amounts_of flows) tenors rates s → x ≡ y
+  pub z_spread_of_determined : (x y : SpreadAnswer) → spread_outcome x ≡ z_spread (times_of flows) (amounts_of flows) tenors rates s
+      → spread_outcome y ≡ z_spread (times_of flows) (amounts_of flows) tenors rates s → x ≡ y
   z_spread_of_determined x y p q = spread_one_to_one x y (p ∙ sym q)
 
   pub duration_convexity_of_determined : (x y : SensitivityAnswer) → sensitivity_outcome x ≡ duration_convexity (times_of flows) (amounts_of flows) tenors rates s

@@ -74,8 +74,8 @@ module _ (times amounts tenors rates : List Float) where
   unfoldable pub spread_of : Float → Found
   spread_of market = cond (no_change market) (at_end (nearer_end market)) (found (spread_within market 100 minus_five_hundred two_thousand))
 
-  unfoldable pub zSpread : Float → Outcome Found
-  zSpread market = judged (spread_lines times amounts tenors rates (bad_number market)) (spread_of market)
+  unfoldable pub z_spread : Float → Outcome Found
+  z_spread market = judged (spread_lines times amounts tenors rates (bad_number market)) (spread_of market)
 
   -- ---- duration and convexity: 0 and 0 where |pv| < 1e-12
   unfoldable pub duration_of : Float → Float

@@ -3,7 +3,7 @@ ghost use Rattle.std.specs.Prelude.{◌≡◌, Bool, cond, List, ◌<◌, ◌≤
 ghost use Rattle.numbers.specs.Clamps.{plus_zero};
 ghost use Rattle.refusals.specs.Outcome.{Outcome, refused, judged};
 ghost use Rattle.refusals.specs.Answers.{number_outcome};
-ghost use Rattle.spread_analytics.specs.Spread.{spread_lines, pv_cash_flows, zSpread, duration_convexity, spread_outcome, sensitivity_outcome};
+ghost use Rattle.spread_analytics.specs.Spread.{spread_lines, pv_cash_flows, z_spread, duration_convexity, spread_outcome, sensitivity_outcome};
 ghost use Rattle.spread_analytics.specs.Dated.{times_of, amounts_of};
 ghost use Rattle.spread_analytics.specs.declared.dated.CashFlow.{CashFlow};
 
@@ -83,7 +83,7 @@ fn z_spread_of_lists(
 ) -> SpreadAnswer
     requires { (length lists.times ≡ 1200) × (length lists.amounts ≡ 1200) }
     ensures { (flows : List CashFlow) → length flows ≡ count → (length flows ≤ 1200 → (take (length flows) lists.times ≡ times_of flows) × (take (length flows) lists.amounts ≡ amounts_of flows))
-        → spread_outcome result ≡ zSpread (times_of flows) (amounts_of flows) tenors.now rates.now market }
+        → spread_outcome result ≡ z_spread (times_of flows) (amounts_of flows) tenors.now rates.now market }
 {
     if count > 1200 {
         return SpreadAnswer::Refused(refused_for_count(tenors, rates));
@@ -139,7 +139,7 @@ pub fn pv_of(flows: &[CashFlow], tenors: &[f64], rates: &[f64], spread: BasisPoi
 
 // The spread at which flows are worth the market price.
 pub fn z_spread_of(flows: &[CashFlow], tenors: &[f64], rates: &[f64], market: f64) -> SpreadAnswer
-    ensures { spread_outcome result ≡ zSpread (times_of flows.now) (amounts_of flows.now) tenors.now rates.now market }
+    ensures { spread_outcome result ≡ z_spread (times_of flows.now) (amounts_of flows.now) tenors.now rates.now market }
 {
     let lists = gathered(flows);
     z_spread_of_lists(lists, flows.len(), tenors, rates, market)

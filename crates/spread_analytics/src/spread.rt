@@ -10,7 +10,7 @@ ghost use Rattle.refusals.specs.Answers.{number_outcome};
 ghost use Rattle.curves.specs.Segments.{knot, Rising};
 ghost use Rattle.spread_analytics.specs.Units.{as_decimal};
 ghost use Rattle.spread_analytics.specs.Curves.{rate_of};
-ghost use Rattle.spread_analytics.specs.Spread.{worth_of, pv_cash_flows, error_at, spread_within, spread_of, zSpread, spread_outcome};
+ghost use Rattle.spread_analytics.specs.Spread.{worth_of, pv_cash_flows, error_at, spread_within, spread_of, z_spread, spread_outcome};
 ghost use Rattle.spread_analytics.specs.Spread.{factor_of, sensitivity_of, duration_convexity, sensitivity_outcome};
 
 use crate::judging::judge_spread;
@@ -194,7 +194,7 @@ pub fn z_spread(
     rates: &[f64],
     market: f64,
 ) -> SpreadAnswer
-    ensures { spread_outcome result ≡ zSpread times.now amounts.now tenors.now rates.now market }
+    ensures { spread_outcome result ≡ z_spread times.now amounts.now tenors.now rates.now market }
 {
     match judge_spread(times, amounts, tenors, rates, refusals::bad_number(market)) {
         Verdict::Refused(refusal) => SpreadAnswer::Refused(refusal),

@@ -14,8 +14,8 @@ use Rattle.steps.proofs.Portions.{one_more, fits_in, steps_on, stepped_rest, wri
 module _ {S A : Type 0} (next : S → S) (writes : S → List A) (w : ℕ) where
   -- ---- fewer than so many pieces of each, from two places: k of each stand
   abbrev pub Underway : ℕ → List A → ℕ → ℕ → S → S → List A → S → S → ℕ → ℕ → ℕ → Type 0
-  Underway most room₀ a b x₀ y₀ room x y xAt yAt k =
-      (room ≡ sets (sets room₀ a (written next writes k x₀)) b (written next writes k y₀)) × (x ≡ stepped next k x₀) × (y ≡ stepped next k y₀) × (xAt ≡ a + k * w) × (yAt ≡ b + k * w)
+  Underway most room₀ a b x₀ y₀ room x y x_at y_at k =
+      (room ≡ sets (sets room₀ a (written next writes k x₀)) b (written next writes k y₀)) × (x ≡ stepped next k x₀) × (y ≡ stepped next k y₀) × (x_at ≡ a + k * w) × (y_at ≡ b + k * w)
       × (k ≤ most - 1) × (length room ≡ length room₀)
 
   pub begun : (most : ℕ) (room : List A) (a b : ℕ) (x y : S) → Underway most room a b x y room x y a b 0
@@ -39,13 +39,13 @@ module _ {S A : Type 0} (next : S → S) (writes : S → List A) (w : ℕ) (wide
   long = length_written next writes w wide
 
   -- a turn lays the piece of each, and both step on
-  pub a_turn : (most : ℕ) (room room₁ room₂ : List A) (x y x' y' : S) (xAt yAt k : ℕ) (xPiece yPiece : List A)
-      → a + most * w ≤ b → Underway next writes w most room₀ a b x₀ y₀ room x y xAt yAt k → k + 1 < most
-      → xPiece ≡ writes x → x' ≡ next x → yPiece ≡ writes y → y' ≡ next y
-      → room₁ ≡ sets room xAt xPiece → room₂ ≡ sets room₁ yAt yPiece → length room₂ ≡ length room
-      → Underway next writes w most room₀ a b x₀ y₀ room₂ x' y' (xAt + w) (yAt + w) (k + 1)
+  pub a_turn : (most : ℕ) (room room₁ room₂ : List A) (x y x' y' : S) (x_at y_at k : ℕ) (x_piece y_piece : List A)
+      → a + most * w ≤ b → Underway next writes w most room₀ a b x₀ y₀ room x y x_at y_at k → k + 1 < most
+      → x_piece ≡ writes x → x' ≡ next x → y_piece ≡ writes y → y' ≡ next y
+      → room₁ ≡ sets room x_at x_piece → room₂ ≡ sets room₁ y_at y_piece → length room₂ ≡ length room
+      → Underway next writes w most room₀ a b x₀ y₀ room₂ x' y' (x_at + w) (y_at + w) (k + 1)
   unfolding pieces
-  a_turn most room room₁ room₂ x y x' y' xAt yAt k xPiece yPiece apart i h px nx py ny e₁ e₂ n =
+  a_turn most room room₁ room₂ x y x' y' x_at y_at k x_piece y_piece apart i h px nx py ny e₁ e₂ n =
       let f : k * w + w ≤ most * w = fits_in w k most (most * w) (omega arith) (omega arith) in
       let m : a + k * w + length (writes (stepped next k x₀)) ≤ b = omega (arith, wide (stepped next k x₀)) in (
         e₂ ∙ rw (e₁, i.0, i.3, i.4, px, py, i.1, i.2, add-one k) (behind_both (xs k) (ys k) (writes (stepped next k x₀)) (writes (stepped next k y₀)) room₀ a b (k * w) (long k x₀) (long k y₀) m),

@@ -75,10 +75,10 @@ module _ {A : Type 0} where
       ∙ ap (λ (p : ℕ). get_or (take i l ++ vs) (p + j) d) (sym n)
       ∙ get_or-append-add (take i l) vs j d
 
-  pub getD_sets_other : (vs l : List A) (i k : ℕ) (d : A) → (k < i) ⊎ (i + length vs ≤ k) → get_or (sets l i vs) k d ≡ get_or l k d
-  getD_sets_other [] l i k d h = refl
-  getD_sets_other (v ∷ vs) l i k d h =
-      getD_sets_other vs (set l i v) (suc i) k d (later h) ∙ get_or-set_other l i k v d (λ (e : k ≡ i). apart h e)
+  pub get_or_sets_other : (vs l : List A) (i k : ℕ) (d : A) → (k < i) ⊎ (i + length vs ≤ k) → get_or (sets l i vs) k d ≡ get_or l k d
+  get_or_sets_other [] l i k d h = refl
+  get_or_sets_other (v ∷ vs) l i k d h =
+      get_or_sets_other vs (set l i v) (suc i) k d (later h) ∙ get_or-set_other l i k v d (λ (e : k ≡ i). apart h e)
     where
       later : (k < i) ⊎ (i + suc (length vs) ≤ k) → (k < suc i) ⊎ (suc i + length vs ≤ k)
       later (inl b) = inl (omega arith)

@@ -1,5 +1,4 @@
 -- `book::answers::put_answers` meets its contract: after i turns the first i answers stand. Assumes nothing.
-use Prim.Native.Nat.{◌-◌}
 use native.Mathlib.Omega.{arith}
 use Rattle.steps.proofs.Places.{none_put, one_more, all_put}
 use Rattle.book.proofs.answers.put_answers.Goals as goal

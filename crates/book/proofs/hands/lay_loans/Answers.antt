@@ -1,6 +1,5 @@
 -- `book::hands::lay_loans` meets its contract: after i turns the room, once the loan in hand is drawn to its end, holds the first i loans whole. Assumes nothing.
 use mathlib.Core.Path.{◌∙◌}
-use Prim.Native.Nat.{◌-◌}
 use native.Mathlib.Omega.{arith}
 use Rattle.book.proofs.Taking.{begun, may_take_next, a_turn, finishes}
 use Rattle.book.proofs.hands.lay_loans.Goals as goal

@@ -1,7 +1,6 @@
 -- `book::hands::no_loan` meets its contract: a term of 0 has no rows. Assumes nothing.
 use native.Mathlib.Omega.{arith}
 use Rattle.mortgage.specs.Month as any_month
-use Rattle.mortgage.specs.Level.{end_month, due}
 use Rattle.book.proofs.hands.no_loan.Goals as goal
 
 pub returns : goal.returns

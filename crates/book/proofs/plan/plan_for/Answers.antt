@@ -1,5 +1,4 @@
 -- `book::plan::plan_for` meets its contract: loan by loan, up to the first that asks for more than is left. Assumes nothing.
-use Prim.Native.Nat.{◌-◌}
 use native.Mathlib.Omega.{arith}
 use Rattle.book.proofs.Planning.{none_passed, one_more, stopped, all_passed}
 use Rattle.book.proofs.plan.plan_for.Goals as goal

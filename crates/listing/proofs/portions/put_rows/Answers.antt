@@ -1,6 +1,5 @@
 -- `listing::portions::put_rows` meets its contract. The loop's invariant: the lines of the first k rows are put, each no longer than a line's room. The measure is how many rows are left. Assumes nothing.
 use mathlib.Core.Path.{◌≡◌}
-use Prim.Native.Nat.{◌-◌}
 use native.Mathlib.Omega.{arith}
 use Rattle.listing.proofs.Putting.{same_room}
 use Rattle.listing.proofs.Lengths.{length_row}

@@ -1,5 +1,4 @@
 -- `listing::text::decimal_size` meets its contract. The loop's invariant: so many digits are counted, and at most as many are left as make ten. The measure is the rest. Assumes nothing.
-use Prim.Native.Nat.{◌-◌}
 use native.Mathlib.Omega.{arith}
 use Rattle.listing.proofs.DigitLaws.{none_counted, one_counted, all_counted}
 use Rattle.listing.proofs.text.decimal_size.Goals as goal

@@ -1,5 +1,4 @@
 -- `listing::text::decimal_size` meets its contract. The loop's invariant: so many digits are counted, and at most as many are left as make ten. The measure is the rest. Assumes nothing.
-use Prim.Native.Nat.{◌-◌}
 use Rattle.listing.proofs.DigitLaws.{Counted}
 use Rattle.listing.proofs.text.decimal_size.Given as goal
 

@@ -1,5 +1,4 @@
 -- `listing::text::put_text` meets its contract. The loop's invariant: the bytes before `i` are put. The measure is what is left of the text. Assumes nothing.
-use Prim.Native.Nat.{◌-◌}
 use native.Mathlib.Nat.{add-zero}
 use native.Mathlib.Omega.{arith}
 use Rattle.listing.proofs.Putting.{nothing, same_room, next_byte, every_byte}

@@ -61,14 +61,14 @@ returns-then-bad_number c =
 pub returns-then-saving : goal.returns-then-saving
 returns-then-saving c =
     let last = only_the_last _ _ _ c.args.elapsed (sym c.bad_amount.ensures ∙ c.if-bad_amount.false) (sym c.bad_amount-2.ensures ∙ c.if-bad_amount-2.false) (sym c.bad_term.ensures ∙ c.if-bad_term.false) (sym c.bad_term-2.ensures ∙ c.if-bad_term-2.false)
-      (sym c.bad_number.ensures ∙ c.if-bad_number.false) in
+    (sym c.bad_number.ensures ∙ c.if-bad_number.false) in
     let saved = saving_is c.args.old c.args.new c.args.cost _ _ c.worked_out.ensures c.worked_out-2.ensures in
     saves_nothing _ _ _ _ 0 saved c.if-saving.true ∙ sym last
 
 pub returns-then-new-month : goal.returns-then-new-month
 returns-then-new-month c =
     let last = only_the_last _ _ _ c.args.elapsed (sym c.bad_amount.ensures ∙ c.if-bad_amount.false) (sym c.bad_amount-2.ensures ∙ c.if-bad_amount-2.false) (sym c.bad_term.ensures ∙ c.if-bad_term.false) (sym c.bad_term-2.ensures ∙ c.if-bad_term-2.false)
-      (sym c.bad_number.ensures ∙ c.if-bad_number.false) in
+    (sym c.bad_number.ensures ∙ c.if-bad_number.false) in
     let saved = saving_is c.args.old c.args.new c.args.cost _ _ c.worked_out.ensures c.worked_out-2.ensures in
     let month = month_is c.args.old c.args.new c.args.cost _ _ c.ceiling_to_u32-month.ensures saved in
     too_late _ _ _ _ _ saved month c.if-saving.false c.if-new-month.true ∙ sym last
@@ -76,7 +76,7 @@ returns-then-new-month c =
 pub returns : goal.returns
 returns c =
     let last = only_the_last _ _ _ c.args.elapsed (sym c.bad_amount.ensures ∙ c.if-bad_amount.false) (sym c.bad_amount-2.ensures ∙ c.if-bad_amount-2.false) (sym c.bad_term.ensures ∙ c.if-bad_term.false) (sym c.bad_term-2.ensures ∙ c.if-bad_term-2.false)
-      (sym c.bad_number.ensures ∙ c.if-bad_number.false) in
+    (sym c.bad_number.ensures ∙ c.if-bad_number.false) in
     let saved = saving_is c.args.old c.args.new c.args.cost _ _ c.worked_out.ensures c.worked_out-2.ensures in
     let month = month_is c.args.old c.args.new c.args.cost _ _ c.ceiling_to_u32-month.ensures saved in
     in_time _ _ _ _ _ saved month c.if-saving.false c.if-new-month.false ∙ sym last

@@ -1,6 +1,5 @@
 -- `mortgage::draws::any_rows` meets its contract: after k turns the room begins with k rows and the loan is k months on. Assumes nothing.
 use mathlib.Core.Path.{◌≡◌, ap}
-use Prim.Native.Nat.{◌-◌}
 use native.Mathlib.Omega.{arith}
 use Rattle.steps.proofs.Laying.{begun, a_turn}
 use Rattle.mortgage.specs.Row.{width, places}

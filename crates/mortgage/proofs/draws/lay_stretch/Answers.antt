@@ -5,7 +5,7 @@ use Rattle.mortgage.proofs.draws.lay_stretch.Goals as goal
 
 pub returns-then-count-eq0 : goal.returns-then-count-eq0
 returns-then-count-eq0 c =
-    let a = c.args in 
+    let a = c.args in
     let whole = none_on a.course a.count a.loan a.room.now c.if-count-eq0.true in
     record { value = whole.0; room_after = whole.1 }
 

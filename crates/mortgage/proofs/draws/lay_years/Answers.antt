@@ -1,6 +1,6 @@
 -- `mortgage::draws::lay_years` meets its contract: after each turn the room begins with the rows so far, up to a year's end or to the last that is asked for. Assumes nothing.
 use mathlib.Core.Path.{◌≡◌, refl}
-use Prim.Native.Nat.{◌-◌, zero-le}
+use Prim.Native.Nat.{zero-le}
 use native.Mathlib.Omega.{arith}
 use Rattle.mortgage.proofs.YearByYear.{none_yet, another, growth_at_hand, begun_term, begun_done, of_a_year, stretch_fits, a_year}
 use Rattle.mortgage.proofs.draws.lay_years.Goals as goal

@@ -1,6 +1,5 @@
 -- `mortgage::draws::ordinary_rows` meets its contract: after k turns the room begins with k rows and the loan is k months on, whichever way the loop is left. Assumes nothing.
 use mathlib.Core.Path.{refl, ap}
-use Prim.Native.Nat.{◌-◌}
 use native.Mathlib.Omega.{arith}
 use Rattle.steps.proofs.Laying.{begun, a_turn}
 use Rattle.mortgage.specs.Row.{width, places}

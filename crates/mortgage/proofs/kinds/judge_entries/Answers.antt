@@ -1,5 +1,4 @@
 -- `mortgage::kinds::judge_entries` meets its contract: no entry before the one in hand is bad. Assumes nothing.
-use Prim.Native.Nat.{◌-◌}
 use native.Mathlib.Omega.{arith}
 use Rattle.mortgage.proofs.KindLaws.{entries_begun, entry_bad, entry_good, entries_ended}
 use Rattle.mortgage.proofs.kinds.judge_entries.Goals as goal

@@ -1,6 +1,5 @@
 -- `mortgage::pairs::pair_rows` meets its contract: after k turns k rows of each loan stand from its place, and each loan is k months on, whichever way the loop is left. Assumes nothing.
 use mathlib.Core.Path.{refl, ap, ◌∙◌}
-use Prim.Native.Nat.{◌-◌}
 use native.Mathlib.Omega.{arith}
 use Rattle.steps.proofs.Pairs.{begun, a_turn}
 use Rattle.mortgage.specs.Row.{width, places}

@@ -1,7 +1,6 @@
 -- `mortgage::totals::balance_after` meets its contract: after k rows the balance in hand is the column's after k rows. Assumes nothing.
 use mathlib.Core.Path.{◌≡◌, refl, ◌∙◌, ap}
 use mathlib.Core.List.{[]}
-use Prim.Native.Nat.{◌-◌}
 use native.Mathlib.Omega.{arith}
 use Rattle.steps.specs.Steps.{stepped}
 use Rattle.mortgage.specs.Totals.{balance_after}

@@ -1,7 +1,6 @@
 -- `mortgage::totals::interest_over` meets its contract: after k rows the total is the interest of k rows. Assumes nothing.
 use mathlib.Core.Path.{◌≡◌, refl, ◌∙◌, ap}
 use mathlib.Core.List.{[]}
-use Prim.Native.Nat.{◌-◌}
 use native.Mathlib.Omega.{arith}
 use Rattle.numbers.specs.Sums.{added_up}
 use Rattle.steps.specs.Steps.{stepped}

@@ -1,6 +1,5 @@
 -- `mortgage::years::enter_rows` meets its contract: after k rows, whole years or parts of them, the lines are those of k rows entered one by one. Assumes nothing.
 use mathlib.Core.Path.{◌≡◌, refl, ◌∙◌}
-use Prim.Native.Nat.{◌-◌}
 use native.Mathlib.Omega.{arith}
 use lib.ListN.{length}
 use Rattle.mortgage.specs.Years.{entered_up_to}

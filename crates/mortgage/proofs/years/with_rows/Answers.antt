@@ -1,7 +1,6 @@
 -- `mortgage::years::with_rows` meets its contract: after k turns the line has k rows added. Assumes nothing.
 use Rattle.mortgage.proofs.EnteringRows.{row_added}
 use mathlib.Core.Path.{◌≡◌, refl}
-use Prim.Native.Nat.{◌-◌}
 use native.Mathlib.Omega.{arith}
 use Rattle.mortgage.specs.inner.RoomRows.{with_rows}
 use Rattle.mortgage.proofs.years.with_rows.Goals as goal

@@ -1,6 +1,6 @@
 -- `pool::flows::add_loans` meets its contract: what is left to add is the loans from the one in hand on. Assumes nothing.
 use mathlib.Core.Path.{refl, ◌∙◌}
-use Prim.Native.Nat.{◌-◌, ◌<◌}
+use Prim.Native.Nat.{◌<◌}
 use native.Mathlib.Omega.{arith}
 use Rattle.pool.specs.Loans.{loan_count, loan_at}
 use Rattle.pool.proofs.LoanWalks.{loans_begin, loans_turn, loans_end, each_loan}

@@ -1,6 +1,5 @@
 -- `pool::flows::set_speeds` meets its contract: the speeds of the months before the one in hand are put. Assumes nothing.
 use mathlib.Core.Path.{◌∙◌, ap}
-use Prim.Native.Nat.{◌-◌}
 use native.Mathlib.Numerals.{add-one}
 use native.Mathlib.Omega.{arith}
 use Rattle.steps.proofs.Places.{none_put, one_more, all_put}

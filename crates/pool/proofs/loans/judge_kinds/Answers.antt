@@ -1,5 +1,4 @@
 -- `pool::loans::judge_kinds` meets its contract: no record before the one in hand is of another kind. Assumes nothing.
-use Prim.Native.Nat.{◌-◌}
 use native.Mathlib.Omega.{arith}
 use Rattle.pool.specs.Loans.{other_kind}
 use Rattle.pool.proofs.Scanning.{begun, found, goes_on, ended}

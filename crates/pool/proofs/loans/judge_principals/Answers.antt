@@ -1,7 +1,5 @@
 -- `pool::loans::judge_principals` meets its contract: no loan before the one in hand has the cause. Assumes nothing.
-use Prim.Native.Nat.{◌-◌}
 use native.Mathlib.Omega.{arith}
-use Rattle.refusals.specs.Table.{bad_amount}
 use Rattle.pool.specs.Loans.{loan_at}
 use Rattle.pool.proofs.Scanning.{begun_of, found, goes_on, ended, told}
 use Rattle.pool.proofs.loans.judge_principals.Invariants.{cause}

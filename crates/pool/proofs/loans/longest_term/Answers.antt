@@ -1,6 +1,5 @@
 -- `pool::loans::longest_term` meets its contract: the longest of the loans passed. Assumes nothing.
 use mathlib.Core.Path.{◌≡◌, sym}
-use Prim.Native.Nat.{◌-◌}
 use native.Mathlib.Omega.{arith}
 use Rattle.pool.specs.Loans.{loan_at}
 use Rattle.pool.proofs.Folds.{longest_none, longest_more}

@@ -1,6 +1,5 @@
 -- `pool::months::clear_months` meets its contract: what is left of the walk is the walk from the month in hand on. Assumes nothing.
 use mathlib.Core.Path.{refl, ◌∙◌}
-use Prim.Native.Nat.{◌-◌}
 use native.Mathlib.Omega.{arith}
 use Rattle.pool.proofs.Walks.{begins, turn, ends}
 use Rattle.pool.proofs.months.clear_months.Invariants.{cleared}

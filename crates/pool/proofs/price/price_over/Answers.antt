@@ -1,6 +1,6 @@
 -- `pool::price::price_over` meets its contract: the months before the one in hand are added up. Assumes nothing.
 use mathlib.Core.Path.{◌≡◌, refl, ◌∙◌, ap}
-use Prim.Native.Nat.{◌+◌, ◌-◌}
+use Prim.Native.Nat.{◌+◌}
 use native.Mathlib.Omega.{arith}
 use Rattle.numbers.specs.Sums.{added_up}
 use lib.Ieee.{Float, binary64, add}

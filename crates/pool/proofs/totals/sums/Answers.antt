@@ -1,6 +1,6 @@
 -- `pool::totals::sums` meets its contract: the sums over the loans passed. Assumes nothing.
 use mathlib.Core.Path.{◌≡◌, ap, ◌∙◌}
-use Prim.Native.Nat.{ℕ, ◌-◌}
+use Prim.Native.Nat.{ℕ}
 use native.Mathlib.Omega.{arith}
 use Rattle.records.specs.EndToEnd.{of_each}
 use Rattle.pool.specs.Loans.{loan_count, loan_at}

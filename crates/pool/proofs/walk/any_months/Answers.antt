@@ -1,6 +1,5 @@
 -- `pool::walk::any_months` meets its contract: what is left of the walk is the walk from the month in hand on, and the balance in hand is the schedule's. Assumes nothing.
 use mathlib.Core.Path.{refl, ◌∙◌}
-use Prim.Native.Nat.{◌-◌}
 use native.Mathlib.Omega.{arith}
 use Rattle.pool.proofs.Walks.{turn, ends}
 use Rattle.pool.proofs.LoanMonths.{any_month}

@@ -5,14 +5,14 @@ use mathlib.Core.List.{List}
 use lib.Seq.{length-take-le}
 use lib.Ieee.{Float}
 use Rattle.refusals.proofs.Verdicts.{refused_alike}
-use Rattle.spread_analytics.specs.Spread.{zSpread}
+use Rattle.spread_analytics.specs.Spread.{z_spread}
 use Rattle.spread_analytics.specs.Dated.{times_of, amounts_of}
 use Rattle.spread_analytics.proofs.Gathering.{same_lists, same_length, many_times}
 use native.Mathlib.Omega.{arith}
 use Rattle.spread_analytics.proofs.dated.z_spread_of_lists.Goals as goal
 
 pub returns-then-count-gt1200 : goal.returns-then-count-gt1200
-unfolding zSpread
+unfolding z_spread
 returns-then-count-gt1200 c =
     let a = c.args in
     λ flows n g.
@@ -28,4 +28,4 @@ pub returns : goal.returns
 returns c =
     let a = c.args in
     λ flows n g.
-    c.z_spread.ensures ∙ same_lists (λ (times amounts : List Float). zSpread times amounts a.tenors.now a.rates.now a.market) flows a.lists a.count n c.if-count-gt1200.false g
+    c.z_spread.ensures ∙ same_lists (λ (times amounts : List Float). z_spread times amounts a.tenors.now a.rates.now a.market) flows a.lists a.count n c.if-count-gt1200.false g

@@ -1,7 +1,7 @@
 -- `spread_analytics::spread::z_spread` meets its contract: the verdict on the flows, the curve and the price is its answer's. Assumes nothing.
 use mathlib.Core.Path.{◌∙◌}
 use Rattle.refusals.proofs.Verdicts.{refused_by, accepted_by}
-use Rattle.spread_analytics.specs.Spread.{zSpread}
+use Rattle.spread_analytics.specs.Spread.{z_spread}
 use Rattle.spread_analytics.proofs.SpreadVerdict.{flows_listed, by_price}
 use Rattle.spread_analytics.proofs.spread.z_spread.Goals as goal
 
@@ -11,13 +11,13 @@ spread_of-requires c =
     flows_listed a.times.now a.amounts.now a.tenors.now a.rates.now _ _ c.in-Accepted.is c.judge_spread.ensures
 
 pub returns-in-Refused : goal.returns-in-Refused
-unfolding zSpread
+unfolding z_spread
 returns-in-Refused c =
     let a = c.args in
     refused_by _ _ _ _ c.in-Refused.is (by_price a.times.now a.amounts.now a.tenors.now a.rates.now c.bad_number.ensures c.judge_spread.ensures)
 
 pub returns-in-Accepted : goal.returns-in-Accepted
-unfolding zSpread
+unfolding z_spread
 returns-in-Accepted c =
     let a = c.args in
     c.spread_of.ensures ∙ accepted_by _ _ _ c.in-Accepted.is (by_price a.times.now a.amounts.now a.tenors.now a.rates.now c.bad_number.ensures c.judge_spread.ensures)

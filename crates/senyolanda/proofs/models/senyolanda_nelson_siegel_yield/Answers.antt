@@ -1,0 +1,11 @@
+-- `senyolanda::models::senyolanda_nelson_siegel_yield` meets its contract. Assumes nothing.
+use mathlib.Core.Path.{ap, ◌∙◌}
+use Rattle.yield_curve.specs.declared.nelson_siegel.NelsonSiegel.{NelsonSiegel}
+use Rattle.yield_curve.specs.NelsonSiegel.{yield_at}
+use Rattle.senyolanda.proofs.Handed.{told_as}
+use Rattle.senyolanda.proofs.models.senyolanda_nelson_siegel_yield.Goals as goal
+
+pub returns : goal.returns
+returns c =
+    let a = c.args in
+    told_as _ _ _ _ _ c.put_number.ensures (c.yield_at.ensures ∙ ap (λ (m : NelsonSiegel). yield_at m a.t) c.model_of.ensures)

@@ -1,0 +1,14 @@
+-- `senyolanda::spreads::put_spread` meets its contract. Assumes nothing.
+use mathlib.Core.Path.{refl, sym, ap}
+use Rattle.spread_analytics.specs.Spread.{spread_outcome}
+use Rattle.senyolanda.proofs.Handed.{refused_so, accepted_so}
+use Rattle.senyolanda.proofs.spreads.put_spread.Goals as goal
+
+pub returns-in-Refused : goal.returns-in-Refused
+returns-in-Refused c = refused_so _ _ _ _ _ _ (sym (ap spread_outcome c.in-Refused.is)) c.refusal_result.ensures
+
+pub returns-in-Found : goal.returns-in-Found
+returns-in-Found c = accepted_so _ _ _ _ _ (sym (ap spread_outcome c.in-Found.is)) refl
+
+pub returns-in-NoSignChange : goal.returns-in-NoSignChange
+returns-in-NoSignChange c = accepted_so _ _ _ _ _ (sym (ap spread_outcome c.in-NoSignChange.is)) refl
