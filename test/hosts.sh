@@ -6,6 +6,8 @@ library=$(readlink -f "${2:?usage: test/hosts.sh ARCHIVE LIBRARY}")
 here=$(dirname "$0")
 room=$(mktemp -d)
 trap 'rm -rf "$room"' EXIT
+# rustc would look for make's jobs.
+unset MAKEFLAGS
 rustc --edition 2021 -C link-arg="$archive" -o "$room/from_rust" "$here/from_rust.rs"
 "$room/from_rust"
 python3 "$here/from_python.py" "$library"

@@ -32,7 +32,7 @@ def copied_to(place):
                 (place / name).parent.mkdir(parents=True, exist_ok=True)
                 shutil.copy2(ROOT / name, place / name)
     else:
-        shutil.copytree(ROOT, place, dirs_exist_ok=True, ignore=shutil.ignore_patterns("build", "target"))
+        shutil.copytree(ROOT, place, dirs_exist_ok=True, ignore=shutil.ignore_patterns("build", "out"))
 
 
 def blocks_of(page):
