@@ -1,10 +1,9 @@
 -- `senyolanda::pools::speed_for` meets its contract. Assumes nothing.
-use mathlib.Core.Path.{◌≡◌, sym, ap, ◌∙◌}
-use mathlib.Core.Bool.{true, ◌&&◌}
+use mathlib.Core.Path.{sym, ap, ◌∙◌}
+use mathlib.Core.Bool.{◌&&◌}
 use Rattle.refusals.specs.Answers.{verdict_outcome}
-use Rattle.refusals.specs.Table.{bad_code}
 use Rattle.pool.specs.Flows.{too_little}
-use Rattle.senyolanda.specs.Pools.{last_speed, speed_of, speed_in_outcome}
+use Rattle.senyolanda.specs.Pools.{speed_of, speed_in_outcome}
 use Rattle.senyolanda.proofs.Codes.{out_of_set, in_set}
 use Rattle.senyolanda.proofs.SpeedCodes.{known_speed, lower_first, before_records, nothing_else}
 use Rattle.senyolanda.proofs.pools.speed_for.Goals as goal
