@@ -2,8 +2,8 @@
 #                 senyolanda.pc for programs that link the library, and the program senyolanda
 # make run        builds, draws a sample loan's schedule, and prints a sample loan's statement
 # make install    puts library, header and program under PREFIX, within DESTDIR; make uninstall takes them away
-# make test       proves everything from nothing by `rt ci`, sees that dist/ is what was proved, then runs every test; its last
-#                 line is `rt ci`'s. It needs the Rattle kit, and so do dist and impostors
+# make test       proves everything by `rt ci`, sees that dist/ is what was proved, then runs every test; its last line is
+#                 `rt ci`'s. It needs the Rattle kit, and so do dist and impostors
 # make dist       makes dist/ anew from the proved crates
 # make impostors CRATES=..   sees that the crates' impostors (every crate's, where none is named) are refused, each where it must be
 # make test-KIND  runs the tests in C over the library for KIND: aarch64, x86-64 or x86-64-v3; emulated where this machine is of
@@ -42,7 +42,7 @@ archiver = $(if $(CROSS_$(1)),$(CROSS_$(1))ar,$(AR))
 LIBRARIES := build/libsenyolanda.a build/libsenyolanda.so $(FASTER:%=build/glibc-hwcaps/%/$(SONAME))
 
 .PHONY: all $(KINDS) run dist test tests bench install uninstall clean cc kit always
-# Two proofs at a time would write the same files under target/.
+# Two proofs at a time would each take every processor.
 .NOTPARALLEL:
 .SECONDARY:
 
@@ -113,21 +113,20 @@ uninstall:
 	rm -f $(FASTER:%=$(DESTDIR)$(LIBDIR)/glibc-hwcaps/%/$(SONAME)) $(DESTDIR)$(BINDIR)/senyolanda
 
 clean:
-	rm -rf build target
+	rm -rf build crates/*/out
 
 # ---- from the crates, with the kit
 
 dist: kit
 	tools/compile --assembly dist
 
-# The gate comes first: it proves from nothing, and what it proved is compiled after it and held to dist/. Its last line is the last here too.
+# The gate comes first, and what it proved is compiled after it and held to dist/. Its last line is the last here too.
 test: kit
 	@tools/need objdump binutils
 	@tools/need c++ g++
 	@tools/need python3 python3
 	@tools/need rustc rustc libstd-rust-dev
 	@tools/need pkg-config pkg-config
-	rt fmt --check
 	test/gate build/gate.log
 	$(MAKE) tests
 	@tail -n 1 build/gate.log

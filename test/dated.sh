@@ -1,24 +1,25 @@
 #!/bin/sh
 # The functions over a lent list of dated amounts, run: programs that lend lists of flows to `pv_of`, `z_spread_of` and `duration_convexity_of`, and
-# the same flows as two lists to the functions over two, on the interpreter and compiled three ways. What they should write is worked out below, by
-# document 01's steps in Python's own floats, and stands in each program's file stdout. Few flows and many are two programs, since the interpreter
-# ends a run after ten million steps.
+# the same flows as two lists to the functions over two, on the interpreter and compiled. What they should write is worked out below, by
+# document 01's steps in Python's own floats. Few flows and many are two programs, since the interpreter ends a run after so many steps.
 set -eu
 cd "$(dirname "$0")/.."
 room=$(mktemp -d)
 trap 'rm -rf "$room"' EXIT
 mkdir "$room/crates"
 for crate in spread_analytics $(sed -n 's/^spread_analytics://p' crates.txt); do
-    cp -R "crates/$crate" "$room/crates/"
+    mkdir "$room/crates/$crate"
+    for part in src specs proofs; do
+        [ ! -d "crates/$crate/$part" ] || cp -R "crates/$crate/$part" "$room/crates/$crate/"
+    done
     grep "^$crate:" crates.txt >>"$room/crates.txt"
 done
 for program in few many; do
-    echo "$program: spread_analytics curves refusals numbers io libc" >>"$room/crates.txt"
+    echo "$program: spread_analytics curves refusals numbers" >>"$room/crates.txt"
 done
 
 cat >"$room/asking.rt" <<'END'
 // Flows as one list of dated amounts and as two lists, over a curve: for each function a line for either.
-use libc::STDOUT_FILENO;
 use numbers::sizes::infinity;
 use refusals::Number;
 use refusals::Refusal;
@@ -26,61 +27,47 @@ use spread_analytics::dated::CashFlow;
 use spread_analytics::spread::SensitivityAnswer;
 use spread_analytics::spread::SpreadAnswer;
 use spread_analytics::units::BasisPoints;
+use std::io;
 
-fn say(word: &[u8]) {
-    io::write_all(STDOUT_FILENO, word);
+fn say_refused(out: &impl Print, refusal: Refusal) -> io::Result<()> {
+    println!(out; " refused {} at {}", refusal.number, refusal.place)
 }
 
-fn say_float(x: f64) {
-    say(b" ");
-    io::print_hex(STDOUT_FILENO, f64::to_bits(x), 16);
-}
-
-fn say_refused(refusal: Refusal) {
-    say(b" refused ");
-    io::print_decimal(STDOUT_FILENO, refusal.number as u64);
-    say(b" at ");
-    io::print_decimal(STDOUT_FILENO, refusal.place as u64);
-}
-
-fn say_worth(answer: Number) {
-    say(b"worth");
+fn say_worth(out: &impl Print, answer: Number) -> io::Result<()> {
+    print!(out; "worth")?;
     match answer {
-        Number::Refused(refusal) => say_refused(refusal),
-        Number::Given(worth) => say_float(worth),
+        Number::Refused(refusal) => say_refused(out, refusal),
+        Number::Given(worth) => println!(out; " {:016x}", worth.to_bits()),
     }
-    say(b"\n");
 }
 
-fn say_spread(answer: SpreadAnswer) {
-    say(b"spread");
+fn say_spread(out: &impl Print, answer: SpreadAnswer) -> io::Result<()> {
+    print!(out; "spread")?;
     match answer {
-        SpreadAnswer::Refused(refusal) => say_refused(refusal),
-        SpreadAnswer::Found(points) => {
-            say(b" found");
-            say_float(points.0);
-        }
-        SpreadAnswer::NoSignChange(points) => {
-            say(b" end");
-            say_float(points.0);
-        }
+        SpreadAnswer::Refused(refusal) => say_refused(out, refusal),
+        SpreadAnswer::Found(points) => println!(out; " found {:016x}", points.0.to_bits()),
+        SpreadAnswer::NoSignChange(points) => println!(out; " end {:016x}", points.0.to_bits()),
     }
-    say(b"\n");
 }
 
-fn say_sensitivity(answer: SensitivityAnswer) {
-    say(b"sensitivity");
+fn say_sensitivity(out: &impl Print, answer: SensitivityAnswer) -> io::Result<()> {
+    print!(out; "sensitivity")?;
     match answer {
-        SensitivityAnswer::Refused(refusal) => say_refused(refusal),
+        SensitivityAnswer::Refused(refusal) => say_refused(out, refusal),
         SensitivityAnswer::Given(s) => {
-            say_float(s.duration);
-            say_float(s.convexity);
+            println!(out; " {:016x} {:016x}", s.duration.to_bits(), s.convexity.to_bits())
         }
     }
-    say(b"\n");
 }
 
-fn ask(flows: &[CashFlow], tenors: &[f64], rates: &[f64], points: f64, market: f64) {
+fn ask(
+    out: &impl Print,
+    flows: &[CashFlow],
+    tenors: &[f64],
+    rates: &[f64],
+    points: f64,
+    market: f64,
+) -> io::Result<()> {
     let mut times = [0.0; 1201];
     let mut amounts = [0.0; 1201];
     let n = flows.len();
@@ -90,38 +77,46 @@ fn ask(flows: &[CashFlow], tenors: &[f64], rates: &[f64], points: f64, market: f
         amounts[i] = flows[i].amount;
         i += 1;
     }
-    say_worth(spread_analytics::dated::pv_of(flows, tenors, rates, BasisPoints(points)));
-    say_worth(spread_analytics::spread::pv_cash_flows(
-        &times[..n],
-        &amounts[..n],
-        tenors,
-        rates,
-        BasisPoints(points),
-    ));
-    say_spread(spread_analytics::dated::z_spread_of(flows, tenors, rates, market));
-    say_spread(spread_analytics::spread::z_spread(
-        &times[..n],
-        &amounts[..n],
-        tenors,
-        rates,
-        market,
-    ));
-    say_sensitivity(spread_analytics::dated::duration_convexity_of(
-        flows,
-        tenors,
-        rates,
-        BasisPoints(points),
-    ));
-    say_sensitivity(spread_analytics::spread::duration_convexity(
-        &times[..n],
-        &amounts[..n],
-        tenors,
-        rates,
-        BasisPoints(points),
-    ));
+    say_worth(out, spread_analytics::dated::pv_of(flows, tenors, rates, BasisPoints(points)))?;
+    say_worth(
+        out,
+        spread_analytics::spread::pv_cash_flows(
+            &times[..n],
+            &amounts[..n],
+            tenors,
+            rates,
+            BasisPoints(points),
+        ),
+    )?;
+    say_spread(out, spread_analytics::dated::z_spread_of(flows, tenors, rates, market))?;
+    say_spread(
+        out,
+        spread_analytics::spread::z_spread(&times[..n], &amounts[..n], tenors, rates, market),
+    )?;
+    say_sensitivity(
+        out,
+        spread_analytics::dated::duration_convexity_of(flows, tenors, rates, BasisPoints(points)),
+    )?;
+    say_sensitivity(
+        out,
+        spread_analytics::spread::duration_convexity(
+            &times[..n],
+            &amounts[..n],
+            tenors,
+            rates,
+            BasisPoints(points),
+        ),
+    )
 }
 
-fn many(count: usize, tenors: &[f64], rates: &[f64], points: f64, market: f64) {
+fn many(
+    out: &impl Print,
+    count: usize,
+    tenors: &[f64],
+    rates: &[f64],
+    points: f64,
+    market: f64,
+) -> io::Result<()> {
     let mut flows = [CashFlow { time: 0.0, amount: 0.0 }; 1201];
     let mut month: u32 = 0;
     let mut i: usize = 0;
@@ -133,10 +128,10 @@ fn many(count: usize, tenors: &[f64], rates: &[f64], points: f64, market: f64) {
         };
         i += 1;
     }
-    ask(&flows[..count], tenors, rates, points, market);
+    ask(out, &flows[..count], tenors, rates, points, market)
 }
 
-fn main() {
+fn main(rt: HostRuntime) -> io::Result<()> {
 END
 
 cases=$(python3 - "$room" <<'END'
@@ -283,11 +278,11 @@ MANY = [
 
 def few(flows, *asked):
     dated = ", ".join("CashFlow { time: %s, amount: %s }" % (text(t), text(a)) for t, a in flows)
-    return "    ask(&[%s], %s, %s, %s, %s);\n" % (dated, *map(texts, asked[:2]), *map(text, asked[2:])), lines(flows, *asked)
+    return "    ask(&rt, &[%s], %s, %s, %s, %s)?;\n" % (dated, *map(texts, asked[:2]), *map(text, asked[2:])), lines(flows, *asked)
 
 
 def many(count, *asked):
-    call = "    many(%d, %s, %s, %s, %s);\n" % (count, *map(texts, asked[:2]), *map(text, asked[2:]))
+    call = "    many(&rt, %d, %s, %s, %s, %s)?;\n" % (count, *map(texts, asked[:2]), *map(text, asked[2:]))
     return call, lines([((i + 1) / 12.0, i + 1.0) for i in range(count)], *asked)
 
 
@@ -295,19 +290,23 @@ room = pathlib.Path(sys.argv[1])
 for name, case, cases in ("few", few, FEW), ("many", many, MANY):
     program = room / "crates" / name
     (program / "src").mkdir(parents=True)
-    with open(program / "src/main.rt", "w") as main, open(program / "stdout", "w") as wanted:
+    (program / "cases").mkdir()
+    (program / "cases" / name).write_text("")
+    with open(program / "src/main.rt", "w") as main, open(program / "cases" / f"{name}.stdout", "w") as wanted:
         main.write((room / "asking.rt").read_text())
         for asked in cases:
             call, answers = case(*asked)
             main.write(call)
             wanted.writelines(answers)
-        main.write("}\n")
+        main.write("    Ok(())\n}\n")
 print(len(FEW) + len(MANY))
 END
 )
-(cd "$room" && rt try few && rt try many) >"$room/said" 2>&1 || {
-    cat "$room/said" >&2
-    echo "dated: the functions over dated flows gave something else" >&2
-    exit 1
-}
-echo "dated: $cases lists of dated flows over a curve gave what their two lists give and what the steps give, on the interpreter and compiled three ways"
+for program in few many; do
+    { (cd "$room/crates/$program" && rt try --cases cases) && grep -q 'runners=2 output=expected' "$room/said"; } >"$room/said" 2>&1 || {
+        cat "$room/said" >&2
+        echo "dated: the functions over dated flows gave something else" >&2
+        exit 1
+    }
+done
+echo "dated: $cases lists of dated flows over a curve gave what their two lists give and what the steps give, on the interpreter and compiled"

@@ -123,9 +123,9 @@ def constant(path, text):
 def functions_of_crate():
     text = "".join(re.sub("//.*", "", path.read_text()) for path in sorted(ROOT.glob("crates/senyolanda/src/**/*.rt")))
     text = re.sub(r"; ([A-Za-z_][\w:]*)\]", lambda length: f"; {constant(length[1], text)}]", text)
-    found = re.findall(r'#\[no_mangle\]\s*pub extern "C" fn (\w+)\(([^)]*)\)\s*->\s*(\w+)', text)
+    found = re.findall(r'#\[unsafe\(no_mangle\)\]\s*pub extern "C" fn (\w+)\(([^)]*)\)\s*->\s*(\w+)', text)
     if not found or len(found) != text.count('extern "C"'):
-        raise Unreadable('the crate has an extern "C" that is not `#[no_mangle] pub extern "C" fn NAME(..) -> TYPE`')
+        raise Unreadable('the crate has an extern "C" that is not `#[unsafe(no_mangle)] pub extern "C" fn NAME(..) -> TYPE`')
     return {name: (C_NAMES[answer], [parameter_of_crate(one.strip()) for one in parameters.split(",") if one.strip()])
             for name, parameters, answer in found}
 

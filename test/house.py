@@ -13,8 +13,6 @@ import re
 import sys
 
 ROOT = pathlib.Path(__file__).resolve().parent.parent
-# The kit's libraries that a crate lists; std is always there.
-KIT = {"io", "libc", "os", "bytes", "check"}
 LITERALS = "crates/numbers/specs/Literals.antt"
 
 # Copies that are wrong in one place: which file, what is replaced, and by what.
@@ -24,9 +22,10 @@ ALTERED = [
     ("crates.txt", "listing: mortgage", "listing: senyolanda mortgage"),
     ("crates.txt", "schedule: ", "# schedule: "),
     ("crates/mortgage/src/draws.rt", "pub(crate) fn put_row", "pub fn put_row"),
-    ("crates/pool/specs/Price.antt", "use Rattle·pool·specs.specs.Flows.", "use Rattle·pool·specs.specs.inner.Walk."),
+    ("crates/mortgage/src/rows.rt", "pub fn next_row", "pub fn odd_row() requires { 1 < 0 } {}\n\npub fn next_row"),
+    ("crates/pool/specs/Price.antt", "use Rattle.pool.specs.Flows.", "use Rattle.pool.specs.inner.Walk."),
     ("crates/book/src/hands.rt", "fn take_in", "pub fn take_in"),
-    ("crates/mortgage/specs/Payment.antt", "unfoldable pub monthlyRate", "abbrev pub year : Float\nyear = ofBits binary64 0x4028_0000_0000_0000\n\nunfoldable pub monthlyRate"),
+    ("crates/mortgage/specs/Payment.antt", "unfoldable pub monthly_rate", "abbrev pub year : Float\nyear = from_bits binary64 0x4028_0000_0000_0000\n\nunfoldable pub monthly_rate"),
 ]
 
 
@@ -43,13 +42,13 @@ def without_comments(text):
 def listed_in(crates_txt):
     lines = (line.split("#")[0] for line in crates_txt.splitlines())
     pairs = (line.split(":") for line in lines if ":" in line)
-    return {name.strip(): names.split() for name, names in pairs}
+    return {kind.split()[0]: names.split() for kind, names in pairs}
 
 
 @functools.lru_cache(maxsize=None)
 def named_in(content):
     """The crates that a file may name: in a path of specs or proofs, or of code."""
-    return frozenset(re.findall(r"Rattle·(\w+)[.·]", content)) | frozenset(re.findall(r"(?<![\w:.])([a-z_]+)::", content))
+    return frozenset(re.findall(r"Rattle\.(\w+)\.", content)) | frozenset(re.findall(r"(?<![\w:.])([a-z_]+)::", content))
 
 
 def faults_of_crates(text):
@@ -61,7 +60,7 @@ def faults_of_crates(text):
     for name in sorted(named.keys() - listed.keys()):
         yield f"crates.txt does not list {name}"
     for name, names in listed.items():
-        reads = named.get(name, set()) & (listed.keys() | KIT) - {name}
+        reads = named.get(name, set()) & (listed.keys() | {*names}) - {name}
         for other in sorted(set(names) - reads):
             yield f"{name} lists {other} and does not read it"
         for other in sorted(reads - set(names)):
@@ -73,31 +72,45 @@ def faults_of_crates(text):
 
 @functools.lru_cache(maxsize=None)
 def functions_of(content):
-    """Each function of a file: whether it is public, its name, and its text up to its body."""
-    found = re.findall(r"^ *(pub(?:\(crate\))? )?(?:extern \"C\" )?fn (\w+)(.*?)^\s*\{", content, re.MULTILINE | re.DOTALL)
-    return [(how.strip() == "pub", name, promise) for how, name, promise in found]
+    """Each function of a file: whether it is public, its name, and its promise, which is each clause in braces before its body."""
+    return [(how.strip() == "pub", name, content[begins:body_at(content, begins)]) for how, name, begins in
+            ((it[1] or "", it[2], it.end()) for it in re.finditer(r"^ *(pub(?:\(crate\))? )?(?:extern \"C\" )?fn (\w+)", content, re.MULTILINE))]
+
+
+def body_at(content, at):
+    """Where the function's body begins: the first brace that no clause opens."""
+    while True:
+        at = content.index("{", at)
+        if not re.search(r"\b(requires|ensures)\*?(\s+\w+)?\s*\Z", content[:at][-200:]):
+            return at
+        depth = 0
+        for brace in re.finditer(r"[{}]", content[at:]):
+            depth += 1 if brace[0] == "{" else -1
+            if depth == 0:
+                at += brace.end()
+                break
 
 
 def faults_of_promises(text):
     for path, content in text.items():
         inner = set()
-        for names in re.findall(r"^(?:ghost )?use Rattle·\S*specs\.inner\.\w+\.\{([^}]*)\}", content, re.MULTILINE):
+        for names in re.findall(r"^(?:ghost )?use Rattle\.\w+\.specs\.inner\.\w+\.\{([^}]*)\}", content, re.MULTILINE):
             inner |= {name.split(" as ")[-1].strip() for name in names.split(",")}
         if "/specs/" in path and "/specs/inner/" not in path and "specs.inner." in without_comments(content):
             yield f"{path} cites inner specs"
         if path.endswith(".rt"):
             for public, name, promise in functions_of(without_comments(content)):
-                if public and re.search(r"^\s*requires\b", promise, re.MULTILINE):
+                if public and re.search(r"\brequires\b", promise):
                     yield f"{path}: {name} asks something of its caller"
                 for word in sorted(inner if public else ()):
-                    if re.search(rf"(?<![\w·.]){re.escape(word)}(?![\w-])", promise):
+                    if re.search(rf"(?<![\w.'-]){re.escape(word)}(?![\w'-])", promise):
                         yield f"{path}: the promise of {name} cites {word}, which is inner"
 
 
 def faults_of_constants(text):
     for path, content in text.items():
         if "/specs/" in path and path != LITERALS and not path.startswith("crates/figures/"):
-            for bits in re.findall(r"ofBits binary64 (0x\w+)", without_comments(content)):
+            for bits in re.findall(r"(?:from|of)_bits binary64 (0x\w+)", without_comments(content)):
                 yield f"{path} writes {bits}, which belongs into {LITERALS}"
 
 

@@ -1,8 +1,8 @@
 #!/usr/bin/env python3
 """promises.py: each line under "What is proved" in README.md names theorems that stand where it says.
 
-A line names a theorem as `NAME` in `PATH`; the file at PATH has to state it for others to cite: `pub NAME :`. The test also has to
-find fault with altered copies of the page.
+A line names a theorem as `NAME` in `PATH`. Of a file of proofs or specs, that has to state it for others to cite: `pub NAME :`. Of a
+file of code, NAME is a function there whose promise says it: `ensures`. The test also has to find fault with altered copies of the page.
 """
 import pathlib
 import re
@@ -10,12 +10,17 @@ import sys
 
 ROOT = pathlib.Path(__file__).resolve().parent.parent
 HEADING = "## What is proved\n"
+STATED = r"^ *pub NAME :"
+# No body begins or ends between the name and the clause.
+PROMISED = r'^(?:pub(?:\(crate\))? )?(?:extern "C" )?fn NAME\((?:(?!\n[{}])[\s\S])*?\n *ensures\b'
 
 # Copies of the page that are wrong in one place: what is replaced, and by what.
 ALTERED = [
     ("`exactly` in `crates/refusals", "`exactly-so` in `crates/refusals"),
     ("crates/refusals/proofs/Judging.antt", "crates/refusals/proofs/Judged.antt"),
-    ("(`draw-kind-spec` in `crates/mortgage/proofs/draws/draw_kind/Proof.antt`)", ""),
+    ("(`draw_kind` in `crates/mortgage/src/draws.rt`)", ""),
+    ("`draw_kind` in `crates/mortgage/src/draws.rt`", "`draw_kinds` in `crates/mortgage/src/draws.rt`"),
+    ("`list` in `crates/listing", "`main` in `crates/schedule/src/main.rt`, and `list` in `crates/listing"),
     (HEADING, "## What holds\n"),
 ]
 
@@ -41,7 +46,7 @@ def faults_of(page):
             file = ROOT / path
             if not file.is_file():
                 yield f"{path} is not there"
-            elif not re.search(rf"^ *pub {re.escape(name)} :", file.read_text(), re.MULTILINE):
+            elif not re.search((PROMISED if path.endswith(".rt") else STATED).replace("NAME", re.escape(name)), file.read_text(), re.MULTILINE):
                 yield f"{path} does not state {name}"
 
 
