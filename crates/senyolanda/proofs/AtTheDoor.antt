@@ -3,7 +3,7 @@
 use mathlib.Core.Path.{◌≡◌, refl, sym, ap, ◌∙◌, subst}
 use mathlib.Core.Bool.{Bool, true, false, cond}
 use mathlib.Core.List.{List, [], ◌∷◌}
-use Prim.Native.Nat.{ℕ, ◌+◌, ◌*◌, ◌^◌, ◌<◌, ◌≤◌}
+use Prim.Native.Nat.{ℕ, ◌+◌, ◌*◌, ◌^◌, ◌<◌}
 use native.Mathlib.Omega.{arith}
 use lib.Dec.{T, eqb}
 use lib.ListN.{length, take}
@@ -31,8 +31,8 @@ use Rattle.mortgage.specs.Payment.{payment, opened, opened_with}
 use Rattle.mortgage.specs.Kinds.{Way, level, interest_only, balloon, adjustable, kind_lines}
 use Rattle.mortgage.specs.Openings.{paying_terms, opening_lines, kind_opened_with, kind_opened}
 use Rattle.mortgage.specs.Row.{width, places}
-use Rattle.mortgage.specs.Month.{end_month, due, row_on, row_of, next_on, next_of}
-use Rattle.mortgage.specs.Rows.{after, rows, NextRow, finished, next, state_lines, next_row}
+use Rattle.mortgage.specs.Month.{due, row_on, row_of, next_of}
+use Rattle.mortgage.specs.Rows.{rows, NextRow, finished, next, state_lines, next_row}
 use Rattle.mortgage.specs.Draws.{draw_lines, drawn, filled}
 use Rattle.mortgage.specs.Demand3.{rows_due, rows_in, handed_back, wrote}
 use Rattle.mortgage.proofs.Exactly.{opening_of_any_kind_with_payment_refused_exactly, draw_of_any_kind_refused_exactly, next_row_of_any_kind_refused_exactly}
@@ -44,7 +44,7 @@ use Rattle.mortgage.proofs.Sequences.{Moves, draw_moves}
 use Rattle.mortgage.proofs.Demand3.{as_opened_of_any_kind}
 use Rattle.senyolanda.specs.Told.{refusal_result, told}
 use Rattle.senyolanda.specs.Loans.{loan_numbers, portion_numbers, kind_next_numbers}
-use Rattle.senyolanda.specs.Calls.{Kept, in_hand, open_answer, open_with_answer, kind_open_answer, kind_open_with_answer, draw_answer, next_answer, Call, draw, next_row_call, rows_said, files, kept_after, filed, kept, RepaysOnceOpen}
+use Rattle.senyolanda.specs.Calls.{Kept, in_hand, open_answer, open_with_answer, kind_open_answer, kind_open_with_answer, draw_answer, next_answer, Call, draw, next_row_call, rows_said, files, kept_after, filed, RepaysOnceOpen}
 use Rattle.senyolanda.proofs.ResultSays.{never_0}
 use Rattle.senyolanda.proofs.loans.senyolanda_open.Kinds as open_kinds
 use Rattle.senyolanda.proofs.loans.senyolanda_open.Reads as open_reads

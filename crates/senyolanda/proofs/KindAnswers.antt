@@ -7,7 +7,7 @@ use lib.Ieee.{Float}
 use borrow.Fn.Kinds.{Dens, res_t, ended_of}
 use contract.Lifetimes.{Lfts}
 use denote.Triple.Clauses.{Lasts, at_exit}
-use Rattle.mortgage.specs.Kinds.{Way, interest_only, balloon, adjustable}
+use Rattle.mortgage.specs.Kinds.{interest_only, balloon, adjustable}
 use Rattle.mortgage.specs.Draws.{filled}
 use Rattle.mortgage.specs.YearDraws.{filled_with_years, summed}
 use Rattle.senyolanda.specs.Loans.{adjustment_of}

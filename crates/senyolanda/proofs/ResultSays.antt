@@ -1,6 +1,6 @@
 -- A result says its refusal: the number is its low half, the place its high half, and it is 0 only where the call was accepted. So where a call is refused by the table's rule,
 -- its result says so exactly when the rule does. Assumes nothing.
-use mathlib.Core.Path.{◌≡◌, refl, ap, ◌∙◌, subst}
+use mathlib.Core.Path.{◌≡◌, refl, subst}
 use mathlib.Core.Logic.{◌↔◌}
 use mathlib.Core.Bool.{Bool}
 use mathlib.Core.List.{List}

@@ -16,7 +16,7 @@ use Rattle.mortgage.specs.Month as any_month
 use Rattle.mortgage.specs.Rows as any_rows
 use Rattle.mortgage.specs.Draws as any_draws
 use Rattle.mortgage.specs.Kinds.{level}
-use Rattle.mortgage.specs.Level.{end_month, due, row_of, next_of, next_row, portion, drawn, filled}
+use Rattle.mortgage.specs.Level.{due}
 use Rattle.mortgage.specs.Month.{last}
 use Rattle.mortgage.specs.RowRule.{interest_of, principal_of, payment_of, left_of}
 use Rattle.steps.specs.Steps.{pieces, stepped}

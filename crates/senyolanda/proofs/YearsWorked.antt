@@ -19,7 +19,7 @@ use Rattle.mortgage.specs.Month as any_month
 use Rattle.mortgage.specs.Draws as any_draws
 use Rattle.mortgage.specs.YearDraws as any_years
 use Rattle.mortgage.specs.Kinds.{level}
-use Rattle.mortgage.specs.Level.{end_month, due, row_of, next_of, portion, drawn_with_years, filled_with_years, summed, looked_up}
+use Rattle.mortgage.specs.Level.{filled_with_years, summed}
 use Rattle.mortgage.specs.Month.{last}
 use Rattle.mortgage.specs.Years.{year_width, with_row, goes_on_from, entered, entered_up_to}
 use Rattle.senyolanda.specs.Told.{told}

@@ -4,9 +4,6 @@ use Rattle.senyolanda.specs.Bonds.{bond_in_outcome}
 use Rattle.senyolanda.proofs.Handed.{not_read, asked_of}
 use Rattle.senyolanda.proofs.bonds.senyolanda_bond_modified_duration_at_price.Goals as goal
 
-  statement,
-}
-
 pub returns-in-Refused : goal.returns-in-Refused
 returns-in-Refused c = not_read _ _ _ _ _ _ _ (sym (ap bond_in_outcome c.in-Refused.is) ∙ c.bond_in.ensures) c.refusal_result.ensures
 

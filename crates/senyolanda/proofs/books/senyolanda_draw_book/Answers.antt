@@ -5,4 +5,4 @@ use Rattle.senyolanda.proofs.books.senyolanda_draw_book.Goals as goal
 pub returns : goal.returns
 returns c =
     let d = c.draw_book in
-    (told_as _ _ _ _ _ c.put_progress.ensures d.ensures.result_value, d.ensures.1)
+    record { waiting_after = told_as _ _ _ _ _ c.put_progress.ensures d.ensures.result_value; room_after = d.ensures.room_after; answers_after = d.ensures.answers_after }

@@ -1,6 +1,5 @@
 -- `senyolanda::dated::parted` meets its contract: the times and amounts of the flows before the one in hand lie in their places. Assumes nothing.
 use mathlib.Core.Path.{◌≡◌}
-use Prim.Native.Nat.{◌-◌}
 use native.Mathlib.Omega.{arith}
 use Rattle.senyolanda.proofs.DatedAmounts.{none_yet, one_more, with_times, with_amounts}
 use Rattle.senyolanda.proofs.dated.parted.Goals as goal

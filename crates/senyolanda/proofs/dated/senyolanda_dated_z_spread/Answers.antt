@@ -6,13 +6,13 @@ use lib.ListN.{length}
 use lib.Seq.{length-take-le}
 use lib.Ieee.{Float}
 use Rattle.refusals.specs.Table.{bad_number}
-use Rattle.spread_analytics.specs.Spread.{spread_of, zSpread}
+use Rattle.spread_analytics.specs.Spread.{spread_of, z_spread}
 use Rattle.senyolanda.specs.Spreads.{spread_numbers}
 use Rattle.senyolanda.proofs.DatedAmounts.{told_odd, told_even}
 use Rattle.senyolanda.proofs.dated.senyolanda_dated_z_spread.Goals as goal
 
 pub returns-then-flows-ne0 : goal.returns-then-flows-ne0
-unfolding zSpread
+unfolding z_spread
 returns-then-flows-ne0 c =
     let a = c.args in
     told_odd spread_numbers (λ (times amounts : List Float). spread_of times amounts a.tenors.now a.rates.now a.market) (bad_number a.market) a.flows.now a.tenors.now a.rates.now (a.points.now, a.found.now) _ _
@@ -31,7 +31,7 @@ slice_bounds-z_spread-end-2 c =
     sym (length-take-le _ _ (omega (arith, parts.ensures.value)))
 
 pub returns : goal.returns
-unfolding zSpread
+unfolding z_spread
 returns c =
     let a = c.args in
     told_even spread_numbers (λ (times amounts : List Float). spread_of times amounts a.tenors.now a.rates.now a.market) (bad_number a.market) a.flows.now a.tenors.now a.rates.now (a.points.now, a.found.now)

@@ -5,9 +5,6 @@ use Rattle.yield_curve.specs.NelsonSiegel.{forward_rate_at}
 use Rattle.senyolanda.proofs.Handed.{told_as}
 use Rattle.senyolanda.proofs.models.senyolanda_nelson_siegel_forward_rate.Goals as goal
 
-  statement,
-}
-
 pub returns : goal.returns
 returns c =
     let a = c.args in

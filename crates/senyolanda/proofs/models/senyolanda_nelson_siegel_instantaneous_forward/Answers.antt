@@ -4,8 +4,5 @@ use lib.Ieee.{Float}
 use Rattle.yield_curve.specs.NelsonSiegel.{instant_forward}
 use Rattle.senyolanda.proofs.models.senyolanda_nelson_siegel_instantaneous_forward.Goals as goal
 
-  statement,
-}
-
 pub returns : goal.returns
 returns c = ap (λ (x : Float). (0, x)) (c.instantaneous_forward.ensures ∙ ap instant_forward c.model_of.ensures)

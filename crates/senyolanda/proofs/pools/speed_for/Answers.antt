@@ -1,22 +1,17 @@
 -- `senyolanda::pools::speed_for` meets its contract. Assumes nothing.
-use mathlib.Core.Path.{◌≡◌, sym, ap, ◌∙◌}
-use mathlib.Core.Bool.{true, ◌&&◌}
+use mathlib.Core.Path.{sym, ap, ◌∙◌}
+use mathlib.Core.Bool.{◌&&◌}
 use Rattle.refusals.specs.Answers.{verdict_outcome}
-use Rattle.refusals.specs.Table.{bad_code}
 use Rattle.pool.specs.Flows.{too_little}
-use Rattle.senyolanda.specs.Pools.{last_speed, speed_of, speed_in_outcome}
+use Rattle.senyolanda.specs.Pools.{speed_of, speed_in_outcome}
 use Rattle.senyolanda.proofs.Codes.{out_of_set, in_set}
 use Rattle.senyolanda.proofs.SpeedCodes.{known_speed, lower_first, before_records, nothing_else}
 use Rattle.senyolanda.proofs.pools.speed_for.Goals as goal
 
--- what an unknown code is refused with
-unset : (c : goal.In-Refused-2) → (bad_code last_speed c.args.code ≡ true) × (c.in-Refused.unknown.number ≡ 11) × (c.in-Refused.unknown.place ≡ 0)
-unfolding speed_of
-unset c = out_of_set _ _ _ _ (sym (ap speed_in_outcome c.in-Refused.is) ∙ c.speed_of.ensures)
-
 pub returns-then-refusal-eq11 : goal.returns-then-refusal-eq11
+unfolding speed_of
 returns-then-refusal-eq11 c =
-    let set = unset c in
+    let set = out_of_set _ _ _ _ (sym (ap speed_in_outcome c.in-Refused.is) ∙ c.speed_of.ensures) in
     before_records _ _ _ _ set.0 _ _ set.1 set.2 _ _ (sym (ap verdict_outcome c.in-Refused-judge_pool.is) ∙ c.judge_pool.ensures) c.if-refusal-eq11.true
 
 pub returns-in-Given : goal.returns-in-Given
@@ -27,11 +22,13 @@ returns-in-Given c =
     known_speed a.records.now (a.asked && too_little a.records.now a.room) _ _ _ set.0 set.1
 
 pub returns-else-refusal-eq11 : goal.returns-else-refusal-eq11
+unfolding speed_of
 returns-else-refusal-eq11 c =
-    let set = unset c in
+    let set = out_of_set _ _ _ _ (sym (ap speed_in_outcome c.in-Refused.is) ∙ c.speed_of.ensures) in
     lower_first _ _ _ _ set.0 _ _ (sym (ap verdict_outcome c.in-Refused-judge_pool.is) ∙ c.judge_pool.ensures) c.if-refusal-eq11.false
 
 pub returns-in-Accepted : goal.returns-in-Accepted
+unfolding speed_of
 returns-in-Accepted c =
-    let set = unset c in
+    let set = out_of_set _ _ _ _ (sym (ap speed_in_outcome c.in-Refused.is) ∙ c.speed_of.ensures) in
     nothing_else _ _ _ _ set.0 _ _ set.1 set.2 (sym (ap verdict_outcome c.in-Accepted.is) ∙ c.judge_pool.ensures)

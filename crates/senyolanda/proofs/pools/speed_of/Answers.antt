@@ -24,6 +24,5 @@ pub returns-in_default : goal.returns-in_default
 unfolding speed_of speed_at bad_code judged first_or
 returns-in_default c =
     let x = c.args.code in
-    let m = c.in_default.rest in
-    let h : 2 < x = omega (arith, m.1, m.0.1, m.0.0.1) in
+    let h : 2 < x = omega arith in
     refused_as 11 _ (speed_of x c.args.number) c.refuse.ensures (rw (lt-ltb 2 x h))

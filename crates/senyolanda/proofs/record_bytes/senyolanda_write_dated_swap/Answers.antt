@@ -30,22 +30,22 @@ returns-then-too_large-2 c =
     c.refusal_result-then-too_large-2.ensures
 
 pub overflow_cast-swap : goal.overflow_cast-swap
-overflow_cast-swap c = let a = c.args in let held = held_so (date_of a.first-year a.first-month a.first-day) (sym c.too_large.ensures ∙ c.if-too_large.false) in omega (arith, held.0)
+overflow_cast-swap c = let a = c.args in let held = held_so (date_of a.first_year a.first_month a.first_day) (sym c.too_large.ensures ∙ c.if-too_large.false) in omega (arith, held.0)
 
 pub overflow_cast-swap-2 : goal.overflow_cast-swap-2
-overflow_cast-swap-2 c = let a = c.args in let held = held_so (date_of a.first-year a.first-month a.first-day) (sym c.too_large.ensures ∙ c.if-too_large.false) in omega (arith, held.1)
+overflow_cast-swap-2 c = let a = c.args in let held = held_so (date_of a.first_year a.first_month a.first_day) (sym c.too_large.ensures ∙ c.if-too_large.false) in omega (arith, held.1)
 
 pub overflow_cast-swap-3 : goal.overflow_cast-swap-3
-overflow_cast-swap-3 c = let a = c.args in let held = held_so (date_of a.first-year a.first-month a.first-day) (sym c.too_large.ensures ∙ c.if-too_large.false) in omega (arith, held.2)
+overflow_cast-swap-3 c = let a = c.args in let held = held_so (date_of a.first_year a.first_month a.first_day) (sym c.too_large.ensures ∙ c.if-too_large.false) in omega (arith, held.2)
 
 pub overflow_cast-swap-4 : goal.overflow_cast-swap-4
-overflow_cast-swap-4 c = let a = c.args in let held = held_so (date_of a.second_year a.second-month a.second-day) (sym c.too_large-2.ensures ∙ c.if-too_large-2.false) in omega (arith, held.0)
+overflow_cast-swap-4 c = let a = c.args in let held = held_so (date_of a.second_year a.second_month a.second_day) (sym c.too_large-2.ensures ∙ c.if-too_large-2.false) in omega (arith, held.0)
 
 pub overflow_cast-swap-5 : goal.overflow_cast-swap-5
-overflow_cast-swap-5 c = let a = c.args in let held = held_so (date_of a.second_year a.second-month a.second-day) (sym c.too_large-2.ensures ∙ c.if-too_large-2.false) in omega (arith, held.1)
+overflow_cast-swap-5 c = let a = c.args in let held = held_so (date_of a.second_year a.second_month a.second_day) (sym c.too_large-2.ensures ∙ c.if-too_large-2.false) in omega (arith, held.1)
 
 pub overflow_cast-swap-6 : goal.overflow_cast-swap-6
-overflow_cast-swap-6 c = let a = c.args in let held = held_so (date_of a.second_year a.second-month a.second-day) (sym c.too_large-2.ensures ∙ c.if-too_large-2.false) in omega (arith, held.2)
+overflow_cast-swap-6 c = let a = c.args in let held = held_so (date_of a.second_year a.second_month a.second_day) (sym c.too_large-2.ensures ∙ c.if-too_large-2.false) in omega (arith, held.2)
 
 pub returns : goal.returns
 unfolding bad_code

@@ -34,6 +34,6 @@ pub returns-in-Accepted : goal.returns-in-Accepted
 returns-in-Accepted c =
     let f = c.from_par_rates-found in
     let told = c.in-Accepted.is in
-    let room = c.args.zero-rates.now in
+    let room = c.args.zero_rates.now in
     accepted_so _ _ _ _ _ (solved _ _ _ _ f.ensures.0 f.ensures.1 told)
     (c.copy_over.ensures ∙ ap (zeros_over room) (in_front _ _ _ _ f.ensures.0 f.ensures.1 told))

@@ -9,9 +9,6 @@ use Rattle.senyolanda.proofs.Codes.{refused_code}
 use Rattle.senyolanda.proofs.Handed.{accepted_so, not_read, asked_of}
 use Rattle.senyolanda.proofs.swap_values.senyolanda_day_count_fraction.Goals as goal
 
-  statement,
-}
-
 pub returns-then-day_count-gt2 : goal.returns-then-day_count-gt2
 unfolding fraction_of day_count_of bad_code
 returns-then-day_count-gt2 c = not_read _ _ _ _ _ _ _ (refused_as 11 _ _ c.refuse.ensures (refused_code _ _ (lt-ltb 2 _ c.if-day_count-gt2.true))) c.refusal_result.ensures

@@ -2,8 +2,5 @@
 use Rattle.senyolanda.proofs.Handed.{told_as}
 use Rattle.senyolanda.proofs.yield_curves.senyolanda_yield_curve_forward_rate.Goals as goal
 
-  statement,
-}
-
 pub returns : goal.returns
 returns c = told_as _ _ _ _ _ c.put_number.ensures c.forward_rate.ensures
