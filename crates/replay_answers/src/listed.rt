@@ -47,7 +47,7 @@ fn over(
     fourth: &[f64],
 ) -> Number {
     match question / 100 {
-        5 => crate::curves::answer(question, case, first, second),
+        5 => crate::curve_lookups::answer(question, case, first, second),
         6 => crate::swap_values::answer(question, case, first, second),
         7 => crate::spreads::answer(question, case, first, second, third, fourth),
         _ => replaying::no_answer(),

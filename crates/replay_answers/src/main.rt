@@ -6,7 +6,7 @@
 #![tactic(auto)]
 
 mod bonds;
-mod curves;
+mod curve_lookups;
 mod listed;
 mod loans;
 mod powers;
