@@ -27,6 +27,7 @@ pub(crate) fn growth(r: f64, months: u32) -> f64
 }
 
 // The payment over so many months, whose growth is the factor: where nothing grows, equal parts.
+#[tactic(auto, unfolding(crate::specs::Payment::equal_part))]
 pub(crate) fn payment_by(principal: f64, r: f64, months: u32, factor: f64) -> f64
     ensures { result ≡ payment_by principal r months factor }
 {
