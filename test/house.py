@@ -30,7 +30,8 @@ ALTERED = [
 
 
 def text_of():
-    files = [ROOT / "crates.txt"] + [f for f in (ROOT / "crates").rglob("*") if f.suffix in (".rt", ".antt")]
+    parts = [part for crate in (ROOT / "crates").iterdir() for part in (crate / "src", crate / "specs", crate / "proofs")]
+    files = [ROOT / "crates.txt"] + [f for part in parts for f in part.rglob("*") if f.suffix in (".rt", ".antt")]
     return {str(f.relative_to(ROOT)): f.read_text() for f in files}
 
 
