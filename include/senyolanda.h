@@ -1404,45 +1404,45 @@ static inline SENYOLANDA_CHECKED senyolanda_result senyolanda_flows_duration_con
  * STACK. The bytes of stack that each function (senyolanda_..) touches beyond the call itself, at the largest input that it takes:
  * the larger of what was measured for Arm and for x86-64.
  *
- *     39616 dated_z_spread                     508 linear_interpolate_each            16 exp
- *     38704 pool_convexity                     508 swap_curve_rate_each               16 power
- *     38704 pool_duration                      508 zero_curve_rate_each               16 yield_curve_discount_factor
- *     38608 pool_price                         488 bond_convexity                     16 zero_coupon_bond_price
- *     21984 dated_duration_convexity           488 bond_macaulay_duration_at_price    16 zero_curve_discount_factor
- *     21936 dated_pv                           488 bond_modified_duration_at_price     8 bond_cash_flows
- *     20384 z_spread                           488 bond_price_change                   8 yield_curve_forward_rate
- *      9824 pool_cash_flows                    464 draw_balloon                        0 bond_current_yield
- *      7856 bootstrap                          464 draw_interest_only                  0 bond_dv01
- *      5768 value_dated_swap                   456 bond_macaulay_duration              0 bond_price
- *      5704 value_swap                         456 bond_modified_duration              0 day_count_fraction
- *      5672 dated_swap_dv01                    448 draw_adjustable                     0 day_number
- *      5608 swap_dv01                          432 draw                                0 discount_curve_rate
- *      4632 dated_swap_npv                     416 draw_book                           0 linear_interpolate
- *      4600 dated_par_swap_rate                360 bond_yield_to_maturity              0 ln
- *      4600 dated_swap_duration                344 next_adjustable_row                 0 look_up_year
- *      4568 swap_npv                           328 next_balloon_row                    0 ltv
- *      4552 par_swap_rate                      328 next_interest_only_row              0 monthly_payment
- *      4552 swap_duration                      264 next_row                            0 months_later
- *      4504 fixed_leg_pv                        96 open_adjustable                     0 nelson_siegel_instantaneous_forward
- *      4504 floating_leg_pv                     96 open_balloon                        0 nelson_siegel_metrics
- *      4440 dated_fixed_leg_pv                  96 open_interest_only                  0 open
- *      4440 dated_floating_leg_pv               96 read_dated_swap                     0 open_balloon_with_payment
- *      3936 cubic_spline_interpolate            96 zero_curve_forward_rate             0 open_interest_only_with_payment
- *      2752 duration_convexity                  72 write_dated_swap                    0 open_with_payment
- *      2704 pv_cash_flows                       68 date_of_number                      0 periods_per_year
- *      1920 nelson_siegel_fit                   64 nelson_siegel_forward_rate          0 points_to_decimal
- *      1488 par_yield                           64 nelson_siegel_yield                 0 prepayment_savings
- *      1232 listing                             56 actual_days                         0 read_loan
- *       928 discount_curve_factor_each          56 dated_fraction                      0 remaining_balance
- *       928 yield_curve_discount_factor_each    48 read_swap                           0 swap_curve_rate
- *       928 zero_curve_discount_factor_each     40 days_30_360                         0 total_interest
- *       784 exp_each                            32 look_up_balloon_year                0 write_bond
- *       752 draw_adjustable_with_years          32 monthly_smm                         0 write_loan
- *       752 draw_balloon_with_years             32 read_row                            0 write_row
- *       752 draw_interest_only_with_years       32 refinance_breakeven                 0 write_swap
- *       736 draw_with_years                     24 pool_totals                         0 zero_curve_rate
- *       520 bond_convexity_at_price             24 read_bond
- *       508 discount_curve_rate_each            16 discount_curve_factor
+ *     39672 dated_z_spread                     520 bond_convexity                    56 actual_days
+ *     38688 pool_convexity                     504 bond_macaulay_duration_at_price   56 dated_fraction
+ *     38688 pool_duration                      504 bond_modified_duration_at_price   56 read_swap
+ *     38640 pool_price                         504 draw_adjustable                   48 read_bond
+ *     22088 dated_duration_convexity           504 draw_balloon                      48 refinance_breakeven
+ *     22040 dated_pv                           504 draw_interest_only                40 bond_cash_flows
+ *     20408 z_spread                           488 bond_macaulay_duration            40 days_30_360
+ *     11720 bootstrap                          488 bond_modified_duration            40 look_up_balloon_year
+ *      9872 pool_cash_flows                    488 draw                              40 read_row
+ *      5832 value_dated_swap                   440 draw_book                         32 bond_current_yield
+ *      5832 value_swap                         432 bond_yield_to_maturity            32 bond_dv01
+ *      5640 dated_swap_dv01                    384 discount_curve_rate_each          32 bond_price
+ *      5640 swap_dv01                          384 linear_interpolate_each           32 exp
+ *      4536 dated_swap_npv                     384 swap_curve_rate_each              32 ln
+ *      4536 swap_npv                           384 zero_curve_rate_each              32 pool_totals
+ *      4520 dated_swap_duration                352 next_adjustable_row                8 look_up_year
+ *      4520 swap_duration                      320 next_balloon_row                   8 open_balloon_with_payment
+ *      4504 dated_fixed_leg_pv                 320 next_interest_only_row             8 open_interest_only_with_payment
+ *      4504 dated_floating_leg_pv              256 next_row                           8 read_loan
+ *      4504 dated_par_swap_rate                112 zero_curve_forward_rate            0 day_count_fraction
+ *      4504 fixed_leg_pv                        96 read_dated_swap                    0 day_number
+ *      4504 floating_leg_pv                     96 yield_curve_forward_rate           0 ltv
+ *      4504 par_swap_rate                       64 discount_curve_factor              0 monthly_payment
+ *      3984 cubic_spline_interpolate            64 discount_curve_rate                0 months_later
+ *      2792 duration_convexity                  64 linear_interpolate                 0 nelson_siegel_instantaneous_forward
+ *      2760 pv_cash_flows                       64 monthly_smm                        0 nelson_siegel_metrics
+ *      2056 par_yield                           64 nelson_siegel_forward_rate         0 open
+ *      1960 nelson_siegel_fit                   64 nelson_siegel_yield                0 open_with_payment
+ *      1240 listing                             64 open_adjustable                    0 periods_per_year
+ *      1016 discount_curve_factor_each          64 open_balloon                       0 points_to_decimal
+ *      1016 yield_curve_discount_factor_each    64 open_interest_only                 0 prepayment_savings
+ *      1016 zero_curve_discount_factor_each     64 power                              0 remaining_balance
+ *       920 exp_each                            64 swap_curve_rate                    0 total_interest
+ *       792 draw_adjustable_with_years          64 write_dated_swap                   0 write_bond
+ *       792 draw_balloon_with_years             64 yield_curve_discount_factor        0 write_loan
+ *       792 draw_interest_only_with_years       64 zero_coupon_bond_price             0 write_row
+ *       776 draw_with_years                     64 zero_curve_discount_factor         0 write_swap
+ *       536 bond_convexity_at_price             64 zero_curve_rate
+ *       528 bond_price_change                   60 date_of_number
  */
 
 #ifdef __cplusplus
