@@ -78,6 +78,8 @@ APART = {
     "zeroRates": "zero_rates_of",
     "firstDay": "first_day_of",
     "secondDay": "second_day_of",
+    "looked-up": "year_found",
+    "no-row-drawn": "year_refused",
     "getD-sets-other": "get_or_sets_other",
     "next_row": "next_row_call",
     "cut_short": "cut_short_lem",
@@ -104,7 +106,7 @@ def main():
     # Where a lemma with dashes would get a definition's name, it is told apart by `_lem`.
     defined = {spelled(n) for n in own if CAMEL.match(n)} | {n for n in names | outside if not wants(n)}
     apart = dict(APART)
-    for n in own:
+    for n in own - APART.keys():
         if DASHED.match(n) and not CAMEL.match(n) and spelled(n) in defined:
             apart[n] = spelled(n) + "_lem"
     new_of = lambda n: apart.get(n) or spelled(n)

@@ -40,12 +40,12 @@ module _ (n : ℕ) (l l' : Loan) (e : l' ≡ after n l) (h : n ≤ due l) where
       ∙ ap (sets room at) (written_rest next_of row_places n (due l) l l' h e)
 
 -- ---- a loan in hand at a, and one that is taken in at b: n rows of each
-module _ (room room' : List Float) (a b n : ℕ) (l m : Loan) (apart : a + due l * width ≤ b) (Laid-both : room' ≡ sets (sets room a (rows n l)) b (rows n m)) where
+module _ (room room' : List Float) (a b n : ℕ) (l m : Loan) (apart : a + due l * width ≤ b) (laid_both : room' ≡ sets (sets room a (rows n l)) b (rows n m)) where
   -- the one in hand keeps rows
   keeps_first : (l' : Loan) → l' ≡ after n l → n ≤ due l → n ≡ due m → drawn_out room' (a + n * width) l' ≡ drawn_out (drawn_out room a l) b m
   keeps_first l' e h d =
       let w : a + n * width + length (rows (due l') l') ≤ b = omega (arith, length_rows (due l') l', rest n l l' e h, h, apart) in
-      ap (λ (z : List Float). drawn_out z (a + n * width) l') Laid-both
+      ap (λ (z : List Float). drawn_out z (a + n * width) l') laid_both
       ∙ sym (sets_apart (rows n m) (rows (due l') l') (sets room a (rows n l)) (a + n * width) b w)
       ∙ ap (λ (z : List Float). sets z b (rows n m)) (drawn_on n l l' e h room a)
       ∙ ap (λ (k : ℕ). sets (drawn_out room a l) b (rows k m)) d
@@ -53,7 +53,7 @@ module _ (room room' : List Float) (a b n : ℕ) (l m : Loan) (apart : a + due l
   -- or the one taken in does, or neither
   keeps_second : (m' : Loan) → m' ≡ after n m → n ≤ due m → n ≡ due l → drawn_out room' (b + n * width) m' ≡ drawn_out (drawn_out room a l) b m
   keeps_second m' e h d =
-      ap (λ (z : List Float). drawn_out z (b + n * width) m') Laid-both
+      ap (λ (z : List Float). drawn_out z (b + n * width) m') laid_both
       ∙ drawn_on n m m' e h (sets room a (rows n l)) b
       ∙ ap (λ (k : ℕ). drawn_out (sets room a (rows k l)) b m) d
 

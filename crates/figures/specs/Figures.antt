@@ -94,7 +94,7 @@ pub record Figures : Type 0 where
   -- P 1000, rate 6, n 1: payment 1500
   pub one_month : monthly_payment (a_thousand (number 6) 1) ≡ accepted (number 1500)
   -- n 2: payment 900, principals 400, 600
-  pub two_months_lem : monthly_payment (a_thousand (number 6) 2) ≡ accepted (number 900)
+  pub two_months : monthly_payment (a_thousand (number 6) 2) ≡ accepted (number 900)
   pub two_principals : principals 2 (loan_of (a_thousand (number 6) 2) (payment (a_thousand (number 6) 2))) ≡ number 400 ∷ number 600 ∷ []
   -- NaN rate, n 2: principals 0, 1000
   pub unknown_rate : principals 2 (loan_of (a_thousand nan 2) (payment (a_thousand nan 2))) ≡ number 0 ∷ number 1000 ∷ []
@@ -122,7 +122,7 @@ figures = record {
   below_zero = refl;
   listed = refl;
   one_month = refl;
-  two_months_lem = refl;
+  two_months = refl;
   two_principals = refl;
   unknown_rate = refl;
   too_small = refl;

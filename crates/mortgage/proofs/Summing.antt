@@ -174,8 +174,8 @@ module _ (way : Way) where
       pub sums_up : SumsUp way (m, lines) numbers
       sums_up = record {
         line_is = λ year some begun. line_of_year year some (as_begun year begun);
-        looked_up_lem = λ year some begun. found year some (as_begun year begun);
-        no_row_drawn_lem = λ year other. elim other [
+        year_found = λ year some begun. found year some (as_begun year begun);
+        year_refused = λ year other. elim other [
           | inl z ↦ sym (lookup_year_0 way m lines year good_still enough_still not_past z)
           | inr h ↦ sym (lookup_no_row way m lines year good_still enough_still not_past (λ z. omega arith) (rw done_is (as_not_begun year h)))
         ];

@@ -39,7 +39,7 @@ use Rattle.mortgage.proofs.years.look_up_year.Reads as look_up_year
 use Rattle.mortgage.proofs.terms.judge_terms.Kinds as judge_terms_kinds
 use Rattle.mortgage.proofs.terms.judge_terms.Reads as judge_terms
 use Rattle.mortgage.proofs.pairs.lay_at.Kinds as lay_at_kinds
-use Rattle.mortgage.proofs.pairs.lay_at.Reads as Lay-at
+use Rattle.mortgage.proofs.pairs.lay_at.Reads as lay_at_reads
 use Rattle.mortgage.proofs.pairs.lay_both.Kinds as lay_both_kinds
 use Rattle.mortgage.proofs.pairs.lay_both.Reads as lay_both
 use Rattle.mortgage.proofs.kinds.judge_kind.Kinds as judge_kind_kinds
@@ -170,10 +170,10 @@ pub look_up_kind_year_determined : Determined 1 look_up_kind_year_kinds.ps look_
 look_up_kind_year_determined κs a x y e e' p q = year_one_to_one x y (p [] ∙ sym (q []))
 
 -- ---- rows at places of a room, the second parameter of one loan's and the third of two loans'
-pub lay_at_determined : Determined 1 lay_at_kinds.ps lay_at_kinds.r Lay-at.Post
+pub lay_at_determined : Determined 1 lay_at_kinds.ps lay_at_kinds.r lay_at_reads.Post
 lay_at_determined κs a x y e e' p q = p.0 ∙ sym q.0
 
-pub lay_at_room_settled : Settled 1 lay_at_kinds.ps lay_at_kinds.r Lay-at.Post
+pub lay_at_room_settled : Settled 1 lay_at_kinds.ps lay_at_kinds.r lay_at_reads.Post
 lay_at_room_settled κs a x y w w' p q = ap (λ (l : List Float). (tt, (l, (tt, (tt, tt))))) (p.1 ∙ sym q.1)
 
 pub lay_both_determined : Determined 1 lay_both_kinds.ps lay_both_kinds.r lay_both.Post

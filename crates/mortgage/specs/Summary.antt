@@ -37,6 +37,6 @@ module _ (way : Way) where
   pub record SumsUp (k : Kept) (numbers : List Float) : Type 0 where
     -- the line of every year with a row is the definition's, and a lookup gives it
     pub line_is : (year : ℕ) → 0 < year → year ≤ years_begun numbers → year_at k.1 (year - 1) ≡ year_line numbers year
-    pub looked_up_lem : (year : ℕ) → 0 < year → year ≤ years_begun numbers → looked_up way k.0 k.1 year ≡ accepted (year_line numbers year)
+    pub year_found : (year : ℕ) → 0 < year → year ≤ years_begun numbers → looked_up way k.0 k.1 year ≡ accepted (year_line numbers year)
     -- and every other year is refused
-    pub no_row_drawn_lem : (year : ℕ) → (year ≡ 0) ⊎ (years_begun numbers < year) → looked_up way k.0 k.1 year ≡ refused 14 0
+    pub year_refused : (year : ℕ) → (year ≡ 0) ⊎ (years_begun numbers < year) → looked_up way k.0 k.1 year ≡ refused 14 0

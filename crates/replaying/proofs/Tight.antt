@@ -6,7 +6,7 @@ use Rattle.refusals.proofs.OneToOne.{number_one_to_one, count_one_to_one}
 use Rattle.replaying.proofs.word_at.Kinds as word_at_kinds
 use Rattle.replaying.proofs.word_at.Reads as word_at
 use Rattle.replaying.proofs.float_at.Kinds as float_at_kinds
-use Rattle.replaying.proofs.float_at.Reads as Float-at
+use Rattle.replaying.proofs.float_at.Reads as float_at_reads
 use Rattle.replaying.proofs.whole_at.Kinds as whole_at_kinds
 use Rattle.replaying.proofs.whole_at.Reads as whole_at
 use Rattle.replaying.proofs.first_case.Kinds as first_case_kinds
@@ -23,7 +23,7 @@ use Rattle.replaying.proofs.count_case.Reads as count_case
 pub word_at_determined : Determined 1 word_at_kinds.ps word_at_kinds.r word_at.Post
 word_at_determined κs a x y e e' p q = p ∙ sym q
 
-pub float_at_determined : Determined 1 float_at_kinds.ps float_at_kinds.r Float-at.Post
+pub float_at_determined : Determined 1 float_at_kinds.ps float_at_kinds.r float_at_reads.Post
 float_at_determined κs a x y e e' p q = p ∙ sym q
 
 pub whole_at_determined : Determined 1 whole_at_kinds.ps whole_at_kinds.r whole_at.Post

@@ -115,8 +115,8 @@ module _ (way : Way) where
 
     sums_up : SumsUpAtTheDoor way t k₀ draws
     sums_up = record {
-      looks_up = λ year before some begun. gives (kept_beside way k₀ draws) ended (all_kept draws k₀) year before _ (sums.looked_up_lem year some begun);
-      fourteen = λ year before other. refuses (kept_beside way k₀ draws) ended (all_kept draws k₀) year before (sums.no_row_drawn_lem year other);
+      looks_up = λ year before some begun. gives (kept_beside way k₀ draws) ended (all_kept draws k₀) year before _ (sums.year_found year some begun);
+      fourteen = λ year before other. refuses (kept_beside way k₀ draws) ended (all_kept draws k₀) year before (sums.year_refused year other);
       repays = λ z. rw filed_is (repaid_beside_lines_of_any_kind way t pay l opens years fit (rooms draws) (sym (ap (λ (m : desk.Kept). due way m.0) (all_kept draws k₀)) ∙ z));
     }
 

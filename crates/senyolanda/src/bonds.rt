@@ -2,7 +2,7 @@
 ghost use Rattle.std.specs.Prelude.{◌≡◌};
 ghost use Rattle.refusals.specs.Outcome.{judged};
 ghost use Rattle.refusals.specs.Answers.{verdict_outcome};
-ghost use Rattle.bond.specs.Price.{price as price_at, dv01 as dv01At, current_yield, zero_coupon_price};
+ghost use Rattle.bond.specs.Price.{price as price_at, dv01 as dv01_at, current_yield, zero_coupon_price};
 ghost use Rattle.bond.specs.Yield.{yield_to_maturity};
 ghost use Rattle.bond.specs.Durations.{macaulay_duration, modified_duration, convexity as convexity_at, price_change, macaulay_at_price, modified_at_price, convexity_at_price};
 ghost use Rattle.senyolanda.specs.Told.{told_number};
@@ -63,7 +63,7 @@ pub extern "C" fn senyolanda_bond_price(record: &[u8], ytm: f64, price: &mut f64
 // What the price gains where the yield falls by a basis point.
 #[unsafe(no_mangle)]
 pub extern "C" fn senyolanda_bond_dv01(record: &[u8], ytm: f64, dv01: &mut f64) -> u64
-    ensures { (result, dv01.new) ≡ told_number (of_bond «record».now ytm (dv01At ytm)) dv01.old }
+    ensures { (result, dv01.new) ≡ told_number (of_bond «record».now ytm (dv01_at ytm)) dv01.old }
 {
     match bond_in(record, ytm) {
         BondIn::Refused(refusal) => refusal_result(refusal),
