@@ -63,8 +63,8 @@ def from_outside(text):
 
 
 def spelled(name):
-    # A part that begins with a capital is a fact's name, and keeps it.
-    parts = [re.sub(r"([A-Z])", lambda m: "_" + m.group(1).lower(), part) if CAMEL.match(part) else part for part in name.split("-")]
+    # A part that begins with a capital is a fact's name, and keeps it, after `_` too.
+    parts = [re.sub(r"(?<=[A-Za-z0-9])([A-Z])", lambda m: "_" + m.group(1).lower(), part) if CAMEL.match(part) else part for part in name.split("-")]
     return "_".join(parts)
 
 

@@ -29,7 +29,7 @@ use Rattle.spread_analytics.proofs.rate_curves.forward_rate.Reads as forward_rat
 use Rattle.spread_analytics.proofs.spread.pv_cash_flows.Kinds as pv_cash_flows_kinds
 use Rattle.spread_analytics.proofs.spread.pv_cash_flows.Reads as pv_cash_flows_reads
 use Rattle.spread_analytics.proofs.spread.z_spread.Kinds as z_spread_kinds
-use Rattle.spread_analytics.proofs.spread.z_spread.Reads as z_spread
+use Rattle.spread_analytics.proofs.spread.z_spread.Reads as z_spread_reads
 use Rattle.spread_analytics.proofs.spread.duration_convexity.Kinds as duration_convexity_kinds
 use Rattle.spread_analytics.proofs.spread.duration_convexity.Reads as duration_convexity_reads
 use Rattle.spread_analytics.proofs.flows.bond_cash_flows.Kinds as bond_cash_flows_kinds
@@ -82,7 +82,7 @@ forward_rate_determined κs a x y e e' p q = number_one_to_one x y (p ∙ sym q)
 pub pv_cash_flows_determined : Determined 4 pv_cash_flows_kinds.ps pv_cash_flows_kinds.r pv_cash_flows_reads.Post
 pv_cash_flows_determined κs a x y e e' p q = number_one_to_one x y (p ∙ sym q)
 
-pub z_spread_determined : Determined 4 z_spread_kinds.ps z_spread_kinds.r z_spread.Post
+pub z_spread_determined : Determined 4 z_spread_kinds.ps z_spread_kinds.r z_spread_reads.Post
 z_spread_determined κs a x y e e' p q = spread_one_to_one x y (p ∙ sym q)
 
 pub duration_convexity_determined : Determined 4 duration_convexity_kinds.ps duration_convexity_kinds.r duration_convexity_reads.Post
