@@ -3,14 +3,14 @@
 use mathlib.Core.Path.{◌≡◌, sym}
 use lib.Ieee.{Float}
 use Rattle.refusals.specs.declared.Refusal.{Refusal}
-use Rattle.refusals.specs.declared.Number.{Number}
-use Rattle.refusals.specs.declared.Number.TheVariants as number_is
 use Rattle.refusals.specs.Outcome.{Outcome, and_then}
-use Rattle.refusals.specs.Answers.{number_outcome}
+use Rattle.std.specs.declared.result.Result.TheVariants.{Ok, Err}
+use Rattle.std.specs.declared.result.Result.{Result}
+use Rattle.refusals.specs.Answers.{outcome}
 
-module _ (asked : Float → Outcome Float) (o : Outcome Float) (found : Number) (e : number_outcome found ≡ o) where
-  pub handed_on : (r : Refusal) → found ≡ number_is.Refused r → number_outcome found ≡ and_then o asked
+module _ (asked : Float → Outcome Float) (o : Outcome Float) (found : Result Float Refusal) (e : outcome found ≡ o) where
+  pub handed_on : (r : Refusal) → found ≡ Err r → outcome found ≡ and_then o asked
   handed_on r h = rw (sym e, h)
 
-  pub asked_at : (ytm : Float) (answer : Outcome Float) → found ≡ number_is.Given ytm → answer ≡ asked ytm → answer ≡ and_then o asked
+  pub asked_at : (ytm : Float) (answer : Outcome Float) → found ≡ Ok ytm → answer ≡ asked ytm → answer ≡ and_then o asked
   asked_at ytm answer h g = rw (sym e, h) g

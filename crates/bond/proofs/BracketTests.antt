@@ -11,6 +11,7 @@ use Rattle.refusals.proofs.Verdicts.{refused_as}
 use Rattle.bond.specs.declared.Bond.{Bond}
 use Rattle.bond.specs.declared.brent.Search.{Search}
 use Rattle.bond.specs.Yield.{low, high, wide_low, wide_high, not_in, no_bracket, start_in, start, searched, yield_of}
+use Rattle.refusals.specs.Answers.{number}
 
 -- of the end errors of a search that starts in a bracket
 abbrev above : Search → Bool
@@ -39,7 +40,7 @@ module _ (b : Bond) (market : Float) where
         let two : not_in b market wide_low wide_high ≡ false = sym (above_is b market wide_low wide_high s₂ t₂ e₂ h₂) ∙ f₂ in
         rw (one, two, g, e₂)
 
-    pub in_neither : (r : Refusal) → t₂ ≡ true → (r.number ≡ 12) × (r.place ≡ 0) → refused r.number r.place ≡ asked
+    pub in_neither : (r : Refusal) → t₂ ≡ true → ((number r.cause) ≡ 12) × (r.place ≡ 0) → refused (number r.cause) r.place ≡ asked
     unfolding judged first_or no_bracket
     in_neither r f₂ h =
         let one : not_in b market low high ≡ true = sym (above_is b market low high s₁ t₁ e₁ h₁) ∙ f₁ in

@@ -2,9 +2,6 @@
 use mathlib.Core.Path.{◌≡◌, sym, ap, ◌∙◌}
 use Rattle.numbers.proofs.Determined.{Determined}
 use Rattle.refusals.proofs.OneToOne.{same_refusal, number_one_to_one, verdict_one_to_one}
-use Rattle.bond.specs.declared.codes.FrequencyRead.{FrequencyRead}
-use Rattle.bond.specs.declared.codes.FrequencyRead.TheVariants as frequency_is
-use Rattle.bond.specs.Codes.{frequency_outcome}
 use Rattle.bond.proofs.bonds.periods_per_year.Kinds as periods_per_year_kinds
 use Rattle.bond.proofs.bonds.periods_per_year.Reads as periods_per_year
 use Rattle.bond.proofs.bonds.judge_numbers.Kinds as judge_numbers_kinds
@@ -37,12 +34,16 @@ use Rattle.bond.proofs.codes.frequency_of.Kinds as frequency_of_kinds
 use Rattle.bond.proofs.codes.frequency_of.Reads as frequency_of
 use Rattle.bond.proofs.codes.code_of.Kinds as code_of_kinds
 use Rattle.bond.proofs.codes.code_of.Reads as code_of_lem
+use Rattle.std.specs.declared.result.Result.TheVariants.{Ok, Err}
+use Rattle.std.specs.declared.result.Result.{Result}
+use Rattle.refusals.specs.declared.Refusal.{Refusal}
+use Rattle.refusals.specs.Answers.{outcome}
 
-pub frequency_one_to_one : (x y : FrequencyRead) → frequency_outcome x ≡ frequency_outcome y → x ≡ y
-frequency_one_to_one (frequency_is.Refused r) (frequency_is.Refused s) e = ap frequency_is.Refused (same_refusal r s e)
-frequency_one_to_one (frequency_is.Refused r) (frequency_is.Given g) e = cc
-frequency_one_to_one (frequency_is.Given f) (frequency_is.Refused s) e = cc
-frequency_one_to_one (frequency_is.Given f) (frequency_is.Given g) e = cc
+pub frequency_one_to_one : (x y : Result Frequency Refusal) → outcome x ≡ outcome y → x ≡ y
+frequency_one_to_one (Err r) (Err s) e = ap Err (same_refusal r s e)
+frequency_one_to_one (Err r) (Ok g) e = cc
+frequency_one_to_one (Ok f) (Err s) e = cc
+frequency_one_to_one (Ok f) (Ok g) e = cc
 
 pub periods_per_year_determined : Determined 0 periods_per_year_kinds.ps periods_per_year_kinds.r periods_per_year.Post
 periods_per_year_determined κs a x y e e' p q = p ∙ sym q

@@ -4,8 +4,6 @@ use Rattle.refusals.specs.Outcome.{Outcome, refused, accepted, line, judged}
 use Rattle.refusals.specs.Table.{bad_code}
 use Rattle.bond.specs.declared.Frequency.{Frequency}
 use Rattle.bond.specs.declared.Frequency.TheVariants.{Annual, SemiAnnual, Quarterly, Monthly}
-use Rattle.bond.specs.declared.codes.FrequencyRead.{FrequencyRead}
-use Rattle.bond.specs.declared.codes.FrequencyRead.TheVariants as frequency_is
 
 abbrev pub code_of : Frequency → ℕ
 code_of Annual = 0
@@ -23,7 +21,3 @@ frequency_at code = cond (eqb code 0) Annual (cond (eqb code 1) SemiAnnual (cond
 unfoldable pub frequency_of : ℕ → Outcome Frequency
 frequency_of code = judged (line 11 (bad_code last_code code) ∷ []) (frequency_at code)
 
--- the answer: this paper's number and place, or the frequency
-abbrev pub frequency_outcome : FrequencyRead → Outcome Frequency
-frequency_outcome (frequency_is.Refused r) = refused r.number r.place
-frequency_outcome (frequency_is.Given f) = accepted f

@@ -1,13 +1,13 @@
 // A bond's coupon and periods, and the lines of the table that every function over a bond asks first.
 ghost use Rattle.std.specs.Prelude.{◌≡◌, true, ◌||◌};
 ghost use Rattle.refusals.specs.Outcome.{Outcome, accepted, judged};
-ghost use Rattle.refusals.specs.Answers.{verdict_outcome};
+ghost use Rattle.refusals.specs.Answers.{outcome};
 ghost use Rattle.refusals.specs.Table.{bad_number};
 ghost use Rattle.bond.specs.Bonds.{periods_per_year, coupons_a_year, period_coupon, periods, bad_maturity, number_lines, bond_lines};
 ghost use Rattle.bond.specs.inner.Worked.{WorkedOut};
 
 use crate::{Bond, Frequency};
-use refusals::Verdict;
+use refusals::{Cause, Refusal};
 
 // How many coupons a year.
 pub fn periods_per_year(frequency: Frequency) -> u32
@@ -89,19 +89,19 @@ fn bad_numbers(coupon: f64, beside: f64) -> bool
 }
 
 // Lines 1, 7 and 9 of a face, a verdict on the maturity, a coupon, and one number beside them.
-pub fn judge_numbers(face: f64, bad_maturity: bool, coupon: f64, beside: f64) -> Verdict
-    ensures { verdict_outcome result ≡ judged (number_lines face bad_maturity coupon beside) tt }
+pub fn judge_numbers(face: f64, bad_maturity: bool, coupon: f64, beside: f64) -> Result<(), Refusal>
+    ensures { outcome result ≡ judged (number_lines face bad_maturity coupon beside) tt }
 {
     if refusals::bad_amount(face) {
-        return Verdict::Refused(refusals::refuse(1));
+        return Err(refusals::refuse(Cause::Amount));
     }
     if bad_maturity {
-        return Verdict::Refused(refusals::refuse(7));
+        return Err(refusals::refuse(Cause::Time));
     }
     if bad_numbers(coupon, beside) {
-        return Verdict::Refused(refusals::refuse(9));
+        return Err(refusals::refuse(Cause::Number));
     }
-    Verdict::Accepted
+    Ok(())
 }
 
 // Whether nothing is wrong with a bond and the number beside it: one sum is finite only where each of its numbers is.
@@ -120,12 +120,12 @@ fn all_right(worked: Worked, beside: f64) -> bool
 }
 
 // The same of a bond, with a yield or a market price beside it.
-pub(crate) fn judge_bond(worked: Worked, beside: f64) -> Verdict
+pub(crate) fn judge_bond(worked: Worked, beside: f64) -> Result<(), Refusal>
     requires { WorkedOut worked }
-    ensures { verdict_outcome result ≡ judged (bond_lines worked.bond beside) tt }
+    ensures { outcome result ≡ judged (bond_lines worked.bond beside) tt }
 {
     if all_right(worked, beside) {
-        return Verdict::Accepted;
+        return Ok(());
     }
     let bond = worked.bond;
     judge_numbers(bond.face, bad_maturity(worked), bond.coupon, beside)

@@ -1,25 +1,21 @@
 // The code of a coupon frequency in a record: 0 to 3, in the order of the enum.
 ghost use Rattle.std.specs.Prelude.{◌≡◌};
-ghost use Rattle.bond.specs.Codes.{code_of, frequency_of, frequency_outcome};
+ghost use Rattle.refusals.specs.Answers.{outcome};
+ghost use Rattle.bond.specs.Codes.{code_of, frequency_of};
 
 use crate::Frequency;
-
-#[derive(Clone, Copy)]
-pub enum FrequencyRead {
-    Refused(refusals::Refusal),
-    Given(Frequency),
-}
+use refusals::{Cause, Refusal};
 
 // The frequency of a code; one outside the set is line 11.
-pub fn frequency_of(code: u8) -> FrequencyRead
-    ensures { frequency_outcome result ≡ frequency_of code }
+pub fn frequency_of(code: u8) -> Result<Frequency, Refusal>
+    ensures { outcome result ≡ frequency_of code }
 {
     match code {
-        0 => FrequencyRead::Given(Frequency::Annual),
-        1 => FrequencyRead::Given(Frequency::SemiAnnual),
-        2 => FrequencyRead::Given(Frequency::Quarterly),
-        3 => FrequencyRead::Given(Frequency::Monthly),
-        _ => FrequencyRead::Refused(refusals::refuse(11)),
+        0 => Ok(Frequency::Annual),
+        1 => Ok(Frequency::SemiAnnual),
+        2 => Ok(Frequency::Quarterly),
+        3 => Ok(Frequency::Monthly),
+        _ => Err(refusals::refuse(Cause::Record)),
     }
 }
 

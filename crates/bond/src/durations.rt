@@ -4,7 +4,7 @@ ghost use Rattle.std.specs.Float.{binary64};
 ghost use Rattle.std.specs.Float.Ieee.{add, mul, div, of_int};
 ghost use Rattle.numbers.specs.Literals.{one};
 ghost use Rattle.numbers.specs.Sums.{added_up};
-ghost use Rattle.refusals.specs.Answers.{number_outcome};
+ghost use Rattle.refusals.specs.Answers.{outcome};
 ghost use Rattle.bond.specs.Bonds.{periods};
 ghost use Rattle.bond.specs.inner.Worked.{WorkedOut};
 ghost use Rattle.bond.specs.inner.Weighted.{weighted_by};
@@ -18,7 +18,7 @@ use crate::price::{next_to_nothing, period_rate, price_at};
 use crate::yields::yield_to_maturity;
 use elementary::powers::sixteen_powers;
 use elementary::whole_power::whole_power;
-use refusals::{Number, Verdict};
+use refusals::Refusal;
 
 // What the flow of the period t is worth: the coupon, with the face in the last period.
 fn flow_worth(worked: Worked, r: f64, t: u32) -> f64
@@ -143,73 +143,73 @@ fn change_at(worked: Worked, ytm: f64, delta: f64) -> f64
     -modified_at(worked, ytm) * delta + 0.5 * convexity_at(worked, ytm) * delta * delta
 }
 
-pub fn macaulay_duration(ytm: f64, bond: Bond) -> Number
-    ensures { number_outcome result ≡ macaulay_duration ytm bond }
+pub fn macaulay_duration(ytm: f64, bond: Bond) -> Result<f64, Refusal>
+    ensures { outcome result ≡ macaulay_duration ytm bond }
 {
     let worked = worked_out(bond);
     match judge_bond(worked, ytm) {
-        Verdict::Refused(refusal) => Number::Refused(refusal),
-        Verdict::Accepted => Number::Given(macaulay_at(worked, ytm)),
+        Err(refusal) => Err(refusal),
+        Ok(()) => Ok(macaulay_at(worked, ytm)),
     }
 }
 
-pub fn modified_duration(ytm: f64, bond: Bond) -> Number
-    ensures { number_outcome result ≡ modified_duration ytm bond }
+pub fn modified_duration(ytm: f64, bond: Bond) -> Result<f64, Refusal>
+    ensures { outcome result ≡ modified_duration ytm bond }
 {
     let worked = worked_out(bond);
     match judge_bond(worked, ytm) {
-        Verdict::Refused(refusal) => Number::Refused(refusal),
-        Verdict::Accepted => Number::Given(modified_at(worked, ytm)),
+        Err(refusal) => Err(refusal),
+        Ok(()) => Ok(modified_at(worked, ytm)),
     }
 }
 
-pub fn convexity(ytm: f64, bond: Bond) -> Number
-    ensures { number_outcome result ≡ convexity ytm bond }
+pub fn convexity(ytm: f64, bond: Bond) -> Result<f64, Refusal>
+    ensures { outcome result ≡ convexity ytm bond }
 {
     let worked = worked_out(bond);
     match judge_bond(worked, ytm) {
-        Verdict::Refused(refusal) => Number::Refused(refusal),
-        Verdict::Accepted => Number::Given(convexity_at(worked, ytm)),
+        Err(refusal) => Err(refusal),
+        Ok(()) => Ok(convexity_at(worked, ytm)),
     }
 }
 
 // What part of itself the price changes by where the yield changes by delta, by duration and convexity.
-pub fn price_change_approximation(ytm: f64, delta: f64, bond: Bond) -> Number
-    ensures { number_outcome result ≡ price_change ytm delta bond }
+pub fn price_change_approximation(ytm: f64, delta: f64, bond: Bond) -> Result<f64, Refusal>
+    ensures { outcome result ≡ price_change ytm delta bond }
 {
     let worked = worked_out(bond);
     match judge_bond(worked, ytm) {
-        Verdict::Refused(refusal) => Number::Refused(refusal),
-        Verdict::Accepted => Number::Given(change_at(worked, ytm, delta)),
+        Err(refusal) => Err(refusal),
+        Ok(()) => Ok(change_at(worked, ytm, delta)),
     }
 }
 
 // At a market price the yield is asked first; where that is refused, the refusal is the answer.
-pub fn macaulay_duration_at_price(market: f64, bond: Bond) -> Number
-    ensures { number_outcome result ≡ macaulay_at_price market bond }
+pub fn macaulay_duration_at_price(market: f64, bond: Bond) -> Result<f64, Refusal>
+    ensures { outcome result ≡ macaulay_at_price market bond }
 {
     let found = yield_to_maturity(market, bond);
-    let Number::Given(ytm) = found else {
+    let Ok(ytm) = found else {
         return found;
     };
     macaulay_duration(ytm, bond)
 }
 
-pub fn modified_duration_at_price(market: f64, bond: Bond) -> Number
-    ensures { number_outcome result ≡ modified_at_price market bond }
+pub fn modified_duration_at_price(market: f64, bond: Bond) -> Result<f64, Refusal>
+    ensures { outcome result ≡ modified_at_price market bond }
 {
     let found = yield_to_maturity(market, bond);
-    let Number::Given(ytm) = found else {
+    let Ok(ytm) = found else {
         return found;
     };
     modified_duration(ytm, bond)
 }
 
-pub fn convexity_at_price(market: f64, bond: Bond) -> Number
-    ensures { number_outcome result ≡ convexity_at_price market bond }
+pub fn convexity_at_price(market: f64, bond: Bond) -> Result<f64, Refusal>
+    ensures { outcome result ≡ convexity_at_price market bond }
 {
     let found = yield_to_maturity(market, bond);
-    let Number::Given(ytm) = found else {
+    let Ok(ytm) = found else {
         return found;
     };
     convexity(ytm, bond)

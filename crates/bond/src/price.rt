@@ -3,7 +3,7 @@ ghost use Rattle.std.specs.Prelude.{◌≡◌};
 ghost use Rattle.std.specs.Float.Ieee.{lt};
 ghost use Rattle.numbers.specs.Literals.{epsilon};
 ghost use Rattle.numbers.specs.Sizes.{absolute};
-ghost use Rattle.refusals.specs.Answers.{number_outcome};
+ghost use Rattle.refusals.specs.Answers.{outcome};
 ghost use Rattle.bond.specs.Price.{period_rate, undiscounted, discounted, price_of};
 ghost use Rattle.bond.specs.Price.{price, dv01, current_yield, zero_coupon_price};
 ghost use Rattle.bond.specs.inner.Worked.{WorkedOut};
@@ -11,7 +11,7 @@ ghost use Rattle.bond.specs.inner.Worked.{WorkedOut};
 use crate::Bond;
 use crate::bonds::{Worked, judge_bond, worked_out};
 use numbers::sizes::absolute_value;
-use refusals::{Number, Verdict};
+use refusals::{Cause, Refusal};
 
 // The rate of a period.
 pub(crate) fn period_rate(worked: Worked, ytm: f64) -> f64
@@ -55,24 +55,24 @@ pub(crate) fn price_at(worked: Worked, ytm: f64) -> f64
     )
 }
 
-pub fn price(ytm: f64, bond: Bond) -> Number
-    ensures { number_outcome result ≡ price ytm bond }
+pub fn price(ytm: f64, bond: Bond) -> Result<f64, Refusal>
+    ensures { outcome result ≡ price ytm bond }
 {
     let worked = worked_out(bond);
     match judge_bond(worked, ytm) {
-        Verdict::Refused(refusal) => Number::Refused(refusal),
-        Verdict::Accepted => Number::Given(price_at(worked, ytm)),
+        Err(refusal) => Err(refusal),
+        Ok(()) => Ok(price_at(worked, ytm)),
     }
 }
 
 // What the price gains where the yield falls by a basis point.
-pub fn dv01(ytm: f64, bond: Bond) -> Number
-    ensures { number_outcome result ≡ dv01 ytm bond }
+pub fn dv01(ytm: f64, bond: Bond) -> Result<f64, Refusal>
+    ensures { outcome result ≡ dv01 ytm bond }
 {
     let worked = worked_out(bond);
     match judge_bond(worked, ytm) {
-        Verdict::Refused(refusal) => Number::Refused(refusal),
-        Verdict::Accepted => Number::Given(price_at(worked, ytm - 0.0001) - price_at(worked, ytm)),
+        Err(refusal) => Err(refusal),
+        Ok(()) => Ok(price_at(worked, ytm - 0.0001) - price_at(worked, ytm)),
     }
 }
 
@@ -84,29 +84,29 @@ pub(crate) fn next_to_nothing(price: f64) -> bool
 }
 
 // The annual coupon over the market price, 0 where that is next to nothing.
-pub fn current_yield(market: f64, bond: Bond) -> Number
-    ensures { number_outcome result ≡ current_yield market bond }
+pub fn current_yield(market: f64, bond: Bond) -> Result<f64, Refusal>
+    ensures { outcome result ≡ current_yield market bond }
 {
     match judge_bond(worked_out(bond), market) {
-        Verdict::Refused(refusal) => Number::Refused(refusal),
-        Verdict::Accepted => {
+        Err(refusal) => Err(refusal),
+        Ok(()) => {
             if next_to_nothing(market) {
-                return Number::Given(0.0);
+                return Ok(0.0);
             }
-            Number::Given(bond.face * bond.coupon / market)
+            Ok(bond.face * bond.coupon / market)
         }
     }
 }
 
 // The price of a bond of face 1 without coupons. It has no periods, so line 7 is for a maturity that is not finite alone.
-pub fn zero_coupon_bond_price(ytm: f64, maturity: f64) -> Number
-    ensures { number_outcome result ≡ zero_coupon_price ytm maturity }
+pub fn zero_coupon_bond_price(ytm: f64, maturity: f64) -> Result<f64, Refusal>
+    ensures { outcome result ≡ zero_coupon_price ytm maturity }
 {
     if refusals::bad_number(maturity) {
-        return Number::Refused(refusals::refuse(7));
+        return Err(refusals::refuse(Cause::Time));
     }
     if refusals::bad_number(ytm) {
-        return Number::Refused(refusals::refuse(9));
+        return Err(refusals::refuse(Cause::Number));
     }
-    Number::Given(elementary::power::power(1.0 + ytm, -maturity))
+    Ok(elementary::power::power(1.0 + ytm, -maturity))
 }

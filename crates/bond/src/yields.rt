@@ -2,14 +2,14 @@
 ghost use Rattle.std.specs.Prelude.{◌≡◌, [], ◌∷◌};
 ghost use Rattle.refusals.specs.Outcome.{line, judged};
 ghost use Rattle.refusals.specs.Table.{one_sided};
-ghost use Rattle.refusals.specs.Answers.{number_outcome};
+ghost use Rattle.refusals.specs.Answers.{outcome};
 ghost use Rattle.bond.specs.Yield.{error, no_bracket, start_in, with_error, passed, searched, yield_of, yield_to_maturity};
 ghost use Rattle.bond.specs.inner.Worked.{WorkedOut};
 
 use crate::Bond;
 use crate::bonds::{Worked, judge_bond, worked_out};
 use crate::brent::Search;
-use refusals::{Number, Verdict};
+use refusals::{Cause, Refusal};
 
 const PASSES: u32 = 200;
 
@@ -94,27 +94,27 @@ fn one_sided(search: Search) -> bool
 }
 
 // The yield in the first bracket whose ends do not both err to one side; where the ends of both brackets do, line 12.
-fn yield_in_bracket(worked: Worked, market: f64) -> Number
+fn yield_in_bracket(worked: Worked, market: f64) -> Result<f64, Refusal>
     requires { WorkedOut worked }
-    ensures { number_outcome result ≡ judged (line 12 (no_bracket worked.bond market) ∷ []) (yield_of worked.bond market) }
+    ensures { outcome result ≡ judged (line 12 (no_bracket worked.bond market) ∷ []) (yield_of worked.bond market) }
 {
     let narrow = start_in(worked, market, 0.001, 0.999);
     if one_sided(narrow) {
         let wide = start_in(worked, market, 1e-6, 50.0);
         if one_sided(wide) {
-            return Number::Refused(refusals::refuse(12));
+            return Err(refusals::refuse(Cause::Bracket));
         }
-        return Number::Given(searched(worked, market, wide));
+        return Ok(searched(worked, market, wide));
     }
-    Number::Given(searched(worked, market, narrow))
+    Ok(searched(worked, market, narrow))
 }
 
-pub fn yield_to_maturity(market: f64, bond: Bond) -> Number
-    ensures { number_outcome result ≡ yield_to_maturity market bond }
+pub fn yield_to_maturity(market: f64, bond: Bond) -> Result<f64, Refusal>
+    ensures { outcome result ≡ yield_to_maturity market bond }
 {
     let worked = worked_out(bond);
     match judge_bond(worked, market) {
-        Verdict::Refused(refusal) => Number::Refused(refusal),
-        Verdict::Accepted => yield_in_bracket(worked, market),
+        Err(refusal) => Err(refusal),
+        Ok(()) => yield_in_bracket(worked, market),
     }
 }

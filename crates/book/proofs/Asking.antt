@@ -6,17 +6,12 @@ use Prim.Native.Nat.{ℕ, ◌*◌, ◌≤◌, ◌<◌}
 use native.Mathlib.Omega.{arith}
 use lib.ListN.{length}
 use Rattle.refusals.specs.declared.Refusal.{Refusal}
-use Rattle.refusals.specs.declared.Verdict.{Verdict}
-use Rattle.refusals.specs.declared.Verdict.TheVariants as verdict_is
-use Rattle.refusals.specs.Answers.{verdict_outcome}
 use Rattle.refusals.specs.Outcome.{Outcome, refused, accepted, and_then, judged}
 use Rattle.refusals.specs.Table.{bad_term}
 use Rattle.refusals.proofs.Causes.{some_term}
 use Rattle.refusals.proofs.Verdicts.{refused_by, accepted_by, accepted_value}
 use Rattle.records.specs.declared.Terms.{Terms}
-use Rattle.records.specs.declared.TermsRead.{TermsRead}
-use Rattle.records.specs.declared.TermsRead.TheVariants as terms_is
-use Rattle.records.specs.Kinds.{terms_size, read_terms, terms_outcome}
+use Rattle.records.specs.Kinds.{terms_size, read_terms}
 use Rattle.records.specs.EndToEnd.{record_at}
 use Rattle.mortgage.specs.declared.Loan.{Loan}
 use Rattle.mortgage.specs.Row.{width}
@@ -28,14 +23,17 @@ use Rattle.steps.specs.Steps.{pieces}
 use Rattle.mortgage.proofs.TermsLaws.{terms_passed}
 use Rattle.mortgage.proofs.LevelLaws.{length_rows}
 use Rattle.book.specs.Book.{loan_at, answer, asked, first_rows}
+use Rattle.std.specs.declared.result.Result.TheVariants.{Ok, Err}
+use Rattle.std.specs.declared.result.Result.{Result}
+use Rattle.refusals.specs.Answers.{number, outcome}
 
 -- ---- by its terms
-module _ (t : Terms) (x : Verdict) (e : verdict_outcome x ≡ judged (terms_lines t) tt) where
-  pub refused_terms : (r : Refusal) → x ≡ verdict_is.Refused r → refused r.number r.place ≡ opened t
+module _ (t : Terms) (x : Result Unit Refusal) (e : outcome x ≡ judged (terms_lines t) tt) where
+  pub refused_terms : (r : Refusal) → x ≡ Err r → refused (number r.cause) r.place ≡ opened t
   unfolding opened opened_with
   refused_terms r h = refused_by (terms_lines t) (loan_of t (payment t)) x r h e
 
-  pub accepted_terms : x ≡ verdict_is.Accepted → (0 ≡ answer (opened t)) × (t.term ≡ asked (opened t))
+  pub accepted_terms : x ≡ (Ok tt) → (0 ≡ answer (opened t)) × (t.term ≡ asked (opened t))
   unfolding opened opened_with loan_of any_month.due any_month.end_month
   accepted_terms h =
       let same : accepted (loan_of t (payment t)) ≡ opened t = accepted_by (terms_lines t) (loan_of t (payment t)) x h e in
@@ -43,14 +41,14 @@ module _ (t : Terms) (x : Verdict) (e : verdict_outcome x ≡ judged (terms_line
       (ap answer same, d ∙ ap asked same)
 
 -- ---- by its record
-module _ (bytes : List ℕ) (i : ℕ) (x : TermsRead) (e : terms_outcome x ≡ read_terms (record_at terms_size bytes i)) where
-  pub refused_record : (r : Refusal) → x ≡ terms_is.Refused r → refused r.number r.place ≡ loan_at bytes i
+module _ (bytes : List ℕ) (i : ℕ) (x : Result Terms Refusal) (e : outcome x ≡ read_terms (record_at terms_size bytes i)) where
+  pub refused_record : (r : Refusal) → x ≡ Err r → refused (number r.cause) r.place ≡ loan_at bytes i
   unfolding loan_at
-  refused_record r h = ap (λ (o : Outcome Terms). and_then o opened) (sym (ap terms_outcome h) ∙ e)
+  refused_record r h = ap (λ (o : Outcome Terms). and_then o opened) (sym (ap outcome h) ∙ e)
 
-  pub given_record : (t : Terms) → x ≡ terms_is.Given t → opened t ≡ loan_at bytes i
+  pub given_record : (t : Terms) → x ≡ Ok t → opened t ≡ loan_at bytes i
   unfolding loan_at
-  given_record t h = ap (λ (o : Outcome Terms). and_then o opened) (sym (ap terms_outcome h) ∙ e)
+  given_record t h = ap (λ (o : Outcome Terms). and_then o opened) (sym (ap outcome h) ∙ e)
 
 pub both_of : (number rows : ℕ) (o q : Outcome Loan) → (number ≡ answer o) × (rows ≡ asked o) → o ≡ q → (number ≡ answer q) × (rows ≡ asked q)
 both_of number rows o q b e = rw (sym e) b

@@ -21,6 +21,7 @@ use Rattle.mortgage.specs.Row.{width}
 use Rattle.book.specs.Book.{most_loans, loan_count, loan_at, asked, first_rows, asked_by, finished, cut_short, answered, Progress, progress, rows_up_to, answers_up_to, room_after, answers_after, bad_book, too_little, book_drawn, unless_refused, book_room, book_answers}
 use Rattle.book.proofs.Planning.{Planned, all_held, not_all_held}
 use Rattle.book.proofs.Taking.{Laid, behind_them}
+use Rattle.refusals.specs.Answers.{number}
 
 -- ---- line 11
 pub odd_length : (bytes : List ℕ) → (length bytes % terms_size ≡ 0 → ⊥) → true ≡ bad_book bytes
@@ -123,21 +124,21 @@ module _ (bytes answers : List ℕ) (room : List Float) where
   abbrev pub Given : Outcome Progress → List Float → List ℕ → Type 0
   Given o room' answers' = (o ≡ Drawn) × ((room' ≡ book_room bytes answers room) × (answers' ≡ book_answers bytes answers room))
 
-  refused_book : (k : ℕ) (r : Refusal) → (r.number ≡ k) × (r.place ≡ 0) → refused k 0 ≡ Drawn → Given (refused r.number r.place) room answers
+  refused_book : (k : ℕ) (r : Refusal) → ((number r.cause) ≡ k) × (r.place ≡ 0) → refused k 0 ≡ Drawn → Given (refused (number r.cause) r.place) room answers
   unfolding book_room book_answers
   refused_book k r h e = (
     refused_as k r Drawn h e,
     (ap (λ (o : Outcome Progress). unless_refused o room (room_after bytes room)) e, ap (λ (o : Outcome Progress). unless_refused o answers (answers_after bytes (length room) answers)) e),
   )
 
-  pub bad_total_lem : (r : Refusal) → (r.number ≡ 11) × (r.place ≡ 0) → bad_book bytes ≡ true → Given (refused r.number r.place) room answers
+  pub bad_total_lem : (r : Refusal) → ((number r.cause) ≡ 11) × (r.place ≡ 0) → bad_book bytes ≡ true → Given (refused (number r.cause) r.place) room answers
   bad_total_lem r h t = refused_book 11 r h (eleven bytes (length answers) (length room) t)
 
-  module _ (good : bad_book bytes ≡ false) (r : Refusal) (h : (r.number ≡ 3) × (r.place ≡ 0)) where
-    pub few_answers : length answers < loan_count bytes → Given (refused r.number r.place) room answers
+  module _ (good : bad_book bytes ≡ false) (r : Refusal) (h : ((number r.cause) ≡ 3) × (r.place ≡ 0)) where
+    pub few_answers : length answers < loan_count bytes → Given (refused (number r.cause) r.place) room answers
     few_answers w = refused_book 3 r h (three bytes (length answers) (length room) good (short_answers bytes (length answers) (length room) w))
 
-    pub no_row : loan_count bytes ≤ length answers → length room < width → finished bytes (length room) < loan_count bytes → Given (refused r.number r.place) room answers
+    pub no_row : loan_count bytes ≤ length answers → length room < width → finished bytes (length room) < loan_count bytes → Given (refused (number r.cause) r.place) room answers
     no_row a w f = refused_book 3 r h (three bytes (length answers) (length room) good (short_room bytes (length answers) (length room) a w f))
 
   pub drawn_book : bad_book bytes ≡ false → loan_count bytes ≤ length answers → (width ≤ length room) ⊎ (loan_count bytes ≤ finished bytes (length room))

@@ -7,24 +7,25 @@ use lib.Ieee.{Float}
 use Rattle.numbers.proofs.Determined.{Determined, Settled}
 use Rattle.refusals.proofs.OneToOne.{same_refusal}
 use Rattle.book.specs.declared.BookProgress.{BookProgress}
-use Rattle.book.specs.declared.BookDrawing.{BookDrawing}
-use Rattle.book.specs.declared.BookDrawing.TheVariants as drawing_is
 use Rattle.book.specs.Book.{Progress, book_outcome}
 use Rattle.book.proofs.draw_book.Kinds as draw_book_kinds
 use Rattle.book.proofs.draw_book.Reads as draw_book
+use Rattle.std.specs.declared.result.Result.TheVariants.{Ok, Err}
+use Rattle.std.specs.declared.result.Result.{Result}
+use Rattle.refusals.specs.declared.Refusal.{Refusal}
 
 -- ---- each answer has its own outcome
-same_progress : (d g : BookProgress) → book_outcome (drawing_is.Drawn d) ≡ book_outcome (drawing_is.Drawn g) → d ≡ g
+same_progress : (d g : BookProgress) → book_outcome (Ok d) ≡ book_outcome (Ok g) → d ≡ g
 same_progress d g e =
     let p : ◌≡◌ {A = Progress} (record { finished = d.finished; cut = d.cut; waiting = d.waiting }) (record { finished = g.finished; cut = g.cut; waiting = g.waiting }) = cc in
     let made : Progress → BookProgress = λ (q : Progress). record { finished = q.finished; cut = q.cut; waiting = q.waiting } in
     ap made p
 
-pub drawing_one_to_one : (x y : BookDrawing) → book_outcome x ≡ book_outcome y → x ≡ y
-drawing_one_to_one (drawing_is.Refused r) (drawing_is.Refused s) e = ap drawing_is.Refused (same_refusal r s e)
-drawing_one_to_one (drawing_is.Refused r) (drawing_is.Drawn d) e = cc
-drawing_one_to_one (drawing_is.Drawn d) (drawing_is.Refused s) e = cc
-drawing_one_to_one (drawing_is.Drawn d) (drawing_is.Drawn g) e = ap drawing_is.Drawn (same_progress d g e)
+pub drawing_one_to_one : (x y : Result BookProgress Refusal) → book_outcome x ≡ book_outcome y → x ≡ y
+drawing_one_to_one (Err r) (Err s) e = ap Err (same_refusal r s e)
+drawing_one_to_one (Err r) (Ok d) e = cc
+drawing_one_to_one (Ok d) (Err s) e = cc
+drawing_one_to_one (Ok d) (Ok g) e = ap Ok (same_progress d g e)
 
 -- ---- so the promise leaves one answer
 pub draw_book_determined : Determined 3 draw_book_kinds.ps draw_book_kinds.r draw_book.Post

@@ -7,11 +7,13 @@ use Rattle.steps.specs.Steps.{pieces, singles}
 use Rattle.records.specs.Kinds.{terms_size, read_terms}
 use Rattle.records.specs.EndToEnd.{record_count, record_at}
 use Rattle.mortgage.specs.declared.Loan.{Loan}
-use Rattle.book.specs.declared.BookDrawing.{BookDrawing}
-use Rattle.book.specs.declared.BookDrawing.TheVariants as drawing_is
 use Rattle.mortgage.specs.Payment.{opened}
 use Rattle.mortgage.specs.Row.{width}
 use Rattle.mortgage.specs.Level.{due, rows}
+use Rattle.std.specs.declared.result.Result.TheVariants.{Ok, Err}
+use Rattle.std.specs.declared.result.Result.{Result}
+use Rattle.refusals.specs.declared.Refusal.{Refusal}
+use Rattle.refusals.specs.Answers.{number}
 
 -- ---- the loans
 
@@ -135,6 +137,6 @@ book_answers bytes answers room =
     unless_refused (book_drawn bytes (length answers) (length room)) answers (answers_after bytes (length room) answers)
 
 -- what the code's answer says
-abbrev pub book_outcome : BookDrawing → Outcome Progress
-book_outcome (drawing_is.Refused r) = refused r.number r.place
-book_outcome (drawing_is.Drawn d) = accepted (record { finished = d.finished; cut = d.cut; waiting = d.waiting })
+abbrev pub book_outcome : Result BookProgress Refusal → Outcome Progress
+book_outcome (Err r) = refused (number r.cause) r.place
+book_outcome (Ok d) = accepted (record { finished = d.finished; cut = d.cut; waiting = d.waiting })

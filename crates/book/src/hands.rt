@@ -10,7 +10,6 @@ ghost use Rattle.book.specs.inner.Hands.{drawn_out};
 use crate::loans::open_at;
 use mortgage::Loan;
 use mortgage::draws::WIDTH;
-use mortgage::opening::Opening;
 use mortgage::pairs::{lay_at, lay_both};
 use mortgage::rows::rows_due;
 
@@ -79,8 +78,8 @@ fn take_next(records: &[u8], i: usize, hand: Hand, room: &mut [f64]) -> Hand
     ensures loan_after { drawn_out room.new result.at result.loan ≡ sets (drawn_out room.old hand.at hand.loan) hand.end (all_rows (loan_at records.now i)) }
 {
     match open_at(records, i) {
-        Opening::Refused(_) => hand,
-        Opening::Open(loan) => take_in(hand, loan, room),
+        Err(_) => hand,
+        Ok(loan) => take_in(hand, loan, room),
     }
 }
 
@@ -114,8 +113,8 @@ pub(crate) fn lay_first(records: &[u8], i: usize, room: &mut [f64], at: usize, c
         return;
     }
     match open_at(records, i) {
-        Opening::Refused(_) => {}
-        Opening::Open(loan) => {
+        Err(_) => {}
+        Ok(loan) => {
             lay_at(loan, room, at, count);
         }
     }

@@ -9,7 +9,7 @@ use crate::loans::loan_count;
 use crate::plan::Plan;
 use mortgage::draws::WIDTH;
 use records::terms_record::TERMS_SIZE;
-use refusals::Refusal;
+use refusals::{Cause, Refusal};
 
 mod answers;
 mod hands;
@@ -25,12 +25,6 @@ pub struct BookProgress {
     pub finished: u32,
     pub cut: u32,
     pub waiting: u32,
-}
-
-#[derive(Clone, Copy)]
-pub enum BookDrawing {
-    Refused(Refusal),
-    Drawn(BookProgress),
 }
 
 // Line 11: a total length that is no multiple of a record's, or more records than a call takes.
@@ -78,23 +72,23 @@ fn draw_planned(records: &[u8], plan: Plan, answers: &mut [u32], room: &mut [f64
 }
 
 // Draws the loans in order, each whole, as far as the room goes; a loan that is refused has its answer and no rows.
-pub fn draw_book(records: &[u8], answers: &mut [u32], room: &mut [f64]) -> BookDrawing
+pub fn draw_book(records: &[u8], answers: &mut [u32], room: &mut [f64]) -> Result<BookProgress, Refusal>
     ensures result_value { book_outcome result ≡ book_drawn records.now (length answers.old) (length room.old) }
     ensures room_after { room.new ≡ book_room records.now answers.old room.old }
     ensures answers_after { answers.new ≡ book_answers records.now answers.old room.old }
 {
     if bad_total(records) {
-        return BookDrawing::Refused(refusals::refuse(11));
+        return Err(refusals::refuse(Cause::Record));
     }
     let count = loan_count(records);
     if answers.len() < count {
-        return BookDrawing::Refused(refusals::refuse(3));
+        return Err(refusals::refuse(Cause::Room));
     }
     let plan = crate::plan::plan_for(records, room.len());
     if room.len() < WIDTH {
         if plan.finished < count {
-            return BookDrawing::Refused(refusals::refuse(3));
+            return Err(refusals::refuse(Cause::Room));
         }
     }
-    BookDrawing::Drawn(draw_planned(records, plan, answers, room))
+    Ok(draw_planned(records, plan, answers, room))
 }

@@ -1,14 +1,14 @@
 // The loans of a book, where they lie in its bytes.
 ghost use Rattle.std.specs.Prelude.{◌≡◌, ◌<◌};
-ghost use Rattle.records.specs.Kinds.{terms_size, read_terms, terms_outcome};
+ghost use Rattle.refusals.specs.Answers.{outcome};
+ghost use Rattle.records.specs.Kinds.{terms_size, read_terms};
 ghost use Rattle.records.specs.EndToEnd.{record_at};
-ghost use Rattle.mortgage.specs.Payment.{opened, opening_outcome};
+ghost use Rattle.mortgage.specs.Payment.{opened};
 ghost use Rattle.book.specs.Book.{loan_count, loan_at, answer, asked};
 
-use mortgage::opening::Opening;
 use records::terms_record::TERMS_SIZE;
-use records::{Terms, TermsRead};
-use refusals::{Refusal, Verdict};
+use records::Terms;
+use refusals::Refusal;
 
 // A loan's answer, and the rows that it asks for.
 #[derive(Clone, Copy)]
@@ -25,9 +25,9 @@ pub(crate) fn loan_count(records: &[u8]) -> usize
 }
 
 // The record i, read.
-fn read_at(records: &[u8], i: usize) -> TermsRead
+fn read_at(records: &[u8], i: usize) -> Result<Terms, Refusal>
     requires { i < loan_count records.now }
-    ensures { terms_outcome result ≡ read_terms (record_at terms_size records.now i) }
+    ensures { outcome result ≡ read_terms (record_at terms_size records.now i) }
 {
     let at = i * TERMS_SIZE;
     let end = at + TERMS_SIZE;
@@ -49,8 +49,8 @@ fn asking_of(terms: Terms) -> Asking
     ensures { (result.answer ≡ answer (opened terms)) × (result.rows ≡ asked (opened terms)) }
 {
     match mortgage::terms::judge_terms(terms) {
-        Verdict::Refused(refusal) => refused_loan(refusal),
-        Verdict::Accepted => Asking {
+        Err(refusal) => refused_loan(refusal),
+        Ok(()) => Asking {
             answer: 0,
             rows: terms.term,
         },
@@ -63,18 +63,18 @@ pub(crate) fn asking_at(records: &[u8], i: usize) -> Asking
     ensures { (result.answer ≡ answer (loan_at records.now i)) × (result.rows ≡ asked (loan_at records.now i)) }
 {
     match read_at(records, i) {
-        TermsRead::Refused(refusal) => refused_loan(refusal),
-        TermsRead::Given(terms) => asking_of(terms),
+        Err(refusal) => refused_loan(refusal),
+        Ok(terms) => asking_of(terms),
     }
 }
 
 // The loan i, opened.
-pub(crate) fn open_at(records: &[u8], i: usize) -> Opening
+pub(crate) fn open_at(records: &[u8], i: usize) -> Result<Loan, Refusal>
     requires { i < loan_count records.now }
-    ensures { opening_outcome result ≡ loan_at records.now i }
+    ensures { outcome result ≡ loan_at records.now i }
 {
     match read_at(records, i) {
-        TermsRead::Refused(refusal) => Opening::Refused(refusal),
-        TermsRead::Given(terms) => mortgage::opening::open(terms),
+        Err(refusal) => Err(refusal),
+        Ok(terms) => mortgage::opening::open(terms),
     }
 }

@@ -11,13 +11,13 @@ use borrow.Author.Tests.{eq-eqb, ne_eqb, eqb-false, ltb-false}
 use Rattle.refusals.specs.Outcome.{Outcome, refused, accepted, Line, line, judged}
 use Rattle.refusals.specs.Table.{unequal, bad_knot_count, bad_knots}
 use Rattle.refusals.specs.declared.Refusal.{Refusal}
-use Rattle.refusals.specs.declared.Verdict.{Verdict}
-use Rattle.refusals.specs.declared.Verdict.TheVariants as verdict_is
-use Rattle.refusals.specs.Answers.{verdict_outcome}
 use Rattle.refusals.proofs.Verdicts.{verdict, refused_by, accepted_by}
 use Rattle.refusals.proofs.OneCause.{caused, clear}
 use Rattle.refusals.proofs.Judging.{none_is, passed, followed, judged_in_parts}
 use Rattle.curves.specs.Curve.{curve_lines}
+use Rattle.std.specs.declared.result.Result.TheVariants.{Ok, Err}
+use Rattle.std.specs.declared.result.Result.{Result}
+use Rattle.refusals.specs.Answers.{number, outcome}
 
 different : (m n : ℕ) → (m ≡ n → ⊥) → unequal m n ≡ true
 unfolding unequal
@@ -72,12 +72,12 @@ module _ (times rates : List Float) where
   accepted_at_most_120 ms e = at_most_120 (length times) (none_is (passed tt tt _ _ (passed tt tt _ _ e).1).0 0)
 
   -- ---- the answer of a function that asks line 7 after the curve: the verdict's refusal, or the value
-  module _ {Value : Type 0} (v : Value) (x : Verdict) (asked bad : Bool) (is_asked : asked ≡ bad) (judge : verdict_outcome x ≡ verdict (curve_lines times rates ++ line 7 asked ∷ [])) where
-    by_bad : verdict_outcome x ≡ verdict (curve_lines times rates ++ line 7 bad ∷ [])
+  module _ {Value : Type 0} (v : Value) (x : Result Unit Refusal) (asked bad : Bool) (is_asked : asked ≡ bad) (judge : outcome x ≡ verdict (curve_lines times rates ++ line 7 asked ∷ [])) where
+    by_bad : outcome x ≡ verdict (curve_lines times rates ++ line 7 bad ∷ [])
     by_bad = judge ∙ ap (λ (b : Bool). verdict (curve_lines times rates ++ line 7 b ∷ [])) is_asked
 
-    pub answer_refused : (r : Refusal) → x ≡ verdict_is.Refused r → refused r.number r.place ≡ judged (curve_lines times rates ++ line 7 bad ∷ []) v
+    pub answer_refused : (r : Refusal) → x ≡ Err r → refused (number r.cause) r.place ≡ judged (curve_lines times rates ++ line 7 bad ∷ []) v
     answer_refused r h = refused_by _ v x r h by_bad
 
-    pub answer_given : (w : Value) → w ≡ v → x ≡ verdict_is.Accepted → accepted w ≡ judged (curve_lines times rates ++ line 7 bad ∷ []) v
+    pub answer_given : (w : Value) → w ≡ v → x ≡ (Ok tt) → accepted w ≡ judged (curve_lines times rates ++ line 7 bad ∷ []) v
     answer_given w e h = ap accepted e ∙ accepted_by _ v x h by_bad

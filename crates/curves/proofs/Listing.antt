@@ -10,9 +10,6 @@ use lib.Ieee.{Float, nan, lt}
 use lib.Ieee.Scale.{finite}
 use borrow.Author.Tests.{eqb-true, not-false}
 use Rattle.refusals.specs.declared.Refusal.{Refusal}
-use Rattle.refusals.specs.declared.Verdict.{Verdict}
-use Rattle.refusals.specs.declared.Verdict.TheVariants as verdict_is
-use Rattle.refusals.specs.Answers.{verdict_outcome}
 use Rattle.refusals.specs.Outcome.{Outcome, accepted, Line, line, judged}
 use Rattle.refusals.specs.Table.{unequal, bad_knot_count, bad_knot, bad_knots_after, bad_knots, bad_time}
 use Rattle.refusals.specs.Places.{placed}
@@ -23,6 +20,9 @@ use Rattle.curves.specs.Segments.{knot, Rising}
 use Rattle.curves.specs.Curve.{curve_lines}
 use Rattle.curves.specs.Lists.{each_lines, each_outcome, or_as_before, each_after}
 use Rattle.curves.proofs.CurveLines.{at_least_one}
+use Rattle.std.specs.declared.result.Result.TheVariants.{Ok, Err}
+use Rattle.std.specs.declared.result.Result.{Result}
+use Rattle.refusals.specs.Answers.{number, outcome}
 
 -- ---- a curve that is accepted is in order
 -- a knot that has no cause is sound by itself, and later than the one before
@@ -73,23 +73,23 @@ module _ (times rates : List Float) (ms : List Line) (e : accepted tt ≡ verdic
   sound_knots = sound times rates same_length (none_is (passed tt tt _ _ (passed tt tt _ _ from_5).1).0)
 
 -- a curve on which a verdict is Accepted rises, whatever lines come after its own
-pub accepted_rises : (times rates : List Float) (ms : List Line) (x : Verdict) → verdict_outcome x ≡ verdict (curve_lines times rates ++ ms) → x ≡ verdict_is.Accepted → Rising times
-accepted_rises times rates ms x e h = in_rising_order times rates ms (sym (ap verdict_outcome h) ∙ e)
+pub accepted_rises : (times rates : List Float) (ms : List Line) (x : Result Unit Refusal) → outcome x ≡ verdict (curve_lines times rates ++ ms) → x ≡ (Ok tt) → Rising times
+accepted_rises times rates ms x e h = in_rising_order times rates ms (sym (ap outcome h) ∙ e)
 
 -- ---- the list after the call
-module _ (answer : Float → Float) (times rates asked : List Float) (x : Verdict) (e : verdict_outcome x ≡ each_outcome times rates asked) where
-  pub all_accepted : x ≡ verdict_is.Accepted → accepted tt ≡ verdict (each_lines times rates asked)
+module _ (answer : Float → Float) (times rates asked : List Float) (x : Result Unit Refusal) (e : outcome x ≡ each_outcome times rates asked) where
+  pub all_accepted : x ≡ (Ok tt) → accepted tt ≡ verdict (each_lines times rates asked)
   unfolding each_outcome
-  all_accepted h = accepted_itself (verdict (each_lines times rates asked)) (sym (ap verdict_outcome h) ∙ e)
+  all_accepted h = accepted_itself (verdict (each_lines times rates asked)) (sym (ap outcome h) ∙ e)
 
-  pub after_accepted : x ≡ verdict_is.Accepted → (done : List Float) → done ≡ map answer asked → done ≡ each_after answer times rates asked
+  pub after_accepted : x ≡ (Ok tt) → (done : List Float) → done ≡ map answer asked → done ≡ each_after answer times rates asked
   unfolding each_after
   after_accepted h done d = d ∙ ap (λ (o : Outcome (List Float)). or_as_before o asked) (accepted_alike (each_lines times rates asked) (map answer asked) (all_accepted h))
 
-  pub after_refused : (r : Refusal) → x ≡ verdict_is.Refused r → asked ≡ each_after answer times rates asked
+  pub after_refused : (r : Refusal) → x ≡ Err r → asked ≡ each_after answer times rates asked
   unfolding each_outcome each_after
   after_refused r h =
-      let it = refused_itself (verdict (each_lines times rates asked)) r.number r.place (sym (ap verdict_outcome h) ∙ e) in
+      let it = refused_itself (verdict (each_lines times rates asked)) (number r.cause) r.place (sym (ap outcome h) ∙ e) in
       ap (λ (o : Outcome (List Float)). or_as_before o asked) (refused_alike (each_lines times rates asked) (map answer asked) it.0 it.1 it.2)
 
 -- ---- times that are all finite

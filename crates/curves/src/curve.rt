@@ -3,13 +3,13 @@ ghost use Rattle.std.specs.Prelude.{◌≡◌, true, not, ◌||◌, [], ◌∷�
 ghost use Rattle.std.specs.Float.Ieee.{lt};
 ghost use Rattle.std.specs.Float.Ieee.Scale.{finite};
 ghost use Rattle.refusals.specs.Outcome.{Outcome, accepted, line, judged};
-ghost use Rattle.refusals.specs.Answers.{verdict_outcome};
+ghost use Rattle.refusals.specs.Answers.{outcome};
 ghost use Rattle.refusals.specs.Table.{bad_knot_count, bad_knot, bad_knots, bad_time};
 ghost use Rattle.curves.specs.Segments.{knot};
 ghost use Rattle.curves.specs.Curve.{curve_lines};
 
 use numbers::sizes::{infinity, is_finite};
-use refusals::{Refusal, Verdict, refuse};
+use refusals::{Cause, Refusal, refuse};
 
 // Line 5: no knot, or more than 120.
 pub fn bad_knot_count(count: usize) -> bool
@@ -99,53 +99,53 @@ fn all_in_order(times: &[f64], rates: &[f64]) -> bool
 }
 
 // Line 6, at the first bad knot; -infinity stands before the first of all.
-pub(crate) fn judge_knots(times: &[f64], rates: &[f64]) -> Verdict
+pub(crate) fn judge_knots(times: &[f64], rates: &[f64]) -> Result<(), Refusal>
     requires { (length times.now ≡ length rates.now) × (length times.now ≤ 120) }
-    ensures { verdict_outcome result ≡ judged ((record { number = 6; causes = bad_knots times.now rates.now }) ∷ []) tt }
+    ensures { outcome result ≡ judged ((record { number = 6; causes = bad_knots times.now rates.now }) ∷ []) tt }
 {
     let mut before = -infinity();
     let mut i: usize = 0;
     while i < times.len() {
         let time = times[i];
         if bad_knot_after(before, time, rates[i]) {
-            return Verdict::Refused(Refusal {
-                number: 6,
+            return Err(Refusal {
+                cause: Cause::Knot,
                 place: i as u32,
             });
         }
         before = time;
         i += 1;
     }
-    Verdict::Accepted
+    Ok(())
 }
 
 // Lines 4, 5 and 6.
-pub fn judge_curve(times: &[f64], rates: &[f64]) -> Verdict
-    ensures { verdict_outcome result ≡ judged (curve_lines times.now rates.now) tt }
+pub fn judge_curve(times: &[f64], rates: &[f64]) -> Result<(), Refusal>
+    ensures { outcome result ≡ judged (curve_lines times.now rates.now) tt }
 {
     if times.len() != rates.len() {
-        return Verdict::Refused(refuse(4));
+        return Err(refuse(Cause::Lengths));
     }
     if bad_knot_count(times.len()) {
-        return Verdict::Refused(refuse(5));
+        return Err(refuse(Cause::KnotCount));
     }
     if all_in_order(times, rates) {
-        return Verdict::Accepted;
+        return Ok(());
     }
     judge_knots(times, rates)
 }
 
 // Lines 4, 5 and 6, and then 7 where what is asked of the curve is bad.
-pub fn judge_asked(times: &[f64], rates: &[f64], bad: bool) -> Verdict
-    ensures { verdict_outcome result ≡ judged (curve_lines times.now rates.now ++ line 7 bad ∷ []) tt }
+pub fn judge_asked(times: &[f64], rates: &[f64], bad: bool) -> Result<(), Refusal>
+    ensures { outcome result ≡ judged (curve_lines times.now rates.now ++ line 7 bad ∷ []) tt }
 {
     match judge_curve(times, rates) {
-        Verdict::Refused(refusal) => Verdict::Refused(refusal),
-        Verdict::Accepted => {
+        Err(refusal) => Err(refusal),
+        Ok(()) => {
             if bad {
-                return Verdict::Refused(refuse(7));
+                return Err(refuse(Cause::Time));
             }
-            Verdict::Accepted
+            Ok(())
         }
     }
 }

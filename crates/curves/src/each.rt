@@ -3,7 +3,7 @@ ghost use Rattle.std.specs.Prelude.{◌≡◌, true, [], ◌∷◌, map, ℕ, �
 ghost use Rattle.std.specs.Float.{nan};
 ghost use Rattle.std.specs.Float.Ieee.Scale.{finite};
 ghost use Rattle.refusals.specs.Outcome.{judged};
-ghost use Rattle.refusals.specs.Answers.{verdict_outcome};
+ghost use Rattle.refusals.specs.Answers.{outcome};
 ghost use Rattle.refusals.specs.Table.{bad_time};
 ghost use Rattle.refusals.specs.Places.{placed};
 ghost use Rattle.curves.specs.Segments.{Rising};
@@ -19,7 +19,7 @@ use crate::lookups::{exponent_at, rate_of};
 use crate::segments::{Ends, ends_of, flat, outside_of};
 use elementary::exp::exp_each;
 use numbers::sizes::is_finite;
-use refusals::{Verdict, refuse_at};
+use refusals::{Cause, Refusal, refuse_at};
 
 // Whether each is finite; all are asked alike, so that several are asked at once.
 pub fn all_finite(asked: &[f64]) -> bool
@@ -35,29 +35,29 @@ pub fn all_finite(asked: &[f64]) -> bool
 }
 
 // Line 7, at the first time that is not finite.
-fn judge_times(asked: &[f64]) -> Verdict
-    ensures { verdict_outcome result ≡ placed (judged ((record { number = 7; causes = map bad_time asked.now }) ∷ []) tt) }
+fn judge_times(asked: &[f64]) -> Result<(), Refusal>
+    ensures { outcome result ≡ placed (judged ((record { number = 7; causes = map bad_time asked.now }) ∷ []) tt) }
 {
     if all_finite(asked) {
-        return Verdict::Accepted;
+        return Ok(());
     }
     let mut i: usize = 0;
     while i < asked.len() {
         if bad_time(asked[i]) {
-            return Verdict::Refused(refuse_at(7, i));
+            return Err(refuse_at(Cause::Time, i));
         }
         i += 1;
     }
-    Verdict::Accepted
+    Ok(())
 }
 
 // Lines 4, 5 and 6 of the curve, and then 7 of each time.
-pub fn judge_each(times: &[f64], rates: &[f64], asked: &[f64]) -> Verdict
-    ensures { verdict_outcome result ≡ each_outcome times.now rates.now asked.now }
+pub fn judge_each(times: &[f64], rates: &[f64], asked: &[f64]) -> Result<(), Refusal>
+    ensures { outcome result ≡ each_outcome times.now rates.now asked.now }
 {
     match judge_curve(times, rates) {
-        Verdict::Refused(refusal) => Verdict::Refused(refusal),
-        Verdict::Accepted => judge_times(asked),
+        Err(refusal) => Err(refusal),
+        Ok(()) => judge_times(asked),
     }
 }
 
@@ -269,14 +269,14 @@ fn discounts_of(kind: Kind, times: &[f64], rates: &[f64], asked: &mut [f64])
 }
 
 // The rate at each time.
-pub fn rate_at_each(kind: Kind, times: &[f64], rates: &[f64], asked: &mut [f64]) -> Verdict
-    ensures { (verdict_outcome result ≡ each_outcome times.now rates.now asked.old) × (asked.new ≡ each_after (rate_on kind times.now rates.now) times.now rates.now asked.old) }
+pub fn rate_at_each(kind: Kind, times: &[f64], rates: &[f64], asked: &mut [f64]) -> Result<(), Refusal>
+    ensures { (outcome result ≡ each_outcome times.now rates.now asked.old) × (asked.new ≡ each_after (rate_on kind times.now rates.now) times.now rates.now asked.old) }
 {
     match judge_each(times, rates, asked) {
-        Verdict::Refused(refusal) => Verdict::Refused(refusal),
-        Verdict::Accepted => {
+        Err(refusal) => Err(refusal),
+        Ok(()) => {
             rates_of(kind, times, rates, asked);
-            Verdict::Accepted
+            Ok(())
         }
     }
 }
@@ -287,14 +287,14 @@ pub fn discount_factor_at_each(
     times: &[f64],
     rates: &[f64],
     asked: &mut [f64],
-) -> Verdict
-    ensures { (verdict_outcome result ≡ each_outcome times.now rates.now asked.old) × (asked.new ≡ each_after (discount_on kind times.now rates.now) times.now rates.now asked.old) }
+) -> Result<(), Refusal>
+    ensures { (outcome result ≡ each_outcome times.now rates.now asked.old) × (asked.new ≡ each_after (discount_on kind times.now rates.now) times.now rates.now asked.old) }
 {
     match judge_each(times, rates, asked) {
-        Verdict::Refused(refusal) => Verdict::Refused(refusal),
-        Verdict::Accepted => {
+        Err(refusal) => Err(refusal),
+        Ok(()) => {
             discounts_of(kind, times, rates, asked);
-            Verdict::Accepted
+            Ok(())
         }
     }
 }

@@ -9,10 +9,7 @@ use contract.Lifetimes.{Lfts}
 use denote.Triple.Clauses.{AtExit, Lasts, at_exit}
 use Rattle.numbers.proofs.Determined.{Determined}
 use Rattle.refusals.proofs.OneToOne.{same_refusal, count_one_to_one}
-use Rattle.dates.specs.declared.DateAnswer.{DateAnswer}
-use Rattle.dates.specs.declared.DateAnswer.TheVariants as date_is
 use Rattle.dates.specs.declared.periods.Span.{Span}
-use Rattle.dates.specs.Answers.{date_outcome}
 use Rattle.dates.specs.Calendar.{is_date}
 use Rattle.dates.specs.Periods.{is_span, period_count}
 use Rattle.dates.specs.DayLists.{Follows, elapsed_at, counted_at, DaysListed}
@@ -41,6 +38,10 @@ use Rattle.dates.proofs.periods.period_count.Kinds as period_count_kinds
 use Rattle.dates.proofs.periods.period_count.Reads as period_count_reads
 use Rattle.dates.proofs.runs.put_days.Kinds as put_days_kinds
 use Rattle.dates.proofs.runs.put_days.Reads as put_days
+use Rattle.std.specs.declared.result.Result.TheVariants.{Ok, Err}
+use Rattle.std.specs.declared.result.Result.{Result}
+use Rattle.refusals.specs.declared.Refusal.{Refusal}
+use Rattle.refusals.specs.Answers.{outcome}
 
 -- the like of Determined, where something holds of the arguments
 abbrev DeterminedOn : (n : ℕ) (ps : List (ParamKind n)) (r : ResultKind n) → ((κs : Lfts n) → Dens κs ps → Type 0) → Out n ps r → Type 0
@@ -48,11 +49,11 @@ DeterminedOn n ps r holds promise =
     (κs : Lfts n) (a : Dens κs ps) → holds κs a → (x y : (res_t r κs).Denot) (e e' : AtExit (ended_of n ps r) κs) → promise κs a x e → promise κs a y e' → x ≡ y
 
 -- ---- an answer's number, place and date tell the answer
-pub date_told : (x y : DateAnswer) → date_outcome x ≡ date_outcome y → x ≡ y
-date_told (date_is.Refused r) (date_is.Refused s) e = ap date_is.Refused (same_refusal r s e)
-date_told (date_is.Refused r) (date_is.Given d) e = cc
-date_told (date_is.Given c) (date_is.Refused s) e = cc
-date_told (date_is.Given c) (date_is.Given d) e = cc
+pub date_told : (x y : Result Date Refusal) → outcome x ≡ outcome y → x ≡ y
+date_told (Err r) (Err s) e = ap Err (same_refusal r s e)
+date_told (Err r) (Ok d) e = cc
+date_told (Ok c) (Err s) e = cc
+date_told (Ok c) (Ok d) e = cc
 
 pub is_date_determined : Determined 0 is_date_kinds.ps is_date_kinds.r is_date_reads.Post
 is_date_determined κs a x y e e' p q = p ∙ sym q

@@ -3,8 +3,6 @@ use Rattle.std.specs.Prelude.{ℕ, ◌-◌, Bool, ◌&&◌, List, [], ◌∷◌,
 use Rattle.refusals.specs.Outcome.{Outcome, refused, accepted, Line, line, judged}
 use Rattle.refusals.specs.Table.{no_such_date, bad_dates}
 use Rattle.dates.specs.declared.Date.{Date}
-use Rattle.dates.specs.declared.DateAnswer.{DateAnswer}
-use Rattle.dates.specs.declared.DateAnswer.TheVariants as date_is
 use Rattle.dates.specs.Calendar.{is_date, is_after, days_later}
 use Rattle.dates.specs.DayNumbers.{day_number}
 use Rattle.dates.specs.Counts.{actual_days, thirty_days}
@@ -44,6 +42,3 @@ thirty_days_of first second = judged (dates_line first second ∷ []) (thirty_da
 unfoldable pub months_later_of : Date → ℕ → Outcome Date
 months_later_of d months = judged (line 15 (no_such_date (is_date d && is_date (months_later months d))) ∷ []) (months_later months d)
 
-abbrev pub date_outcome : DateAnswer → Outcome Date
-date_outcome (date_is.Refused r) = refused r.number r.place
-date_outcome (date_is.Given d) = accepted d

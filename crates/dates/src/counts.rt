@@ -1,6 +1,6 @@
 // The days from one date to a later one: actual days, and 30/360 by the bond basis.
 ghost use Rattle.std.specs.Prelude.{◌≡◌, true, ◌-◌};
-ghost use Rattle.refusals.specs.Answers.{count_outcome};
+ghost use Rattle.refusals.specs.Answers.{outcome};
 ghost use Rattle.refusals.specs.Table.{bad_dates};
 ghost use Rattle.dates.specs.Calendar.{is_date, is_after};
 ghost use Rattle.dates.specs.Counts.{actual_days, first_day_of, second_day_of, thirty_days};
@@ -9,7 +9,7 @@ ghost use Rattle.dates.specs.Answers.{actual_days_of, thirty_days_of};
 use crate::Date;
 use crate::calendar::{is_after, is_date};
 use crate::day_numbers::number_of;
-use refusals::{Count, refuse};
+use refusals::{Cause, Refusal, refuse};
 
 // Line 15 of two dates.
 pub fn bad_dates(first: Date, second: Date) -> bool
@@ -71,21 +71,21 @@ pub fn thirty_days(first: Date, second: Date) -> u32
 }
 
 // Actual days between two dates.
-pub fn actual_days_between(first: Date, second: Date) -> Count
-    ensures { count_outcome result ≡ actual_days_of first second }
+pub fn actual_days_between(first: Date, second: Date) -> Result<u32, Refusal>
+    ensures { outcome result ≡ actual_days_of first second }
 {
     if bad_dates(first, second) {
-        return Count::Refused(refuse(15));
+        return Err(refuse(Cause::Date));
     }
-    Count::Given(actual_days(first, second))
+    Ok(actual_days(first, second))
 }
 
 // The 30/360 count between two dates.
-pub fn thirty_days_between(first: Date, second: Date) -> Count
-    ensures { count_outcome result ≡ thirty_days_of first second }
+pub fn thirty_days_between(first: Date, second: Date) -> Result<u32, Refusal>
+    ensures { outcome result ≡ thirty_days_of first second }
 {
     if bad_dates(first, second) {
-        return Count::Refused(refuse(15));
+        return Err(refuse(Cause::Date));
     }
-    Count::Given(thirty_days(first, second))
+    Ok(thirty_days(first, second))
 }

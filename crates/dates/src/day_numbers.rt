@@ -1,13 +1,13 @@
 // Day numbers by the rule for leap years, without a walk over them; and the date of a number.
 ghost use Rattle.std.specs.Prelude.{◌≡◌, true, ◌+◌, ◌≤◌, ◌<◌};
-ghost use Rattle.refusals.specs.Answers.{count_outcome};
+ghost use Rattle.refusals.specs.Answers.{outcome};
 ghost use Rattle.dates.specs.Calendar.{is_date};
 ghost use Rattle.dates.specs.DayNumbers.{days_before_year, days_before_month, day_number};
-ghost use Rattle.dates.specs.Answers.{day_number_of, date_numbered, date_outcome};
+ghost use Rattle.dates.specs.Answers.{day_number_of, date_numbered};
 
 use crate::calendar::{days_in, is_date, is_leap};
-use crate::{Date, DateAnswer};
-use refusals::{Count, refuse};
+use crate::Date;
+use refusals::{Cause, Refusal, refuse};
 
 // The number of 1 January 1900.
 const FIRST: u32 = 2;
@@ -53,13 +53,13 @@ pub(crate) fn number_of(date: Date) -> u32
     1 + days_before_year(year) + days_before_month(year, date.month as u32) + date.day as u32
 }
 
-pub fn day_number(date: Date) -> Count
-    ensures { count_outcome result ≡ day_number_of date }
+pub fn day_number(date: Date) -> Result<u32, Refusal>
+    ensures { outcome result ≡ day_number_of date }
 {
     if is_date(date) {
-        return Count::Given(number_of(date));
+        return Ok(number_of(date));
     }
-    Count::Refused(refuse(15))
+    Err(refuse(Cause::Date))
 }
 
 // The year in which so many days after 1 January 1900 lie: no year has more than 366, so the search begins at most one year before it.
@@ -103,14 +103,14 @@ fn date_at(days: u32) -> Date
 }
 
 // The date of a day number.
-pub fn date_of(number: u32) -> DateAnswer
-    ensures { date_outcome result ≡ date_numbered number }
+pub fn date_of(number: u32) -> Result<Date, Refusal>
+    ensures { outcome result ≡ date_numbered number }
 {
     if number < FIRST {
-        return DateAnswer::Refused(refuse(15));
+        return Err(refuse(Cause::Date));
     }
     if number > LAST {
-        return DateAnswer::Refused(refuse(15));
+        return Err(refuse(Cause::Date));
     }
-    DateAnswer::Given(date_at(number - FIRST))
+    Ok(date_at(number - FIRST))
 }

@@ -16,8 +16,3 @@ pub struct Date {
     pub day: u8,
 }
 
-#[derive(Clone, Copy)]
-pub enum DateAnswer {
-    Refused(refusals::Refusal),
-    Given(Date),
-}

@@ -1,11 +1,12 @@
 // A date so many months later, its day cut to the month's end.
 ghost use Rattle.std.specs.Prelude.{◌≡◌, ◌<◌};
 ghost use Rattle.dates.specs.Months.{month_index, day_in_month};
-ghost use Rattle.dates.specs.Answers.{months_later_of, date_outcome};
+ghost use Rattle.refusals.specs.Answers.{outcome};
+ghost use Rattle.dates.specs.Answers.{months_later_of};
 
 use crate::calendar::{days_in, is_date};
-use crate::{Date, DateAnswer};
-use refusals::refuse;
+use crate::Date;
+use refusals::{Cause, Refusal, refuse};
 
 // A month among all months, twelve for each year.
 pub(crate) fn month_index(date: Date) -> u32
@@ -39,18 +40,18 @@ pub(crate) fn day_in_month(index: u32, day: u8) -> Date
     }
 }
 
-pub fn months_later(date: Date, months: u32) -> DateAnswer
-    ensures { date_outcome result ≡ months_later_of date months }
+pub fn months_later(date: Date, months: u32) -> Result<Date, Refusal>
+    ensures { outcome result ≡ months_later_of date months }
 {
     if !is_date(date) {
-        return DateAnswer::Refused(refuse(15));
+        return Err(refuse(Cause::Date));
     }
     if months >= 3600 {
-        return DateAnswer::Refused(refuse(15));
+        return Err(refuse(Cause::Date));
     }
     let later = day_in_month(month_index(date) + months, date.day);
     if !is_date(later) {
-        return DateAnswer::Refused(refuse(15));
+        return Err(refuse(Cause::Date));
     }
-    DateAnswer::Given(later)
+    Ok(later)
 }

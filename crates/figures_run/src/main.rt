@@ -1,20 +1,19 @@
 // Document 01's figures that are run only: terms of 1,200 and 1,201, room for 4 and 5 numbers, and curves of 120 and 121 knots.
 #![tactic(auto)]
 
-use mortgage::draws::{Drawing, WIDTH};
-use mortgage::opening::Opening;
+use mortgage::draws::WIDTH;
 use records::Terms;
-use refusals::{Number, Refusal};
+use refusals::Refusal;
 use std::io;
 
 fn say_refused(out: &impl Print, refusal: Refusal) -> io::Result<()> {
     println!(out; "refused {} at {}", refusal.number, refusal.place)
 }
 
-fn say_drawn(out: &impl Print, drawing: Drawing) -> io::Result<()> {
+fn say_drawn(out: &impl Print, drawing: Result<Portion, Refusal>) -> io::Result<()> {
     match drawing {
-        Drawing::Refused(refusal) => say_refused(out, refusal),
-        Drawing::Drawn(portion) => {
+        Err(refusal) => say_refused(out, refusal),
+        Ok(portion) => {
             println!(out; "wrote {} owes {}", portion.written, portion.owed)
         }
     }
@@ -29,8 +28,8 @@ fn draw(out: &impl Print, term: u32, room: &mut [f64]) -> io::Result<()> {
         term,
     };
     match mortgage::opening::open(terms) {
-        Opening::Refused(refusal) => say_refused(out, refusal),
-        Opening::Open(loan) => say_drawn(out, mortgage::draws::draw(loan, room)),
+        Err(refusal) => say_refused(out, refusal),
+        Ok(loan) => say_drawn(out, mortgage::draws::draw(loan, room)),
     }
 }
 
@@ -51,8 +50,8 @@ fn set_years(times: &mut [f64]) {
 fn ask(out: &impl Print, times: &[f64], rates: &[f64]) -> io::Result<()> {
     print!(out; "knots {}: ", times.len())?;
     match yield_curve::linear::linear_interpolate(times, rates, 0.25) {
-        Number::Refused(refusal) => say_refused(out, refusal),
-        Number::Given(rate) => {
+        Err(refusal) => say_refused(out, refusal),
+        Ok(rate) => {
             if rate == 0.5 {
                 println!(out; "rate 0.5")
             } else {

@@ -2,30 +2,29 @@
 #![tactic(auto)]
 
 ghost use Rattle.std.specs.Prelude.{◌≡◌, ◌++◌, length, drop};
-ghost use Rattle.refusals.specs.Answers.{count_outcome};
+ghost use Rattle.refusals.specs.Answers.{outcome};
 ghost use Rattle.listing.specs.Listing.{listed, listed_size, lines_over, listing};
+
+use refusals::Refusal;
 
 mod lines;
 mod portions;
 mod text;
 
-use mortgage::opening::Opening;
-use records::TermsRead;
-use refusals::Count;
 
 // Bytes enough for the listing of any loan.
 pub const ROOM: usize = 96000;
 
 // Puts the lines of the loan that a kind 1 record opens from the start of the lent memory, and gives their length; a refusal leaves the memory.
-pub fn list_loan(bytes: &[u8], out: &mut [u8; ROOM]) -> Count
-    ensures result_value { count_outcome result ≡ listed_size bytes.now }
+pub fn list_loan(bytes: &[u8], out: &mut [u8; ROOM]) -> Result<u32, Refusal>
+    ensures result_value { outcome result ≡ listed_size bytes.now }
     ensures out_after { out.new ≡ lines_over (listed bytes.now) out.old }
 {
     match records::terms_record::read_terms(bytes) {
-        TermsRead::Refused(refusal) => Count::Refused(refusal),
-        TermsRead::Given(terms) => match mortgage::opening::open(terms) {
-            Opening::Refused(refusal) => Count::Refused(refusal),
-            Opening::Open(loan) => Count::Given(portions::put_loan(out, loan) as u32),
+        Err(refusal) => Err(refusal),
+        Ok(terms) => match mortgage::opening::open(terms) {
+            Err(refusal) => Err(refusal),
+            Ok(loan) => Ok(portions::put_loan(out, loan) as u32),
         },
     }
 }
@@ -36,7 +35,7 @@ pub fn list(bytes: &[u8], out: &mut [u8; ROOM]) -> usize
     ensures out_after { out.new ≡ listing bytes.now ++ drop result out.old }
 {
     match list_loan(bytes, out) {
-        Count::Refused(refusal) => lines::put_refused(out, 0, refusal),
-        Count::Given(size) => size as usize,
+        Err(refusal) => lines::put_refused(out, 0, refusal),
+        Ok(size) => size as usize,
     }
 }

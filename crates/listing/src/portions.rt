@@ -7,7 +7,7 @@ ghost use Rattle.listing.specs.inner.Putting.{Put};
 ghost use Rattle.listing.specs.inner.Portions.{row_at, room_lines, line_room, listing_room, portion_rows, InHand, Listable, Lists};
 
 use mortgage::Loan;
-use mortgage::draws::{Drawing, WIDTH};
+use mortgage::draws::WIDTH;
 use records::Row;
 
 // The rows of a portion.
@@ -60,7 +60,7 @@ fn put_portion(out: &mut [u8], listed: Listed) -> Listed
     let mut room = [0.0; PORTION * WIDTH];
     let loan = listed.loan;
     // The room holds rows and the loan is in hand, so that no draw is refused.
-    let Drawing::Drawn(portion) = mortgage::draws::draw(loan, &mut room) else {
+    let Ok(portion) = mortgage::draws::draw(loan, &mut room) else {
         return listed;
     };
     let next = portion.loan;

@@ -8,10 +8,7 @@ use lib.Dec.{eqb, ltb}
 use lib.ListN.{length}
 use lib.Ieee.{Float}
 use borrow.Author.Tests.{le-ltb, ltb-false}
-use Rattle.refusals.specs.declared.Verdict.{Verdict}
-use Rattle.refusals.specs.declared.Verdict.TheVariants as verdict_is
 use Rattle.refusals.specs.declared.Refusal.{Refusal}
-use Rattle.refusals.specs.Answers.{verdict_outcome}
 use Rattle.refusals.specs.Outcome.{Outcome, refused, accepted, line}
 use Rattle.refusals.specs.Table.{bad_term, no_room, past_end, bad_balloon, bad_initial, bad_cap, too_few_entries, bad_entry}
 use Rattle.refusals.proofs.Causes.{neither, not_zero, alone_clear}
@@ -27,6 +24,9 @@ use Rattle.mortgage.specs.Month.{end_month, due, row_of}
 use Rattle.mortgage.specs.Rows.{rows, state_lines}
 use Rattle.mortgage.specs.Draws.{draw_lines, portion, drawn, filled_by, filled}
 use Rattle.mortgage.specs.inner.Coming.{Listed}
+use Rattle.std.specs.declared.result.Result.TheVariants.{Ok, Err}
+use Rattle.std.specs.declared.result.Result.{Result}
+use Rattle.refusals.specs.Answers.{number, outcome}
 
 -- ---- the numbers of a loan's next row, as the piece of a room that the laws of portions speak of
 abbrev pub row_places : Way → Loan → List Float
@@ -108,14 +108,14 @@ module _ (way : Way) (l : Loan) where
       ∙ clear v 2 (bad_term l.term) (line 3 (no_room (due way l) (length room) width) ∷ line 10 (past_end (end_month way l) l.done) ∷ kind_lines way l.term) d.good_term
 
   -- ---- as a `match` on the verdict has it, in either arm
-  module _ (room : List Float) (x : Verdict) (e : verdict_outcome x ≡ verdict (draw_lines way l (length room))) where
-    pub refused_draw : (r : Refusal) → x ≡ verdict_is.Refused r → (refused r.number r.place ≡ drawn way l room) × (room ≡ filled way l room)
+  module _ (room : List Float) (x : Result Unit Refusal) (e : outcome x ≡ verdict (draw_lines way l (length room))) where
+    pub refused_draw : (r : Refusal) → x ≡ Err r → (refused (number r.cause) r.place ≡ drawn way l room) × (room ≡ filled way l room)
     unfolding drawn filled
     refused_draw r h =
         let is = refused_by (draw_lines way l (length room)) (portion way l (length room)) x r h e in
         (is, ap (λ (o : Outcome Portion). filled_by way o l room) is)
 
-    pub accepted_draw : x ≡ verdict_is.Accepted → (d : Portion) (room' : List Float) → d ≡ portion way l (length room) → room' ≡ laid width d.written (rows way d.written l) room
+    pub accepted_draw : x ≡ (Ok tt) → (d : Portion) (room' : List Float) → d ≡ portion way l (length room) → room' ≡ laid width d.written (rows way d.written l) room
         → (accepted d ≡ drawn way l room) × (room' ≡ filled way l room)
     unfolding drawn filled
     accepted_draw h d room' ed er =

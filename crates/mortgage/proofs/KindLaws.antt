@@ -9,10 +9,7 @@ use lib.ListN.{length, take, get_or, length-take}
 use lib.Seq.{get_or-take}
 use lib.Ieee.{Float, nan}
 use borrow.Author.Tests.{ltb-true, ltb-false, eqb-true, lt-ltb, le-ltb, le-leb, lt-leb, eq-eqb, ne_eqb}
-use Rattle.refusals.specs.declared.Verdict.{Verdict}
-use Rattle.refusals.specs.declared.Verdict.TheVariants as verdict_is
 use Rattle.refusals.specs.declared.Refusal.{Refusal}
-use Rattle.refusals.specs.Answers.{verdict_outcome}
 use Rattle.refusals.specs.Outcome.{Outcome, refused, accepted, Line, line, alone, first_or, judged}
 use Rattle.refusals.specs.Table.{bad_amount, bad_term, bad_number, past_end, bad_initial, bad_cap, too_few_entries, bad_entry}
 use Rattle.refusals.proofs.Verdicts.{verdict, refused_by, accepted_by}
@@ -36,6 +33,9 @@ use Rattle.mortgage.specs.Month.{row_on, next_on, end_month, due, row_of, next_o
 use Rattle.mortgage.specs.Rows.{finished, next, state_lines, next_row}
 use Rattle.mortgage.specs.inner.Coming.{coming_behind, Listed}
 use Rattle.mortgage.proofs.RowLaws.{in_force_done}
+use Rattle.std.specs.declared.result.Result.TheVariants.{Ok, Err}
+use Rattle.std.specs.declared.result.Result.{Result}
+use Rattle.refusals.specs.Answers.{number, outcome}
 
 -- a number that is at least another
 pub at_least : (a b : ℕ) → leb a b ≡ not (ltb b a)
@@ -234,7 +234,7 @@ module _ (way : Way) (l : Loan) (n : ℕ) (many : n ≡ due way l) where
   unfolding due
   still_due h = omega (arith, h)
 
-  module _ (x : Verdict) (e : verdict_outcome x ≡ verdict (state_lines way l)) (h : x ≡ verdict_is.Accepted) where
+  module _ (x : Result Unit Refusal) (e : outcome x ≡ verdict (state_lines way l)) (h : x ≡ (Ok tt)) where
     judged_next : (t : Bool) → eqb (due way l) 0 ≡ t → accepted (cond t finished (next (row_of way l) (next_of way l))) ≡ next_row way l
     unfolding next_row
     judged_next t d =
@@ -248,20 +248,20 @@ module _ (way : Way) (l : Loan) (n : ℕ) (many : n ≡ due way l) where
     row_next z row after is = rw (is.0, is.1) (judged_next false (ne_eqb (due way l) 0 (λ w. z (many ∙ w))))
 
 -- ---- an opening: the lines of the terms, and then the kind's
-module _ (way : Way) (t : Terms) (pay : Float) (x : Verdict) (e : verdict_outcome x ≡ verdict (terms_lines t)) where
+module _ (way : Way) (t : Terms) (pay : Float) (x : Result Unit Refusal) (e : outcome x ≡ verdict (terms_lines t)) where
   abbrev Started : Loan
   Started = loan_of (starting_terms way t) pay
 
-  pub terms_refused : (r : Refusal) → x ≡ verdict_is.Refused r → refused r.number r.place ≡ kind_opened_with way t pay
+  pub terms_refused : (r : Refusal) → x ≡ Err r → refused (number r.cause) r.place ≡ kind_opened_with way t pay
   unfolding kind_opened_with
   terms_refused r h = refused_first (terms_lines t) (kind_lines way t.term) Started x e r h
 
-  module _ (h : x ≡ verdict_is.Accepted) (y : Verdict) (f : verdict_outcome y ≡ verdict (kind_lines way t.term)) where
-    pub kind_refused : (r : Refusal) → y ≡ verdict_is.Refused r → refused r.number r.place ≡ kind_opened_with way t pay
+  module _ (h : x ≡ (Ok tt)) (y : Result Unit Refusal) (f : outcome y ≡ verdict (kind_lines way t.term)) where
+    pub kind_refused : (r : Refusal) → y ≡ Err r → refused (number r.cause) r.place ≡ kind_opened_with way t pay
     unfolding kind_opened_with
     kind_refused r g = refused_by (kind_lines way t.term) Started y r g f ∙ accepted_first (terms_lines t) (kind_lines way t.term) Started x e h
 
-    pub kind_opened_lem : y ≡ verdict_is.Accepted → (s : Terms) (l : Loan) → s ≡ starting_terms way t → l ≡ loan_of s pay → accepted l ≡ kind_opened_with way t pay
+    pub kind_opened_lem : y ≡ (Ok tt) → (s : Terms) (l : Loan) → s ≡ starting_terms way t → l ≡ loan_of s pay → accepted l ≡ kind_opened_with way t pay
     unfolding kind_opened_with
     kind_opened_lem g s l es el =
         rw (el, es) (accepted_by (kind_lines way t.term) Started y g f ∙ accepted_first (terms_lines t) (kind_lines way t.term) Started x e h)

@@ -6,18 +6,9 @@ use lib.Ieee.{Float}
 use Rattle.numbers.proofs.Determined.{Determined, Settled}
 use Rattle.refusals.proofs.OneToOne.{same_refusal, verdict_one_to_one, number_one_to_one}
 use Rattle.mortgage.specs.declared.Loan.{Loan}
-use Rattle.mortgage.specs.declared.opening.Opening.{Opening}
-use Rattle.mortgage.specs.declared.opening.Opening.TheVariants as opening_is
 use Rattle.mortgage.specs.declared.rows.Next.{Next}
 use Rattle.mortgage.specs.declared.rows.Next.TheVariants as next_is
-use Rattle.mortgage.specs.declared.draws.Drawing.{Drawing}
-use Rattle.mortgage.specs.declared.draws.Drawing.TheVariants as drawing_is
-use Rattle.mortgage.specs.declared.years.YearAnswer.{YearAnswer}
-use Rattle.mortgage.specs.declared.years.YearAnswer.TheVariants as year_is
-use Rattle.mortgage.specs.Payment.{opening_outcome}
 use Rattle.mortgage.specs.Rows.{next_outcome}
-use Rattle.mortgage.specs.Draws.{drawing_outcome}
-use Rattle.mortgage.specs.YearDraws.{year_outcome}
 use Rattle.mortgage.proofs.payment.monthly_rate.Kinds as monthly_rate_kinds
 use Rattle.mortgage.proofs.payment.monthly_rate.Reads as monthly_rate
 use Rattle.mortgage.proofs.payment.monthly_payment.Kinds as monthly_payment_kinds
@@ -60,13 +51,17 @@ use Rattle.mortgage.proofs.years.draw_kind_with_years.Kinds as draw_kind_with_ye
 use Rattle.mortgage.proofs.years.draw_kind_with_years.Reads as draw_kind_with_years
 use Rattle.mortgage.proofs.years.look_up_kind_year.Kinds as look_up_kind_year_kinds
 use Rattle.mortgage.proofs.years.look_up_kind_year.Reads as look_up_kind_year
+use Rattle.std.specs.declared.result.Result.TheVariants.{Ok, Err}
+use Rattle.std.specs.declared.result.Result.{Result}
+use Rattle.refusals.specs.declared.Refusal.{Refusal}
+use Rattle.refusals.specs.Answers.{outcome}
 
 -- ---- each answer has its own outcome
-pub opening_one_to_one : (x y : Opening) → opening_outcome x ≡ opening_outcome y → x ≡ y
-opening_one_to_one (opening_is.Refused r) (opening_is.Refused s) e = ap opening_is.Refused (same_refusal r s e)
-opening_one_to_one (opening_is.Refused r) (opening_is.Open m) e = cc
-opening_one_to_one (opening_is.Open l) (opening_is.Refused s) e = cc
-opening_one_to_one (opening_is.Open l) (opening_is.Open m) e = cc
+pub opening_one_to_one : (x y : Result Loan Refusal) → outcome x ≡ outcome y → x ≡ y
+opening_one_to_one (Err r) (Err s) e = ap Err (same_refusal r s e)
+opening_one_to_one (Err r) (Ok m) e = cc
+opening_one_to_one (Ok l) (Err s) e = cc
+opening_one_to_one (Ok l) (Ok m) e = cc
 
 pub next_one_to_one : (x y : Next) → next_outcome x ≡ next_outcome y → x ≡ y
 next_one_to_one (next_is.Refused r) (next_is.Refused s) e = ap next_is.Refused (same_refusal r s e)
@@ -79,17 +74,17 @@ next_one_to_one (next_is.Due row l) (next_is.Refused s) e = cc
 next_one_to_one (next_is.Due row l) next_is.Finished e = cc
 next_one_to_one (next_is.Due row l) (next_is.Due other m) e = cc
 
-pub drawing_one_to_one : (x y : Drawing) → drawing_outcome x ≡ drawing_outcome y → x ≡ y
-drawing_one_to_one (drawing_is.Refused r) (drawing_is.Refused s) e = ap drawing_is.Refused (same_refusal r s e)
-drawing_one_to_one (drawing_is.Refused r) (drawing_is.Drawn d) e = cc
-drawing_one_to_one (drawing_is.Drawn d) (drawing_is.Refused s) e = cc
-drawing_one_to_one (drawing_is.Drawn d) (drawing_is.Drawn g) e = cc
+pub drawing_one_to_one : (x y : Result Portion Refusal) → outcome x ≡ outcome y → x ≡ y
+drawing_one_to_one (Err r) (Err s) e = ap Err (same_refusal r s e)
+drawing_one_to_one (Err r) (Ok d) e = cc
+drawing_one_to_one (Ok d) (Err s) e = cc
+drawing_one_to_one (Ok d) (Ok g) e = cc
 
-pub year_one_to_one : (x y : YearAnswer) → year_outcome x ≡ year_outcome y → x ≡ y
-year_one_to_one (year_is.Refused r) (year_is.Refused s) e = ap year_is.Refused (same_refusal r s e)
-year_one_to_one (year_is.Refused r) (year_is.Found n) e = cc
-year_one_to_one (year_is.Found m) (year_is.Refused s) e = cc
-year_one_to_one (year_is.Found m) (year_is.Found n) e = cc
+pub year_one_to_one : (x y : Result Year Refusal) → outcome x ≡ outcome y → x ≡ y
+year_one_to_one (Err r) (Err s) e = ap Err (same_refusal r s e)
+year_one_to_one (Err r) (Ok n) e = cc
+year_one_to_one (Ok m) (Err s) e = cc
+year_one_to_one (Ok m) (Ok n) e = cc
 
 -- ---- so each promise leaves one result
 pub monthly_rate_determined : Determined 0 monthly_rate_kinds.ps monthly_rate_kinds.r monthly_rate.Post

@@ -2,9 +2,6 @@
 use mathlib.Core.Path.{◌≡◌, sym, ap, ◌∙◌}
 use Rattle.numbers.proofs.Determined.{Determined}
 use Rattle.refusals.proofs.OneToOne.{same_refusal, number_one_to_one, count_one_to_one}
-use Rattle.mortgage.specs.declared.savings.SavingsAnswer.{SavingsAnswer}
-use Rattle.mortgage.specs.declared.savings.SavingsAnswer.TheVariants as savings_is
-use Rattle.mortgage.specs.Savings.{savings_outcome}
 use Rattle.mortgage.proofs.totals.total_interest.Kinds as total_interest_kinds
 use Rattle.mortgage.proofs.totals.total_interest.Reads as total_interest
 use Rattle.mortgage.proofs.totals.remaining_balance.Kinds as remaining_balance_kinds
@@ -15,6 +12,10 @@ use Rattle.mortgage.proofs.savings.prepayment_savings.Kinds as prepayment_saving
 use Rattle.mortgage.proofs.savings.prepayment_savings.Reads as prepayment_savings
 use Rattle.mortgage.proofs.breakeven.refinance_breakeven.Kinds as refinance_breakeven_kinds
 use Rattle.mortgage.proofs.breakeven.refinance_breakeven.Reads as refinance_breakeven
+use Rattle.std.specs.declared.result.Result.TheVariants.{Ok, Err}
+use Rattle.std.specs.declared.result.Result.{Result}
+use Rattle.refusals.specs.declared.Refusal.{Refusal}
+use Rattle.refusals.specs.Answers.{outcome}
 
 pub total_interest_determined : Determined 0 total_interest_kinds.ps total_interest_kinds.r total_interest.Post
 total_interest_determined κs a x y e e' p q = number_one_to_one x y (p ∙ sym q)
@@ -26,11 +27,11 @@ pub ltv_determined : Determined 0 ltv_kinds.ps ltv_kinds.r ltv.Post
 ltv_determined κs a x y e e' p q = number_one_to_one x y (p ∙ sym q)
 
 -- each answer about savings has its own outcome
-savings_one_to_one : (x y : SavingsAnswer) → savings_outcome x ≡ savings_outcome y → x ≡ y
-savings_one_to_one (savings_is.Refused r) (savings_is.Refused s) e = ap savings_is.Refused (same_refusal r s e)
-savings_one_to_one (savings_is.Refused r) (savings_is.Saved w) e = cc
-savings_one_to_one (savings_is.Saved v) (savings_is.Refused s) e = cc
-savings_one_to_one (savings_is.Saved v) (savings_is.Saved w) e = cc
+savings_one_to_one : (x y : Result Savings Refusal) → outcome x ≡ outcome y → x ≡ y
+savings_one_to_one (Err r) (Err s) e = ap Err (same_refusal r s e)
+savings_one_to_one (Err r) (Ok w) e = cc
+savings_one_to_one (Ok v) (Err s) e = cc
+savings_one_to_one (Ok v) (Ok w) e = cc
 
 pub prepayment_savings_determined : Determined 0 prepayment_savings_kinds.ps prepayment_savings_kinds.r prepayment_savings.Post
 prepayment_savings_determined κs a x y e e' p q = savings_one_to_one x y (p ∙ sym q)

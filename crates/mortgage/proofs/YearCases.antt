@@ -26,6 +26,7 @@ use Rattle.mortgage.specs.inner.RoomRows.{rows_from}
 use Rattle.mortgage.proofs.DrawCases.{Drawable, draw_clear, fits_ends}
 use Rattle.mortgage.proofs.DrawLaws.{written_is, filled_is, written_within}
 use Rattle.mortgage.proofs.EnteringRows.{entered_from_room}
+use Rattle.refusals.specs.Answers.{number}
 
 -- lines enough are a whole line for each started year, and so for each year that rows have begun
 pub enough_lines : (l : Loan) (years : ℕ) → fewer_than_started l years ≡ false → started_years l.term * year_width ≤ years
@@ -89,8 +90,8 @@ module _ (way : Way) where
 
     -- ---- the ways out of the code: the answer, the room and the lines
     -- refused before anything is drawn
-    pub refused_at_once : (k : ℕ) (r : Refusal) → (r.number ≡ k) × (r.place ≡ 0) → refused k 0 ≡ drawn_with_years way l room years
-        → (refused r.number r.place ≡ drawn_with_years way l room years) × ((room ≡ filled_with_years way l room years) × (years ≡ summed way l room years))
+    pub refused_at_once : (k : ℕ) (r : Refusal) → ((number r.cause) ≡ k) × (r.place ≡ 0) → refused k 0 ≡ drawn_with_years way l room years
+        → (refused (number r.cause) r.place ≡ drawn_with_years way l room years) × ((room ≡ filled_with_years way l room years) × (years ≡ summed way l room years))
     unfolding filled_with_years summed
     refused_at_once k r h e =
         (refused_as k r (drawn_with_years way l room years) h e, (ap (λ (o : Outcome Portion). filled_by way o l room) e, ap (λ (o : Outcome Portion). years_by way o l years) e))

@@ -4,8 +4,6 @@ use Rattle.refusals.specs.Outcome.{Outcome, refused, accepted, Line, line, judge
 use Rattle.refusals.specs.Table.{bad_term, no_room, past_end}
 use Rattle.mortgage.specs.declared.Loan.{Loan}
 use Rattle.mortgage.specs.declared.draws.Portion.{Portion}
-use Rattle.mortgage.specs.declared.draws.Drawing.{Drawing}
-use Rattle.mortgage.specs.declared.draws.Drawing.TheVariants as drawing_is
 use Rattle.mortgage.specs.Kinds.{Way, kind_lines}
 use Rattle.mortgage.specs.Row.{width}
 use Rattle.mortgage.specs.Month.{end_month, due}
@@ -37,6 +35,3 @@ module _ (way : Way) where
   unfoldable pub filled : Loan → List Float → List Float
   filled l room = filled_by (drawn l room) l room
 
-abbrev pub drawing_outcome : Drawing → Outcome Portion
-drawing_outcome (drawing_is.Refused r) = refused r.number r.place
-drawing_outcome (drawing_is.Drawn d) = accepted d

@@ -7,8 +7,6 @@ use Rattle.elementary.specs.WholePower.{whole_power}
 use Rattle.refusals.specs.Outcome.{Outcome, refused, accepted, judged}
 use Rattle.records.specs.declared.Terms.{Terms}
 use Rattle.mortgage.specs.declared.Loan.{Loan}
-use Rattle.mortgage.specs.declared.opening.Opening.{Opening}
-use Rattle.mortgage.specs.declared.opening.Opening.TheVariants as opening_is
 use Rattle.mortgage.specs.Terms.{terms_lines}
 
 -- "r = rate/12"
@@ -49,6 +47,3 @@ opened_with t pay = judged (terms_lines t) (loan_of t pay)
 unfoldable pub opened : Terms → Outcome Loan
 opened t = opened_with t (payment t)
 
-abbrev pub opening_outcome : Opening → Outcome Loan
-opening_outcome (opening_is.Refused r) = refused r.number r.place
-opening_outcome (opening_is.Open l) = accepted l

@@ -11,6 +11,7 @@ use Rattle.mortgage.specs.Kinds.{Way, kind_lines}
 use Rattle.mortgage.specs.Row.{places}
 use Rattle.mortgage.specs.Month.{row_on, next_on, end_month, due, row_of, next_of}
 use Rattle.steps.specs.Steps.{stepped, written}
+use Rattle.refusals.specs.Answers.{number}
 
 -- ---- on a course
 module _ (c : Course) where
@@ -41,6 +42,6 @@ module _ (way : Way) where
   next_row l = judged (state_lines l) (cond (eqb (due way l) 0) finished (next (row_of way l) (next_of way l)))
 
 abbrev pub next_outcome : Next → Outcome NextRow
-next_outcome (next_is.Refused r) = refused r.number r.place
+next_outcome (next_is.Refused r) = refused (number r.cause) r.place
 next_outcome next_is.Finished = accepted finished
 next_outcome (next_is.Due row loan) = accepted (next row loan)

@@ -8,8 +8,6 @@ use Rattle.refusals.specs.Outcome.{Outcome, refused, accepted, judged}
 use Rattle.records.specs.declared.Terms.{Terms}
 use Rattle.mortgage.specs.declared.savings.Paydown.{Paydown}
 use Rattle.mortgage.specs.declared.savings.Savings.{Savings}
-use Rattle.mortgage.specs.declared.savings.SavingsAnswer.{SavingsAnswer}
-use Rattle.mortgage.specs.declared.savings.SavingsAnswer.TheVariants as savings_is
 use Rattle.mortgage.specs.Terms.{terms_lines}
 use Rattle.mortgage.specs.Payment.{monthly_rate, payment}
 use Rattle.mortgage.specs.Totals.{interest_sum}
@@ -47,6 +45,3 @@ saved t extra = record { months = t.term - (paid_off t extra).months; interest =
 unfoldable pub prepayment_savings : Terms → Float → Outcome Savings
 prepayment_savings t extra = judged (terms_lines t) (saved t extra)
 
-abbrev pub savings_outcome : SavingsAnswer → Outcome Savings
-savings_outcome (savings_is.Refused r) = refused r.number r.place
-savings_outcome (savings_is.Saved s) = accepted s

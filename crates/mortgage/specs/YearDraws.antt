@@ -6,8 +6,6 @@ use Rattle.refusals.specs.Table.{bad_term, no_room, too_few_lines, past_end, no_
 use Rattle.mortgage.specs.declared.Loan.{Loan}
 use Rattle.mortgage.specs.declared.draws.Portion.{Portion}
 use Rattle.mortgage.specs.declared.years.Year.{Year}
-use Rattle.mortgage.specs.declared.years.YearAnswer.{YearAnswer}
-use Rattle.mortgage.specs.declared.years.YearAnswer.TheVariants as year_is
 use Rattle.mortgage.specs.Kinds.{Way, kind_lines, bad_end}
 use Rattle.mortgage.specs.Row.{width}
 use Rattle.mortgage.specs.Month.{end_month, due, row_of}
@@ -51,6 +49,3 @@ module _ (way : Way) where
   unfoldable pub looked_up : Loan → List Float → ℕ → Outcome Year
   looked_up l years year = judged (lookup_lines l (length years) year) (year_at years (year - 1))
 
-abbrev pub year_outcome : YearAnswer → Outcome Year
-year_outcome (year_is.Refused r) = refused r.number r.place
-year_outcome (year_is.Found y) = accepted y

@@ -6,16 +6,16 @@ ghost use Rattle.mortgage.specs.Kinds.{way_of, adjustable, later_years};
 ghost use Rattle.mortgage.specs.Month.{end_month};
 ghost use Rattle.steps.specs.Steps.{laid};
 ghost use Rattle.mortgage.specs.Rows.{after_on, rows_on, after, rows};
-ghost use Rattle.mortgage.specs.Draws.{draw_lines, portion, drawn, filled, drawing_outcome};
+ghost use Rattle.refusals.specs.Answers.{outcome};
+ghost use Rattle.mortgage.specs.Draws.{draw_lines, portion, drawn, filled};
 ghost use Rattle.mortgage.specs.Level.{drawn as level_drawn, filled as level_filled};
 ghost use Rattle.mortgage.specs.inner.Coming.{Listed};
 ghost use Rattle.refusals.specs.Outcome.{judged};
-ghost use Rattle.refusals.specs.Answers.{verdict_outcome};
 
 use crate::Loan;
 use crate::kinds::{Adjustment, Course, Kind};
 use records::Row;
-use refusals::Verdict;
+use refusals::{Cause, Refusal};
 
 // The number of places of a row.
 pub const WIDTH: usize = 5;
@@ -26,12 +26,6 @@ pub struct Portion {
     pub written: u32,
     pub owed: u32,
     pub loan: Loan,
-}
-
-#[derive(Clone, Copy)]
-pub enum Drawing {
-    Refused(refusals::Refusal),
-    Drawn(Portion),
 }
 
 // Rows that were written, and the loan after them.
@@ -232,19 +226,19 @@ fn lay_kind(kind: Kind, loan: Loan, index: &[f64], room: &mut [f64], count: u32)
 }
 
 // The lines of the table that a draw meets: past the end no row is due, so that 3 and 10 are never both there.
-fn judge_draw(kind: Kind, loan: Loan, index: &[f64], places: usize) -> Verdict
-    ensures { verdict_outcome result ≡ judged (draw_lines (way_of kind index.now) loan places) tt }
+fn judge_draw(kind: Kind, loan: Loan, index: &[f64], places: usize) -> Result<(), Refusal>
+    ensures { outcome result ≡ judged (draw_lines (way_of kind index.now) loan places) tt }
 {
     if refusals::bad_term(loan.term) {
-        return Verdict::Refused(refusals::refuse(2));
+        return Err(refusals::refuse(Cause::Term));
     }
     let end = crate::kinds::course_of(kind, loan.term).end;
     if end < loan.done {
-        return Verdict::Refused(refusals::refuse(10));
+        return Err(refusals::refuse(Cause::PastEnd));
     }
     if end > loan.done {
         if places < WIDTH {
-            return Verdict::Refused(refusals::refuse(3));
+            return Err(refusals::refuse(Cause::Room));
         }
     }
     crate::kinds::judge_kind(kind, loan.term, index)
@@ -268,19 +262,19 @@ fn lay_due(kind: Kind, loan: Loan, index: &[f64], room: &mut [f64]) -> Portion
 }
 
 // Writes as many rows as the room holds and the loan still owes, and hands the loan back; the list is read by an adjustable loan alone.
-pub fn draw_kind(kind: Kind, loan: Loan, index: &[f64], room: &mut [f64]) -> Drawing
-    ensures result_value { drawing_outcome result ≡ drawn (way_of kind index.now) loan room.old }
+pub fn draw_kind(kind: Kind, loan: Loan, index: &[f64], room: &mut [f64]) -> Result<Portion, Refusal>
+    ensures result_value { outcome result ≡ drawn (way_of kind index.now) loan room.old }
     ensures room_after { room.new ≡ filled (way_of kind index.now) loan room.old }
 {
     match judge_draw(kind, loan, index, room.len()) {
-        Verdict::Refused(refusal) => Drawing::Refused(refusal),
-        Verdict::Accepted => Drawing::Drawn(lay_due(kind, loan, index, room)),
+        Err(refusal) => Err(refusal),
+        Ok(()) => Ok(lay_due(kind, loan, index, room)),
     }
 }
 
 // The same of a level loan.
-pub fn draw(loan: Loan, room: &mut [f64]) -> Drawing
-    ensures result_value { drawing_outcome result ≡ level_drawn loan room.old }
+pub fn draw(loan: Loan, room: &mut [f64]) -> Result<Portion, Refusal>
+    ensures result_value { outcome result ≡ level_drawn loan room.old }
     ensures room_after { room.new ≡ level_filled loan room.old }
 {
     draw_kind(Kind::Level, loan, &[0.0; 1], room)

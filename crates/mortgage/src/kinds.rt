@@ -2,10 +2,11 @@
 ghost use Rattle.std.specs.Prelude.{◌≡◌, ◌||◌, List, [], ◌∷◌, map, ◌≤◌, length, take, Float};
 ghost use Rattle.refusals.specs.Outcome.{judged};
 ghost use Rattle.refusals.specs.Table.{bad_period, bad_balloon, bad_initial, bad_cap, too_few_entries, bad_entry};
-ghost use Rattle.refusals.specs.Answers.{verdict_outcome};
+ghost use Rattle.refusals.specs.Answers.{outcome};
 ghost use Rattle.mortgage.specs.Kinds.{way_of, course_of, later_years, bad_adjustment, bad_end, kind_lines};
 
-use refusals::Verdict;
+use refusals::{Cause, Refusal};
+
 
 // Of an adjustable loan: the rate of year 1, by how much a year's rate may differ from the last year's, and by how much any may be above the first.
 #[derive(Clone, Copy)]
@@ -93,55 +94,55 @@ fn bad_adjustment(adjustment: Adjustment) -> bool
 }
 
 // The first so many entries of the index list: the first that is not finite is refused at its index.
-fn judge_entries(index: &[f64], read: u32) -> Verdict
+fn judge_entries(index: &[f64], read: u32) -> Result<(), Refusal>
     requires { read ≤ length index.now }
-    ensures { verdict_outcome result ≡ judged ((record { number = 16; causes = map bad_entry (take read index.now) }) ∷ []) tt }
+    ensures { outcome result ≡ judged ((record { number = 16; causes = map bad_entry (take read index.now) }) ∷ []) tt }
 {
     let mut k: u32 = 0;
     while k < read {
         if refusals::bad_number(index[k as usize]) {
-            return Verdict::Refused(refusals::Refusal {
-                number: 16,
+            return Err(refusals::Refusal {
+                cause: Cause::Kind,
                 place: k,
             });
         }
         k += 1;
     }
-    Verdict::Accepted
+    Ok(())
 }
 
 // Line 16, as an adjustable loan meets it.
-fn judge_adjustment(adjustment: Adjustment, term: u32, index: &[f64]) -> Verdict
-    ensures { verdict_outcome result ≡ judged (bad_adjustment adjustment index.now term ∷ []) tt }
+fn judge_adjustment(adjustment: Adjustment, term: u32, index: &[f64]) -> Result<(), Refusal>
+    ensures { outcome result ≡ judged (bad_adjustment adjustment index.now term ∷ []) tt }
 {
     if bad_adjustment(adjustment) {
-        return Verdict::Refused(refusals::refuse(16));
+        return Err(refusals::refuse(Cause::Kind));
     }
     let read = later_years(term);
     if index.len() < read as usize {
-        return Verdict::Refused(refusals::refuse(16));
+        return Err(refusals::refuse(Cause::Kind));
     }
     judge_entries(index, read)
 }
 
 // Line 16, as any kind meets it.
-pub fn judge_kind(kind: Kind, term: u32, index: &[f64]) -> Verdict
-    ensures { verdict_outcome result ≡ judged (kind_lines (way_of kind index.now) term) tt }
+pub fn judge_kind(kind: Kind, term: u32, index: &[f64]) -> Result<(), Refusal>
+    ensures { outcome result ≡ judged (kind_lines (way_of kind index.now) term) tt }
 {
     match kind {
-        Kind::Level => Verdict::Accepted,
+        Kind::Level => Ok(()),
         Kind::InterestOnly(months) => {
             if bad_period(months, term) {
-                Verdict::Refused(refusals::refuse(16))
+                Err(refusals::refuse(Cause::Kind))
             } else {
-                Verdict::Accepted
+                Ok(())
             }
         }
         Kind::Balloon(month) => {
             if bad_balloon(month, term) {
-                Verdict::Refused(refusals::refuse(16))
+                Err(refusals::refuse(Cause::Kind))
             } else {
-                Verdict::Accepted
+                Ok(())
             }
         }
         Kind::Adjustable(adjustment) => judge_adjustment(adjustment, term, index),

@@ -1,19 +1,14 @@
 // Opening a loan: with the worked-out payment or with a given one.
 ghost use Rattle.std.specs.Prelude.{◌≡◌, Float, List, ◌-◌};
-ghost use Rattle.mortgage.specs.Payment.{payment, loan_of, opened_with, opened, opening_outcome};
+ghost use Rattle.refusals.specs.Answers.{outcome};
+ghost use Rattle.mortgage.specs.Payment.{payment, loan_of, opened_with, opened};
 ghost use Rattle.mortgage.specs.Kinds.{interest_only, balloon, way_of};
 ghost use Rattle.mortgage.specs.Openings.{starting_terms, paying_terms, kind_opened_with, kind_opened};
 
 use crate::Loan;
 use crate::kinds::Kind;
 use records::Terms;
-use refusals::Verdict;
-
-#[derive(Clone, Copy)]
-pub enum Opening {
-    Refused(refusals::Refusal),
-    Open(Loan),
-}
+use refusals::Refusal;
 
 // The loan in hand before its first month.
 pub(crate) fn loan_of(terms: Terms, payment: f64) -> Loan
@@ -28,17 +23,17 @@ pub(crate) fn loan_of(terms: Terms, payment: f64) -> Loan
     }
 }
 
-pub fn open_with_payment(terms: Terms, payment: f64) -> Opening
-    ensures { opening_outcome result ≡ opened_with terms payment }
+pub fn open_with_payment(terms: Terms, payment: f64) -> Result<Loan, Refusal>
+    ensures { outcome result ≡ opened_with terms payment }
 {
     match crate::terms::judge_terms(terms) {
-        Verdict::Refused(refusal) => Opening::Refused(refusal),
-        Verdict::Accepted => Opening::Open(loan_of(terms, payment)),
+        Err(refusal) => Err(refusal),
+        Ok(()) => Ok(loan_of(terms, payment)),
     }
 }
 
-pub fn open(terms: Terms) -> Opening
-    ensures { opening_outcome result ≡ opened terms }
+pub fn open(terms: Terms) -> Result<Loan, Refusal>
+    ensures { outcome result ≡ opened terms }
 {
     open_with_payment(terms, crate::payment::worked_out(terms))
 }
@@ -82,36 +77,36 @@ fn months_behind(term: u32, months: u32) -> u32
 }
 
 // Opens a loan of any kind with a payment.
-fn open_kind_with_payment(kind: Kind, terms: Terms, payment: f64, index: &[f64]) -> Opening
-    ensures { opening_outcome result ≡ kind_opened_with (way_of kind index.now) terms payment }
+fn open_kind_with_payment(kind: Kind, terms: Terms, payment: f64, index: &[f64]) -> Result<Loan, Refusal>
+    ensures { outcome result ≡ kind_opened_with (way_of kind index.now) terms payment }
 {
     match crate::terms::judge_terms(terms) {
-        Verdict::Refused(refusal) => Opening::Refused(refusal),
-        Verdict::Accepted => match crate::kinds::judge_kind(kind, terms.term, index) {
-            Verdict::Refused(refusal) => Opening::Refused(refusal),
-            Verdict::Accepted => Opening::Open(loan_of(starting_terms(kind, terms), payment)),
+        Err(refusal) => Err(refusal),
+        Ok(()) => match crate::kinds::judge_kind(kind, terms.term, index) {
+            Err(refusal) => Err(refusal),
+            Ok(()) => Ok(loan_of(starting_terms(kind, terms), payment)),
         },
     }
 }
 
 // Opens a loan of any kind with the worked-out payment; the list is read by an adjustable loan alone.
-pub fn open_kind(kind: Kind, terms: Terms, index: &[f64]) -> Opening
-    ensures { opening_outcome result ≡ kind_opened (way_of kind index.now) terms }
+pub fn open_kind(kind: Kind, terms: Terms, index: &[f64]) -> Result<Loan, Refusal>
+    ensures { outcome result ≡ kind_opened (way_of kind index.now) terms }
 {
     let payment = kind_worked_out(kind, terms);
     open_kind_with_payment(kind, terms, payment, index)
 }
 
 // Opens an interest-only loan with the payment of the months behind its first so many.
-pub fn open_interest_only_with_payment(terms: Terms, months: u32, payment: f64) -> Opening
-    ensures { opening_outcome result ≡ kind_opened_with (interest_only months) terms payment }
+pub fn open_interest_only_with_payment(terms: Terms, months: u32, payment: f64) -> Result<Loan, Refusal>
+    ensures { outcome result ≡ kind_opened_with (interest_only months) terms payment }
 {
     open_kind_with_payment(Kind::InterestOnly(months), terms, payment, &[0.0; 1])
 }
 
 // Opens a balloon loan with a given payment.
-pub fn open_balloon_with_payment(terms: Terms, month: u32, payment: f64) -> Opening
-    ensures { opening_outcome result ≡ kind_opened_with (balloon month) terms payment }
+pub fn open_balloon_with_payment(terms: Terms, month: u32, payment: f64) -> Result<Loan, Refusal>
+    ensures { outcome result ≡ kind_opened_with (balloon month) terms payment }
 {
     open_kind_with_payment(Kind::Balloon(month), terms, payment, &[0.0; 1])
 }

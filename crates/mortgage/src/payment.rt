@@ -1,10 +1,10 @@
 // The monthly payment.
 ghost use Rattle.std.specs.Prelude.{◌≡◌};
-ghost use Rattle.refusals.specs.Answers.{number_outcome};
+ghost use Rattle.refusals.specs.Answers.{outcome};
 ghost use Rattle.mortgage.specs.Payment.{monthly_rate, growth, level_payment, payment_by, payment, monthly_payment};
 
 use records::Terms;
-use refusals::{Number, Verdict};
+use refusals::Refusal;
 
 // A twelfth of the annual rate.
 pub fn monthly_rate(rate: f64) -> f64
@@ -45,11 +45,11 @@ pub(crate) fn worked_out(terms: Terms) -> f64
     payment_by(terms.principal, r, terms.term, growth(r, terms.term))
 }
 
-pub fn monthly_payment(terms: Terms) -> Number
-    ensures { number_outcome result ≡ monthly_payment terms }
+pub fn monthly_payment(terms: Terms) -> Result<f64, Refusal>
+    ensures { outcome result ≡ monthly_payment terms }
 {
     match crate::terms::judge_terms(terms) {
-        Verdict::Refused(refusal) => Number::Refused(refusal),
-        Verdict::Accepted => Number::Given(worked_out(terms)),
+        Err(refusal) => Err(refusal),
+        Ok(()) => Ok(worked_out(terms)),
     }
 }

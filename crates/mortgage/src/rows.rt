@@ -10,13 +10,13 @@ ghost use Rattle.mortgage.specs.Month.{row_on, next_on, end_month, due, row_of, 
 ghost use Rattle.mortgage.specs.inner.Coming.{Listed};
 ghost use Rattle.mortgage.specs.Rows.{state_lines, next_row, next_outcome};
 ghost use Rattle.refusals.specs.Outcome.{judged};
-ghost use Rattle.refusals.specs.Answers.{verdict_outcome};
+ghost use Rattle.refusals.specs.Answers.{outcome};
 ghost use Rattle.mortgage.specs.Level.{due as level_due, next_row as next_level_row};
 
 use crate::Loan;
 use crate::kinds::{Course, Kind};
 use records::Row;
-use refusals::Verdict;
+use refusals::{Cause, Refusal};
 
 // The next row of a loan in hand, and the loan after it; a finished loan has none.
 #[derive(Clone, Copy)]
@@ -124,14 +124,14 @@ pub(crate) fn ordinary_month(loan: Loan, course: Course, interest: f64, principa
 }
 
 // Lines 2, 10 and 16, asked of a state that may be made up.
-fn judge_state(kind: Kind, loan: Loan, index: &[f64]) -> Verdict
-    ensures { verdict_outcome result ≡ judged (state_lines (way_of kind index.now) loan) tt }
+fn judge_state(kind: Kind, loan: Loan, index: &[f64]) -> Result<(), Refusal>
+    ensures { outcome result ≡ judged (state_lines (way_of kind index.now) loan) tt }
 {
     if refusals::bad_term(loan.term) {
-        return Verdict::Refused(refusals::refuse(2));
+        return Err(refusals::refuse(Cause::Term));
     }
     if crate::kinds::course_of(kind, loan.term).end < loan.done {
-        return Verdict::Refused(refusals::refuse(10));
+        return Err(refusals::refuse(Cause::PastEnd));
     }
     crate::kinds::judge_kind(kind, loan.term, index)
 }
@@ -151,8 +151,8 @@ pub fn next_kind_row(kind: Kind, loan: Loan, index: &[f64]) -> Next
     ensures { next_outcome result ≡ next_row (way_of kind index.now) loan }
 {
     match judge_state(kind, loan, index) {
-        Verdict::Refused(refusal) => Next::Refused(refusal),
-        Verdict::Accepted => {
+        Err(refusal) => Next::Refused(refusal),
+        Ok(()) => {
             if kind_rows_due(kind, loan) == 0 {
                 return Next::Finished;
             }

@@ -1,10 +1,11 @@
 // What paying more each month saves.
 ghost use Rattle.std.specs.Prelude.{◌≡◌, ◌+◌, ◌*◌, ◌<◌, ◌-◌, ◌≤◌};
 ghost use Rattle.numbers.specs.Clamps.{plus_zero};
-ghost use Rattle.mortgage.specs.Savings.{paid_down, paid_down_for, saved, prepayment_savings, savings_outcome};
+ghost use Rattle.refusals.specs.Answers.{outcome};
+ghost use Rattle.mortgage.specs.Savings.{paid_down, paid_down_for, saved, prepayment_savings};
 
 use records::Terms;
-use refusals::Verdict;
+use refusals::Refusal;
 
 // A loan that is paid down with more than its payment: so far.
 #[derive(Clone, Copy)]
@@ -18,12 +19,6 @@ pub struct Paydown {
 pub struct Savings {
     pub months: u32,
     pub interest: f64,
-}
-
-#[derive(Clone, Copy)]
-pub enum SavingsAnswer {
-    Refused(refusals::Refusal),
-    Saved(Savings),
 }
 
 // One month of paying down: lowered to the balance first and raised to 0 after.
@@ -88,11 +83,11 @@ fn months_less(a: u32, b: u32) -> u32
 }
 
 // Months and interest saved by paying so much more each month.
-pub fn prepayment_savings(terms: Terms, extra: f64) -> SavingsAnswer
-    ensures { savings_outcome result ≡ prepayment_savings terms extra }
+pub fn prepayment_savings(terms: Terms, extra: f64) -> Result<Savings, Refusal>
+    ensures { outcome result ≡ prepayment_savings terms extra }
 {
     match crate::terms::judge_terms(terms) {
-        Verdict::Refused(refusal) => SavingsAnswer::Refused(refusal),
-        Verdict::Accepted => SavingsAnswer::Saved(saved_by(terms, extra)),
+        Err(refusal) => Err(refusal),
+        Ok(()) => Ok(saved_by(terms, extra)),
     }
 }

@@ -1,14 +1,14 @@
 // Total interest, the remaining balance and loan to value.
 ghost use Rattle.std.specs.Prelude.{◌≡◌, ◌+◌, ◌≤◌, min};
 ghost use Rattle.numbers.specs.Sums.{added_up};
-ghost use Rattle.refusals.specs.Answers.{number_outcome};
+ghost use Rattle.refusals.specs.Answers.{outcome};
 ghost use Rattle.mortgage.specs.Level.{end_month};
 ghost use Rattle.mortgage.specs.Totals.{interest_at, interest_sum, total_interest, balance_after, remaining_balance, loan_to_value};
 
 use crate::Loan;
 use crate::kinds::Kind;
 use records::Terms;
-use refusals::{Number, Verdict};
+use refusals::Refusal;
 
 // The interest of the next rows, added left to right from +0.
 fn interest_over(loan: Loan, count: u32) -> f64
@@ -38,12 +38,12 @@ pub(crate) fn interest_sum(terms: Terms) -> f64
     interest_over(crate::opening::loan_of(terms, payment), terms.term)
 }
 
-pub fn total_interest(terms: Terms) -> Number
-    ensures { number_outcome result ≡ total_interest terms }
+pub fn total_interest(terms: Terms) -> Result<f64, Refusal>
+    ensures { outcome result ≡ total_interest terms }
 {
     match crate::terms::judge_terms(terms) {
-        Verdict::Refused(refusal) => Number::Refused(refusal),
-        Verdict::Accepted => Number::Given(interest_sum(terms)),
+        Err(refusal) => Err(refusal),
+        Ok(()) => Ok(interest_sum(terms)),
     }
 }
 
@@ -74,30 +74,30 @@ fn smaller(a: u32, b: u32) -> u32
 }
 
 // The balance after so many months; past the term it is what the last row leaves.
-pub fn remaining_balance(terms: Terms, months: u32) -> Number
-    ensures { number_outcome result ≡ remaining_balance terms months }
+pub fn remaining_balance(terms: Terms, months: u32) -> Result<f64, Refusal>
+    ensures { outcome result ≡ remaining_balance terms months }
 {
     match crate::terms::judge_terms(terms) {
-        Verdict::Refused(refusal) => Number::Refused(refusal),
-        Verdict::Accepted => {
+        Err(refusal) => Err(refusal),
+        Ok(()) => {
             let payment = crate::payment::worked_out(terms);
             let loan = crate::opening::loan_of(terms, payment);
-            Number::Given(balance_after(loan, smaller(months, terms.term)))
+            Ok(balance_after(loan, smaller(months, terms.term)))
         }
     }
 }
 
 // Loan to value; a value of zero gives +infinity.
-pub fn ltv(terms: Terms, value: f64) -> Number
-    ensures { number_outcome result ≡ loan_to_value terms value }
+pub fn ltv(terms: Terms, value: f64) -> Result<f64, Refusal>
+    ensures { outcome result ≡ loan_to_value terms value }
 {
     match crate::terms::judge_terms(terms) {
-        Verdict::Refused(refusal) => Number::Refused(refusal),
-        Verdict::Accepted => {
+        Err(refusal) => Err(refusal),
+        Ok(()) => {
             if value == 0.0 {
-                return Number::Given(numbers::sizes::infinity());
+                return Ok(numbers::sizes::infinity());
             }
-            Number::Given(terms.principal / value)
+            Ok(terms.principal / value)
         }
     }
 }

@@ -4,15 +4,16 @@ ghost use Rattle.std.proofs.lemmas.List.Edits.{sets};
 ghost use Rattle.mortgage.specs.Kinds.{way_of};
 ghost use Rattle.refusals.specs.Table.{too_few_lines};
 ghost use Rattle.mortgage.specs.Row.{width};
-ghost use Rattle.mortgage.specs.Draws.{drawing_outcome};
+ghost use Rattle.refusals.specs.Answers.{outcome};
 ghost use Rattle.mortgage.specs.Years.{started_years, year_width, year_places, year_from, unbegun, goes_on_from, entered_up_to};
-ghost use Rattle.mortgage.specs.YearDraws.{drawn_with_years, filled_with_years, summed, looked_up, year_outcome};
+ghost use Rattle.mortgage.specs.YearDraws.{drawn_with_years, filled_with_years, summed, looked_up};
 ghost use Rattle.mortgage.specs.Level.{drawn_with_years as level_drawn_with_years, filled_with_years as level_filled_with_years, summed as level_summed, looked_up as level_looked_up};
 ghost use Rattle.mortgage.specs.inner.RoomRows.{rows_from, with_rows};
 
 use crate::Loan;
-use crate::draws::{Drawing, WIDTH, fewer};
+use crate::draws::{WIDTH, fewer};
 use crate::kinds::Kind;
+use refusals::{Cause, Refusal};
 
 // The number of places of a year's line.
 pub const YEAR_WIDTH: usize = 4;
@@ -31,12 +32,6 @@ pub struct Year {
     pub interest: f64,
     pub principal: f64,
     pub balance: f64,
-}
-
-#[derive(Clone, Copy)]
-pub enum YearAnswer {
-    Refused(refusals::Refusal),
-    Found(Year),
 }
 
 // How many years so many months have begun.
@@ -164,29 +159,29 @@ pub fn draw_kind_with_years(
     index: &[f64],
     room: &mut [f64],
     years: &mut [f64],
-) -> Drawing
-    ensures result_value { drawing_outcome result ≡ drawn_with_years (way_of kind index.now) loan room.old years.old }
+) -> Result<Portion, Refusal>
+    ensures result_value { outcome result ≡ drawn_with_years (way_of kind index.now) loan room.old years.old }
     ensures room_after { room.new ≡ filled_with_years (way_of kind index.now) loan room.old years.old }
     ensures years_after { years.new ≡ summed (way_of kind index.now) loan room.old years.old }
 {
     if refusals::bad_term(loan.term) {
-        return Drawing::Refused(refusals::refuse(2));
+        return Err(refusals::refuse(Cause::Term));
     }
     if too_few(loan.term, years.len()) {
-        return Drawing::Refused(refusals::refuse(3));
+        return Err(refusals::refuse(Cause::Room));
     }
     match crate::draws::draw_kind(kind, loan, index, room) {
-        Drawing::Refused(refusal) => Drawing::Refused(refusal),
-        Drawing::Drawn(portion) => {
+        Err(refusal) => Err(refusal),
+        Ok(portion) => {
             enter_rows(room, portion.written, loan.done, years);
-            Drawing::Drawn(portion)
+            Ok(portion)
         }
     }
 }
 
 // The same of a level loan.
-pub fn draw_with_years(loan: Loan, room: &mut [f64], years: &mut [f64]) -> Drawing
-    ensures result_value { drawing_outcome result ≡ level_drawn_with_years loan room.old years.old }
+pub fn draw_with_years(loan: Loan, room: &mut [f64], years: &mut [f64]) -> Result<Portion, Refusal>
+    ensures result_value { outcome result ≡ level_drawn_with_years loan room.old years.old }
     ensures room_after { room.new ≡ level_filled_with_years loan room.old years.old }
     ensures years_after { years.new ≡ level_summed loan room.old years.old }
 {
@@ -194,34 +189,34 @@ pub fn draw_with_years(loan: Loan, room: &mut [f64], years: &mut [f64]) -> Drawi
 }
 
 // The line of a year, counted from 1, once a row of that year is drawn; of a kind the month that ends the loan is read alone.
-pub fn look_up_kind_year(kind: Kind, loan: Loan, years: &[f64], year: u32) -> YearAnswer
-    ensures { (index : List Float) → year_outcome result ≡ looked_up (way_of kind index) loan years.now year }
+pub fn look_up_kind_year(kind: Kind, loan: Loan, years: &[f64], year: u32) -> Result<Year, Refusal>
+    ensures { (index : List Float) → outcome result ≡ looked_up (way_of kind index) loan years.now year }
 {
     if refusals::bad_term(loan.term) {
-        return YearAnswer::Refused(refusals::refuse(2));
+        return Err(refusals::refuse(Cause::Term));
     }
     if too_few(loan.term, years.len()) {
-        return YearAnswer::Refused(refusals::refuse(3));
+        return Err(refusals::refuse(Cause::Room));
     }
     if crate::kinds::course_of(kind, loan.term).end < loan.done {
-        return YearAnswer::Refused(refusals::refuse(10));
+        return Err(refusals::refuse(Cause::PastEnd));
     }
     if year == 0 {
-        return YearAnswer::Refused(refusals::refuse(14));
+        return Err(refusals::refuse(Cause::Year));
     }
     if started_years(loan.done) < year {
-        return YearAnswer::Refused(refusals::refuse(14));
+        return Err(refusals::refuse(Cause::Year));
     }
     if crate::kinds::bad_end(kind, loan.term) {
-        return YearAnswer::Refused(refusals::refuse(16));
+        return Err(refusals::refuse(Cause::Kind));
     }
     let place = (year - 1) as usize * YEAR_WIDTH;
-    YearAnswer::Found(line_from(years, place))
+    Ok(line_from(years, place))
 }
 
 // The same of a level loan.
-pub fn look_up_year(loan: Loan, years: &[f64], year: u32) -> YearAnswer
-    ensures { year_outcome result ≡ level_looked_up loan years.now year }
+pub fn look_up_year(loan: Loan, years: &[f64], year: u32) -> Result<Year, Refusal>
+    ensures { outcome result ≡ level_looked_up loan years.now year }
 {
     look_up_kind_year(Kind::Level, loan, years, year)
 }

@@ -7,11 +7,8 @@ use native.Mathlib.Numerals.{add-one}
 use native.Mathlib.Omega.{arith}
 use lib.Ieee.{Float}
 use Rattle.refusals.specs.Outcome.{refused, accepted, first_or, judged}
-use Rattle.refusals.specs.Answers.{number_outcome}
 use Rattle.refusals.specs.Table.{bad_amount, bad_term}
 use Rattle.refusals.specs.declared.Refusal.{Refusal}
-use Rattle.refusals.specs.declared.Number.{Number}
-use Rattle.refusals.specs.declared.Number.TheVariants as number_is
 use Rattle.refusals.proofs.Verdicts.{accepted_value}
 use Rattle.records.specs.declared.Terms.{Terms}
 use Rattle.mortgage.specs.Payment.{payment, monthly_payment}
@@ -22,18 +19,21 @@ use Rattle.pool.specs.inner.Walk.{walked, loan_added, loans_added}
 use Rattle.records.specs.EndToEnd.{of_each}
 use Rattle.records.proofs.EndToEnd.{from, from_start, map_each}
 use Rattle.pool.proofs.Each.{none_at}
+use Rattle.std.specs.declared.result.Result.TheVariants.{Ok, Err}
+use Rattle.std.specs.declared.result.Result.{Result}
+use Rattle.refusals.specs.Answers.{number, outcome}
 
 -- ---- the payment of a loan that is not refused
-module _ (t : Terms) (x : Number) (e : number_outcome x ≡ monthly_payment t) where
-  pub paid : (pay : Float) → x ≡ number_is.Given pay → pay ≡ payment t
+module _ (t : Terms) (x : Result Float Refusal) (e : outcome x ≡ monthly_payment t) where
+  pub paid : (pay : Float) → x ≡ Ok pay → pay ≡ payment t
   unfolding monthly_payment
-  paid pay h = accepted_value (terms_lines t) (payment t) pay (sym e ∙ ap number_outcome h)
+  paid pay h = accepted_value (terms_lines t) (payment t) pay (sym e ∙ ap outcome h)
 
-  pub not_refused : (r : Refusal) → x ≡ number_is.Refused r → bad_amount t.principal ≡ false → bad_term t.term ≡ false → ⊥
+  pub not_refused : (r : Refusal) → x ≡ Err r → bad_amount t.principal ≡ false → bad_term t.term ≡ false → ⊥
   unfolding monthly_payment judged first_or
   not_refused r h a b =
       let given : monthly_payment t ≡ accepted (payment t) = rw (a, b) in
-      let same : refused r.number r.place ≡ accepted (payment t) = sym (ap number_outcome h) ∙ e ∙ given in
+      let same : refused (number r.cause) r.place ≡ accepted (payment t) = sym (ap outcome h) ∙ e ∙ given in
       let z : ◌≡◌ {A = ℕ} 0 1 = cc in
       omega arith
 

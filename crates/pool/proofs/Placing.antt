@@ -5,13 +5,13 @@ use mathlib.Core.List.{List, [], ◌∷◌}
 use Prim.Native.Nat.{ℕ, suc}
 use native.Mathlib.Omega.{arith}
 use Rattle.refusals.specs.declared.Refusal.{Refusal}
-use Rattle.refusals.specs.declared.Verdict.{Verdict}
-use Rattle.refusals.specs.declared.Verdict.TheVariants as verdict_is
-use Rattle.refusals.specs.Answers.{verdict_outcome}
 use Rattle.refusals.specs.Outcome.{Outcome, refused, accepted, Line, first_or, judged}
 use Rattle.refusals.proofs.Verdicts.{verdict, refused_alike, accepted_alike}
 use Rattle.pool.specs.Loans.{any_of}
 use Rattle.refusals.specs.Places.{placed}
+use Rattle.std.specs.declared.result.Result.TheVariants.{Ok, Err}
+use Rattle.std.specs.declared.result.Result.{Result}
+use Rattle.refusals.specs.Answers.{number, outcome}
 
 -- what line k says of a list of causes, from place p on
 abbrev pub by_line : ℕ → ℕ → List Bool → Outcome Unit
@@ -45,24 +45,24 @@ module _ (k : ℕ) where
   stopped p (false ∷ bs) rest n q e = stopped (suc p) bs rest n q e
 
 -- what is accepted so placed is accepted by the lines
-pub accepts : (ls : List Line) (x : Verdict) → verdict_outcome x ≡ placed (verdict ls) → x ≡ verdict_is.Accepted → accepted tt ≡ verdict ls
+pub accepts : (ls : List Line) (x : Result Unit Refusal) → outcome x ≡ placed (verdict ls) → x ≡ (Ok tt) → accepted tt ≡ verdict ls
 unfolding placed
-accepts ls x e h = go (verdict ls) (sym (ap verdict_outcome h) ∙ e)
+accepts ls x e h = go (verdict ls) (sym (ap outcome h) ∙ e)
   where
     go : (o : Outcome Unit) → accepted tt ≡ placed o → accepted tt ≡ o
     go (refused k p) g = let z : ◌≡◌ {A = ℕ} 0 1 = cc in absurd (omega arith)
     go (accepted u) g = refl
 
 -- ---- all lines, as a `match` on a verdict has it, in either arm
-module _ {Value : Type 0} (ls : List Line) (v : Value) (x : Verdict) (e : verdict_outcome x ≡ placed (verdict ls)) where
-  pub refused_by : (r : Refusal) → x ≡ verdict_is.Refused r → refused r.number r.place ≡ placed (judged ls v)
+module _ {Value : Type 0} (ls : List Line) (v : Value) (x : Result Unit Refusal) (e : outcome x ≡ placed (verdict ls)) where
+  pub refused_by : (r : Refusal) → x ≡ Err r → refused (number r.cause) r.place ≡ placed (judged ls v)
   unfolding placed
-  refused_by r h = go (verdict ls) refl (sym (ap verdict_outcome h) ∙ e)
+  refused_by r h = go (verdict ls) refl (sym (ap outcome h) ∙ e)
     where
-      go : (o : Outcome Unit) → o ≡ verdict ls → refused r.number r.place ≡ placed o → refused r.number r.place ≡ placed (judged ls v)
+      go : (o : Outcome Unit) → o ≡ verdict ls → refused (number r.cause) r.place ≡ placed o → refused (number r.cause) r.place ≡ placed (judged ls v)
       go (refused k p) d g = rw (sym (refused_alike ls v k p d)) cc
       go (accepted u) d g = let z : ◌≡◌ {A = ℕ} 0 1 = cc in absurd (omega arith)
 
-  pub accepted_by : x ≡ verdict_is.Accepted → accepted v ≡ placed (judged ls v)
+  pub accepted_by : x ≡ (Ok tt) → accepted v ≡ placed (judged ls v)
   unfolding placed
   accepted_by h = rw (sym (accepted_alike ls v (accepts ls x e h)))

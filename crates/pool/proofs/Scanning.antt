@@ -12,6 +12,7 @@ use Rattle.refusals.specs.Places.{placed}
 use Rattle.pool.proofs.Placing.{by_line}
 use Rattle.records.specs.EndToEnd.{of_each}
 use Rattle.records.proofs.EndToEnd.{from, from_start, map_each}
+use Rattle.refusals.specs.Answers.{number}
 
 -- line k over the causes from i on, of n
 abbrev Rest : ℕ → (ℕ → Bool) → ℕ → ℕ → Outcome Unit
@@ -28,7 +29,7 @@ module _ (k : ℕ) (cause : ℕ → Bool) (n : ℕ) (o : Outcome Unit) where
       let e : n - i ≡ suc (n - suc i) = omega arith in
       rw (e, add-one i)
 
-  pub found : (i : ℕ) → Decides i → i < n → cause i ≡ true → (r : Refusal) → (r.number ≡ k) × (r.place ≡ min i largest) → refused r.number r.place ≡ placed o
+  pub found : (i : ℕ) → Decides i → i < n → cause i ≡ true → (r : Refusal) → ((number r.cause) ≡ k) × (r.place ≡ min i largest) → refused (number r.cause) r.place ≡ placed o
   unfolding placed
   found i d h t r e = rw (d, turn i h, t, e.0, e.1)
 

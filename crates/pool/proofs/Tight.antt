@@ -4,9 +4,6 @@ use mathlib.Core.List.{List}
 use lib.Ieee.{Float}
 use Rattle.numbers.proofs.Determined.{Determined, Settled}
 use Rattle.refusals.proofs.OneToOne.{same_refusal, number_one_to_one, count_one_to_one, verdict_one_to_one}
-use Rattle.pool.specs.declared.totals.TotalsAnswer.{TotalsAnswer}
-use Rattle.pool.specs.declared.totals.TotalsAnswer.TheVariants as totals_is
-use Rattle.pool.specs.Totals.{totals_outcome}
 use Rattle.pool.proofs.loans.judge_pool.Kinds as judge_pool_kinds
 use Rattle.pool.proofs.loans.judge_pool.Reads as judge_pool
 use Rattle.pool.proofs.speed.monthly_smm.Kinds as monthly_smm_kinds
@@ -21,13 +18,17 @@ use Rattle.pool.proofs.price.duration.Kinds as duration_kinds
 use Rattle.pool.proofs.price.duration.Reads as duration
 use Rattle.pool.proofs.price.convexity.Kinds as convexity_kinds
 use Rattle.pool.proofs.price.convexity.Reads as convexity
+use Rattle.std.specs.declared.result.Result.TheVariants.{Ok, Err}
+use Rattle.std.specs.declared.result.Result.{Result}
+use Rattle.refusals.specs.declared.Refusal.{Refusal}
+use Rattle.refusals.specs.Answers.{outcome}
 
 -- ---- each answer has its own outcome
-pub totals_one_to_one : (x y : TotalsAnswer) → totals_outcome x ≡ totals_outcome y → x ≡ y
-totals_one_to_one (totals_is.Refused r) (totals_is.Refused s) e = ap totals_is.Refused (same_refusal r s e)
-totals_one_to_one (totals_is.Refused r) (totals_is.Given t) e = cc
-totals_one_to_one (totals_is.Given t) (totals_is.Refused s) e = cc
-totals_one_to_one (totals_is.Given t) (totals_is.Given u) e = cc
+pub totals_one_to_one : (x y : Result Totals Refusal) → outcome x ≡ outcome y → x ≡ y
+totals_one_to_one (Err r) (Err s) e = ap Err (same_refusal r s e)
+totals_one_to_one (Err r) (Ok t) e = cc
+totals_one_to_one (Ok t) (Err s) e = cc
+totals_one_to_one (Ok t) (Ok u) e = cc
 
 -- ---- so each promise leaves one result
 pub monthly_smm_determined : Determined 1 monthly_smm_kinds.ps monthly_smm_kinds.r monthly_smm.Post

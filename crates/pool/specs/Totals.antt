@@ -6,8 +6,6 @@ use Rattle.numbers.specs.Clamps.{plus_zero}
 use Rattle.refusals.specs.Outcome.{Outcome, refused, accepted, judged}
 use Rattle.records.specs.declared.Terms.{Terms}
 use Rattle.pool.specs.declared.totals.Totals.{Totals}
-use Rattle.pool.specs.declared.totals.TotalsAnswer.{TotalsAnswer}
-use Rattle.pool.specs.declared.totals.TotalsAnswer.TheVariants as totals_is
 use Rattle.pool.specs.Loans.{loans_in, pool_lines}
 
 -- a sum over the loans, left to right
@@ -35,6 +33,3 @@ totals_of loans = record {
 unfoldable pub pool_totals : List ℕ → Outcome Totals
 pool_totals bytes = judged (pool_lines bytes false) (totals_of (loans_in bytes))
 
-abbrev pub totals_outcome : TotalsAnswer → Outcome Totals
-totals_outcome (totals_is.Refused r) = refused r.number r.place
-totals_outcome (totals_is.Given t) = accepted t

@@ -1,6 +1,6 @@
 // A pool's months into lent room: scheduled principal, interest and prepayment of each.
 ghost use Rattle.std.specs.Prelude.{◌≡◌, false, ◌++◌, map, ℕ, suc, ◌*◌, ◌≤◌, length, drop};
-ghost use Rattle.refusals.specs.Answers.{count_outcome};
+ghost use Rattle.refusals.specs.Answers.{outcome};
 ghost use Rattle.refusals.specs.Table.{bad_amount, bad_term};
 ghost use Rattle.steps.specs.Steps.{singles, laid};
 ghost use Rattle.pool.specs.Speed.{smm};
@@ -13,7 +13,7 @@ use crate::loans::{judge_pool, loan_at, loan_count, longest_term};
 use crate::months::{MOST_MONTHS, clear_months};
 use crate::speed::{Speed, monthly_smm};
 use crate::walk::add_loan;
-use refusals::{Count, Verdict};
+use refusals::Refusal;
 
 // The speed of each month.
 fn set_speeds(speed: Speed, history: &[f64], speeds: &mut [f64], months: u32)
@@ -61,16 +61,16 @@ pub(crate) fn fill_months(
 }
 
 // Writes each month of the longest term, and gives how many there are.
-pub fn cash_flows(bytes: &[u8], speed: Speed, history: &[f64], room: &mut [f64]) -> Count
-    ensures result_value { count_outcome result ≡ placed (cash_flows bytes.now (length room.old)) }
+pub fn cash_flows(bytes: &[u8], speed: Speed, history: &[f64], room: &mut [f64]) -> Result<u32, Refusal>
+    ensures result_value { outcome result ≡ placed (cash_flows bytes.now (length room.old)) }
     ensures room_after { room.new ≡ flows_into bytes.now speed history.now room.old }
 {
     match judge_pool(bytes, true, room.len()) {
-        Verdict::Refused(refusal) => Count::Refused(refusal),
-        Verdict::Accepted => {
+        Err(refusal) => Err(refusal),
+        Ok(()) => {
             let months = longest_term(bytes);
             fill_months(bytes, speed, history, months, room);
-            Count::Given(months)
+            Ok(months)
         }
     }
 }

@@ -1,7 +1,7 @@
 // A pool's loans, lent as kind 1 records end to end, and the lines of the table that every function over a pool meets.
 ghost use Rattle.std.specs.Prelude.{◌≡◌, false, ◌&&◌, [], ◌∷◌, map, ◌<◌, max};
 ghost use Rattle.refusals.specs.Outcome.{accepted, line, first_or, judged};
-ghost use Rattle.refusals.specs.Answers.{verdict_outcome};
+ghost use Rattle.refusals.specs.Answers.{outcome};
 ghost use Rattle.refusals.specs.Table.{bad_amount, bad_term, too_many_loans};
 ghost use Rattle.records.specs.EndToEnd.{of_each};
 ghost use Rattle.pool.specs.Loans.{loan_count, loan_at, other_kind, bad_records, any_of, longest, loans_in, pool_lines};
@@ -10,8 +10,8 @@ ghost use Rattle.pool.specs.Flows.{too_little};
 
 use crate::months::WIDTH;
 use records::terms_record::{TERMS_KIND, TERMS_SIZE};
-use records::{Terms, TermsRead};
-use refusals::{Verdict, refuse_at};
+use records::Terms;
+use refusals::{Cause, Refusal, refuse_at};
 
 // How many records the bytes hold.
 pub(crate) fn loan_count(bytes: &[u8]) -> usize
@@ -21,26 +21,26 @@ pub(crate) fn loan_count(bytes: &[u8]) -> usize
 }
 
 // Line 11, at the first record of another kind.
-fn judge_kinds(bytes: &[u8]) -> Verdict
-    ensures { verdict_outcome result ≡ placed (first_or 11 0 (of_each (other_kind bytes.now) (loan_count bytes.now)) (accepted tt)) }
+fn judge_kinds(bytes: &[u8]) -> Result<(), Refusal>
+    ensures { outcome result ≡ placed (first_or 11 0 (of_each (other_kind bytes.now) (loan_count bytes.now)) (accepted tt)) }
 {
     let count = loan_count(bytes);
     let mut i: usize = 0;
     while i < count {
         if bytes[i * TERMS_SIZE] != TERMS_KIND {
-            return Verdict::Refused(refuse_at(11, i));
+            return Err(refuse_at(Cause::Record, i));
         }
         i += 1;
     }
-    Verdict::Accepted
+    Ok(())
 }
 
 // Line 11.
-fn judge_records(bytes: &[u8]) -> Verdict
-    ensures { verdict_outcome result ≡ placed (first_or 11 0 (bad_records bytes.now) (accepted tt)) }
+fn judge_records(bytes: &[u8]) -> Result<(), Refusal>
+    ensures { outcome result ≡ placed (first_or 11 0 (bad_records bytes.now) (accepted tt)) }
 {
     if bytes.len() % TERMS_SIZE != 0 {
-        return Verdict::Refused(refuse_at(11, 0));
+        return Err(refuse_at(Cause::Record, 0));
     }
     judge_kinds(bytes)
 }
@@ -53,9 +53,9 @@ pub(crate) fn loan_at(bytes: &[u8], i: usize) -> Terms
     let at = i * TERMS_SIZE;
     let end = at + TERMS_SIZE;
     match records::terms_record::read_terms(&bytes[at..end]) {
-        TermsRead::Given(terms) => terms,
+        Ok(terms) => terms,
         // No record that is left is refused.
-        TermsRead::Refused(_) => Terms {
+        Err(_) => Terms {
             principal: 0.0,
             rate: 0.0,
             term: 0,
@@ -64,35 +64,35 @@ pub(crate) fn loan_at(bytes: &[u8], i: usize) -> Terms
 }
 
 // Line 1, at the first loan with a bad principal.
-fn judge_principals(bytes: &[u8]) -> Verdict
+fn judge_principals(bytes: &[u8]) -> Result<(), Refusal>
     requires { any_of (bad_records bytes.now) ≡ false }
-    ensures { verdict_outcome result ≡ placed (first_or 1 0 (map (λ t. bad_amount t.principal) (loans_in bytes.now)) (accepted tt)) }
+    ensures { outcome result ≡ placed (first_or 1 0 (map (λ t. bad_amount t.principal) (loans_in bytes.now)) (accepted tt)) }
 {
     let count = loan_count(bytes);
     let mut i: usize = 0;
     while i < count {
         if refusals::bad_amount(loan_at(bytes, i).principal) {
-            return Verdict::Refused(refuse_at(1, i));
+            return Err(refuse_at(Cause::Amount, i));
         }
         i += 1;
     }
-    Verdict::Accepted
+    Ok(())
 }
 
 // Line 2, at the first loan with a bad term.
-fn judge_terms(bytes: &[u8]) -> Verdict
+fn judge_terms(bytes: &[u8]) -> Result<(), Refusal>
     requires { any_of (bad_records bytes.now) ≡ false }
-    ensures { verdict_outcome result ≡ placed (first_or 2 0 (map (λ t. bad_term t.term) (loans_in bytes.now)) (accepted tt)) }
+    ensures { outcome result ≡ placed (first_or 2 0 (map (λ t. bad_term t.term) (loans_in bytes.now)) (accepted tt)) }
 {
     let count = loan_count(bytes);
     let mut i: usize = 0;
     while i < count {
         if refusals::bad_term(loan_at(bytes, i).term) {
-            return Verdict::Refused(refuse_at(2, i));
+            return Err(refuse_at(Cause::Term, i));
         }
         i += 1;
     }
-    Verdict::Accepted
+    Ok(())
 }
 
 fn larger(a: u32, b: u32) -> u32
@@ -128,39 +128,39 @@ fn lacks_room(bytes: &[u8], asked: bool, room: usize) -> bool
 }
 
 // Lines 3 and 7.
-fn judge_sizes(bytes: &[u8], asked: bool, room: usize) -> Verdict
+fn judge_sizes(bytes: &[u8], asked: bool, room: usize) -> Result<(), Refusal>
     requires { any_of (bad_records bytes.now) ≡ false }
-    ensures { verdict_outcome result ≡ placed (judged (line 3 (asked && too_little bytes.now room) ∷ line 7 (too_many_loans (loan_count bytes.now)) ∷ []) tt) }
+    ensures { outcome result ≡ placed (judged (line 3 (asked && too_little bytes.now room) ∷ line 7 (too_many_loans (loan_count bytes.now)) ∷ []) tt) }
 {
     if lacks_room(bytes, asked, room) {
-        return Verdict::Refused(refusals::refuse(3));
+        return Err(refusals::refuse(Cause::Room));
     }
     if loan_count(bytes) > 64 {
-        return Verdict::Refused(refusals::refuse(7));
+        return Err(refusals::refuse(Cause::Time));
     }
-    Verdict::Accepted
+    Ok(())
 }
 
 // Lines 1 and 2, and then 3 and 7, of bytes that hold loans alone.
-fn judge_loans(bytes: &[u8], asked: bool, room: usize) -> Verdict
+fn judge_loans(bytes: &[u8], asked: bool, room: usize) -> Result<(), Refusal>
     requires { any_of (bad_records bytes.now) ≡ false }
-    ensures { verdict_outcome result ≡ placed (judged (pool_lines bytes.now (asked && too_little bytes.now room)) tt) }
+    ensures { outcome result ≡ placed (judged (pool_lines bytes.now (asked && too_little bytes.now room)) tt) }
 {
     match judge_principals(bytes) {
-        Verdict::Refused(refusal) => Verdict::Refused(refusal),
-        Verdict::Accepted => match judge_terms(bytes) {
-            Verdict::Refused(refusal) => Verdict::Refused(refusal),
-            Verdict::Accepted => judge_sizes(bytes, asked, room),
+        Err(refusal) => Err(refusal),
+        Ok(()) => match judge_terms(bytes) {
+            Err(refusal) => Err(refusal),
+            Ok(()) => judge_sizes(bytes, asked, room),
         },
     }
 }
 
 // Every line that a pool meets; 3 only where room is asked for.
-pub fn judge_pool(bytes: &[u8], asked: bool, room: usize) -> Verdict
-    ensures { verdict_outcome result ≡ placed (judged (pool_lines bytes.now (asked && too_little bytes.now room)) tt) }
+pub fn judge_pool(bytes: &[u8], asked: bool, room: usize) -> Result<(), Refusal>
+    ensures { outcome result ≡ placed (judged (pool_lines bytes.now (asked && too_little bytes.now room)) tt) }
 {
     match judge_records(bytes) {
-        Verdict::Refused(refusal) => Verdict::Refused(refusal),
-        Verdict::Accepted => judge_loans(bytes, asked, room),
+        Err(refusal) => Err(refusal),
+        Ok(()) => judge_loans(bytes, asked, room),
     }
 }

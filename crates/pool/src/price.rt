@@ -3,7 +3,7 @@ ghost use Rattle.std.specs.Prelude.{◌≡◌, false, map, ◌*◌, ◌≤◌, l
 ghost use Rattle.std.specs.Float.{binary64};
 ghost use Rattle.std.specs.Float.Ieee.{add, sub};
 ghost use Rattle.numbers.specs.Sums.{added_up};
-ghost use Rattle.refusals.specs.Answers.{number_outcome};
+ghost use Rattle.refusals.specs.Answers.{outcome};
 ghost use Rattle.refusals.specs.Table.{bad_amount, bad_term};
 ghost use Rattle.mortgage.specs.Payment.{monthly_rate};
 ghost use Rattle.pool.specs.Loans.{bad_records, any_of, longest, loans_in};
@@ -18,7 +18,7 @@ use crate::months::{MOST_MONTHS, WIDTH};
 use crate::speed::Speed;
 use elementary::whole_power::whole_power;
 use mortgage::payment::monthly_rate;
-use refusals::{Number, Verdict};
+use refusals::Refusal;
 
 // Prices at the rate and a bump above and below it.
 #[derive(Clone, Copy)]
@@ -101,29 +101,29 @@ pub(crate) fn convexity_for(
     (prices.up + prices.down - 2.0 * prices.at) / (bump * bump * prices.at)
 }
 
-pub fn price(bytes: &[u8], speed: Speed, history: &[f64], rate: f64) -> Number
-    ensures { number_outcome result ≡ placed (pool_price bytes.now speed history.now rate) }
+pub fn price(bytes: &[u8], speed: Speed, history: &[f64], rate: f64) -> Result<f64, Refusal>
+    ensures { outcome result ≡ placed (pool_price bytes.now speed history.now rate) }
 {
     match judge_pool(bytes, false, 0) {
-        Verdict::Refused(refusal) => Number::Refused(refusal),
-        Verdict::Accepted => Number::Given(price_at(bytes, speed, history, rate)),
+        Err(refusal) => Err(refusal),
+        Ok(()) => Ok(price_at(bytes, speed, history, rate)),
     }
 }
 
-pub fn duration(bytes: &[u8], speed: Speed, history: &[f64], rate: f64) -> Number
-    ensures { number_outcome result ≡ placed (pool_duration bytes.now speed history.now rate) }
+pub fn duration(bytes: &[u8], speed: Speed, history: &[f64], rate: f64) -> Result<f64, Refusal>
+    ensures { outcome result ≡ placed (pool_duration bytes.now speed history.now rate) }
 {
     match judge_pool(bytes, false, 0) {
-        Verdict::Refused(refusal) => Number::Refused(refusal),
-        Verdict::Accepted => Number::Given(duration_for(bytes, speed, history, 0.0001, rate)),
+        Err(refusal) => Err(refusal),
+        Ok(()) => Ok(duration_for(bytes, speed, history, 0.0001, rate)),
     }
 }
 
-pub fn convexity(bytes: &[u8], speed: Speed, history: &[f64], rate: f64) -> Number
-    ensures { number_outcome result ≡ placed (pool_convexity bytes.now speed history.now rate) }
+pub fn convexity(bytes: &[u8], speed: Speed, history: &[f64], rate: f64) -> Result<f64, Refusal>
+    ensures { outcome result ≡ placed (pool_convexity bytes.now speed history.now rate) }
 {
     match judge_pool(bytes, false, 0) {
-        Verdict::Refused(refusal) => Number::Refused(refusal),
-        Verdict::Accepted => Number::Given(convexity_for(bytes, speed, history, 0.0001, rate)),
+        Err(refusal) => Err(refusal),
+        Ok(()) => Ok(convexity_for(bytes, speed, history, 0.0001, rate)),
     }
 }

@@ -4,22 +4,17 @@ ghost use Rattle.std.specs.Float.{binary64};
 ghost use Rattle.std.specs.Float.Ieee.{mul, of_int};
 ghost use Rattle.pool.specs.Loans.{bad_records, any_of, loans_in};
 ghost use Rattle.refusals.specs.Places.{placed};
-ghost use Rattle.pool.specs.Totals.{sum_of, balance_of, totals_of, pool_totals, totals_outcome};
+ghost use Rattle.refusals.specs.Answers.{outcome};
+ghost use Rattle.pool.specs.Totals.{sum_of, balance_of, totals_of, pool_totals};
 
 use crate::loans::{judge_pool, loan_at, loan_count};
-use refusals::Verdict;
+use refusals::Refusal;
 
 #[derive(Clone, Copy)]
 pub struct Totals {
     pub balance: f64,
     pub coupon: f64,
     pub maturity: f64,
-}
-
-#[derive(Clone, Copy)]
-pub enum TotalsAnswer {
-    Refused(refusals::Refusal),
-    Given(Totals),
 }
 
 // The balance, and the coupons and maturities times their balances, added up.
@@ -66,11 +61,11 @@ fn totals_of(bytes: &[u8]) -> Totals
     }
 }
 
-pub fn pool_totals(bytes: &[u8]) -> TotalsAnswer
-    ensures { totals_outcome result ≡ placed (pool_totals bytes.now) }
+pub fn pool_totals(bytes: &[u8]) -> Result<Totals, Refusal>
+    ensures { outcome result ≡ placed (pool_totals bytes.now) }
 {
     match judge_pool(bytes, false, 0) {
-        Verdict::Refused(refusal) => TotalsAnswer::Refused(refusal),
-        Verdict::Accepted => TotalsAnswer::Given(totals_of(bytes)),
+        Err(refusal) => Err(refusal),
+        Ok(()) => Ok(totals_of(bytes)),
     }
 }

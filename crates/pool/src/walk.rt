@@ -10,7 +10,6 @@ use crate::months::{WIDTH, add_above, add_month};
 use mortgage::payment::monthly_rate;
 use numbers::clamps::{lower_to, raise_to_zero};
 use records::Terms;
-use refusals::Number;
 
 // Months that were walked, and the balance before the next one.
 #[derive(Clone, Copy)]
@@ -83,7 +82,7 @@ pub(crate) fn add_loan(terms: Terms, speeds: &[f64], room: &mut [f64])
     ensures { room.new ≡ walked (loan_added terms speeds.now) 0 terms.term room.old }
 {
     // No loan that is left is refused.
-    let Number::Given(pay) = mortgage::payment::monthly_payment(terms) else {
+    let Ok(pay) = mortgage::payment::monthly_payment(terms) else {
         return;
     };
     let run = ordinary_months(terms, pay, speeds, room);

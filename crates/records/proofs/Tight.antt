@@ -4,17 +4,6 @@ use mathlib.Core.List.{List}
 use Prim.Native.Nat.{ℕ}
 use Rattle.numbers.proofs.Determined.{Determined, Settled}
 use Rattle.refusals.proofs.OneToOne.{same_refusal}
-use Rattle.records.specs.declared.TermsRead.{TermsRead}
-use Rattle.records.specs.declared.TermsRead.TheVariants as terms_is
-use Rattle.records.specs.declared.RowRead.{RowRead}
-use Rattle.records.specs.declared.RowRead.TheVariants as row_is
-use Rattle.records.specs.declared.BondRead.{BondRead}
-use Rattle.records.specs.declared.BondRead.TheVariants as bond_is
-use Rattle.records.specs.declared.SwapRead.{SwapRead}
-use Rattle.records.specs.declared.SwapRead.TheVariants as swap_is
-use Rattle.records.specs.declared.DatedSwapRead.{DatedSwapRead}
-use Rattle.records.specs.declared.DatedSwapRead.TheVariants as dated_swap_is
-use Rattle.records.specs.Kinds.{dated_swap_outcome, swap_outcome, bond_outcome, terms_outcome, row_outcome}
 use Rattle.records.proofs.bond_record.read_bond.Kinds as read_bond_kinds
 use Rattle.records.proofs.bond_record.read_bond.Reads as read_bond
 use Rattle.records.proofs.bond_record.read_bond_uncoded.Kinds as read_bond_uncoded_kinds
@@ -41,20 +30,24 @@ use Rattle.records.proofs.row_record.read_row.Kinds as read_row_kinds
 use Rattle.records.proofs.row_record.read_row.Reads as read_row
 use Rattle.records.proofs.row_record.write_row.Kinds as write_row_kinds
 use Rattle.records.proofs.row_record.write_row.Reads as write_row
+use Rattle.std.specs.declared.result.Result.TheVariants.{Ok, Err}
+use Rattle.std.specs.declared.result.Result.{Result}
+use Rattle.refusals.specs.declared.Refusal.{Refusal}
+use Rattle.refusals.specs.Answers.{outcome}
 
 -- ---- an answer's number, place and values tell the answer
 
-pub terms_told : (a b : TermsRead) → terms_outcome a ≡ terms_outcome b → a ≡ b
-terms_told (terms_is.Refused a) (terms_is.Refused b) e = ap terms_is.Refused (same_refusal a b e)
-terms_told (terms_is.Given t) (terms_is.Given u) e = cc
-terms_told (terms_is.Refused a) (terms_is.Given u) e = cc
-terms_told (terms_is.Given t) (terms_is.Refused b) e = cc
+pub terms_told : (a b : Result Terms Refusal) → outcome a ≡ outcome b → a ≡ b
+terms_told (Err a) (Err b) e = ap Err (same_refusal a b e)
+terms_told (Ok t) (Ok u) e = cc
+terms_told (Err a) (Ok u) e = cc
+terms_told (Ok t) (Err b) e = cc
 
-pub row_told : (a b : RowRead) → row_outcome a ≡ row_outcome b → a ≡ b
-row_told (row_is.Refused a) (row_is.Refused b) e = ap row_is.Refused (same_refusal a b e)
-row_told (row_is.Given r) (row_is.Given q) e = cc
-row_told (row_is.Refused a) (row_is.Given q) e = cc
-row_told (row_is.Given r) (row_is.Refused b) e = cc
+pub row_told : (a b : Result Row Refusal) → outcome a ≡ outcome b → a ≡ b
+row_told (Err a) (Err b) e = ap Err (same_refusal a b e)
+row_told (Ok r) (Ok q) e = cc
+row_told (Err a) (Ok q) e = cc
+row_told (Ok r) (Err b) e = cc
 
 pub read_terms_determined : Determined 1 read_terms_kinds.ps read_terms_kinds.r read_terms.Post
 read_terms_determined κs a x y e e' p q = terms_told x y (p ∙ sym q)
@@ -72,11 +65,11 @@ write_row_settled κs a x y w w' p q = ap (λ (l : List ℕ). (tt, (l, tt))) (p 
 
 -- ---- kind 2
 
-pub bond_told : (a b : BondRead) → bond_outcome a ≡ bond_outcome b → a ≡ b
-bond_told (bond_is.Refused a) (bond_is.Refused b) e = ap bond_is.Refused (same_refusal a b e)
-bond_told (bond_is.Given v) (bond_is.Given w) e = cc
-bond_told (bond_is.Refused a) (bond_is.Given w) e = cc
-bond_told (bond_is.Given v) (bond_is.Refused b) e = cc
+pub bond_told : (a b : Result BondRecord Refusal) → outcome a ≡ outcome b → a ≡ b
+bond_told (Err a) (Err b) e = ap Err (same_refusal a b e)
+bond_told (Ok v) (Ok w) e = cc
+bond_told (Err a) (Ok w) e = cc
+bond_told (Ok v) (Err b) e = cc
 
 pub read_bond_determined : Determined 1 read_bond_kinds.ps read_bond_kinds.r read_bond.Post
 read_bond_determined κs a x y e e' p q = bond_told x y (p ∙ sym q)
@@ -89,11 +82,11 @@ write_bond_settled κs a x y w w' p q = ap (λ (l : List ℕ). (tt, (l, tt))) (p
 
 -- ---- kind 4
 
-pub swap_told : (a b : SwapRead) → swap_outcome a ≡ swap_outcome b → a ≡ b
-swap_told (swap_is.Refused a) (swap_is.Refused b) e = ap swap_is.Refused (same_refusal a b e)
-swap_told (swap_is.Given v) (swap_is.Given w) e = cc
-swap_told (swap_is.Refused a) (swap_is.Given w) e = cc
-swap_told (swap_is.Given v) (swap_is.Refused b) e = cc
+pub swap_told : (a b : Result SwapRecord Refusal) → outcome a ≡ outcome b → a ≡ b
+swap_told (Err a) (Err b) e = ap Err (same_refusal a b e)
+swap_told (Ok v) (Ok w) e = cc
+swap_told (Err a) (Ok w) e = cc
+swap_told (Ok v) (Err b) e = cc
 
 pub read_swap_determined : Determined 1 read_swap_kinds.ps read_swap_kinds.r read_swap.Post
 read_swap_determined κs a x y e e' p q = swap_told x y (p ∙ sym q)
@@ -106,11 +99,11 @@ write_swap_settled κs a x y w w' p q = ap (λ (l : List ℕ). (tt, (l, tt))) (p
 
 -- ---- kind 5
 
-pub dated_swap_told : (a b : DatedSwapRead) → dated_swap_outcome a ≡ dated_swap_outcome b → a ≡ b
-dated_swap_told (dated_swap_is.Refused a) (dated_swap_is.Refused b) e = ap dated_swap_is.Refused (same_refusal a b e)
-dated_swap_told (dated_swap_is.Given v) (dated_swap_is.Given w) e = cc
-dated_swap_told (dated_swap_is.Refused a) (dated_swap_is.Given w) e = cc
-dated_swap_told (dated_swap_is.Given v) (dated_swap_is.Refused b) e = cc
+pub dated_swap_told : (a b : Result DatedSwapRecord Refusal) → outcome a ≡ outcome b → a ≡ b
+dated_swap_told (Err a) (Err b) e = ap Err (same_refusal a b e)
+dated_swap_told (Ok v) (Ok w) e = cc
+dated_swap_told (Err a) (Ok w) e = cc
+dated_swap_told (Ok v) (Err b) e = cc
 
 pub read_dated_swap_determined : Determined 1 read_dated_swap_kinds.ps read_dated_swap_kinds.r read_dated_swap.Post
 read_dated_swap_determined κs a x y e e' p q = dated_swap_told x y (p ∙ sym q)

@@ -9,16 +9,6 @@ use Rattle.records.specs.declared.BondRecord.{BondRecord}
 use Rattle.records.specs.declared.Row.{Row}
 use Rattle.records.specs.declared.SwapRecord.{SwapRecord}
 use Rattle.records.specs.declared.DatedSwapRecord.{DatedSwapRecord}
-use Rattle.records.specs.declared.TermsRead.{TermsRead}
-use Rattle.records.specs.declared.TermsRead.TheVariants as terms_is
-use Rattle.records.specs.declared.RowRead.{RowRead}
-use Rattle.records.specs.declared.RowRead.TheVariants as row_is
-use Rattle.records.specs.declared.BondRead.{BondRead}
-use Rattle.records.specs.declared.BondRead.TheVariants as bond_is
-use Rattle.records.specs.declared.SwapRead.{SwapRead}
-use Rattle.records.specs.declared.SwapRead.TheVariants as swap_is
-use Rattle.records.specs.declared.DatedSwapRead.{DatedSwapRead}
-use Rattle.records.specs.declared.DatedSwapRead.TheVariants as dated_swap_is
 use Rattle.records.specs.Fields.{Field, code, byte, pair, whole, float, size_of_all, HeldByAll, bytes_in_all, held_from, any_bad_code}
 
 pub record Layout (Value : Type 0) : Type 0 where
@@ -73,10 +63,6 @@ unfoldable pub read_terms : List ℕ → Outcome Terms
 unfolding terms_in
 read_terms = read_as terms_layout
 
-abbrev pub terms_outcome : TermsRead → Outcome Terms
-terms_outcome (terms_is.Refused r) = refused r.number r.place
-terms_outcome (terms_is.Given t) = accepted t
-
 -- ---- kind 2, a bond: "face, coupon, maturity (f64), frequency code 0 to 3 in the Rust's order, 26"
 abbrev pub bond_layout : Layout BondRecord
 bond_layout = record {
@@ -106,10 +92,6 @@ unfoldable pub read_bond_uncoded : List ℕ → Outcome BondRecord
 unfolding bond_in
 read_bond_uncoded = read_uncoded bond_layout
 
-abbrev pub bond_outcome : BondRead → Outcome BondRecord
-bond_outcome (bond_is.Refused r) = refused r.number r.place
-bond_outcome (bond_is.Given b) = accepted b
-
 -- ---- kind 3, a row: "month (u32), payment, principal, interest, balance, 37"
 abbrev pub row_layout : Layout Row
 row_layout = record {
@@ -134,10 +116,6 @@ row_in = value_in row_layout
 unfoldable pub read_row : List ℕ → Outcome Row
 unfolding row_in
 read_row = read_as row_layout
-
-abbrev pub row_outcome : RowRead → Outcome Row
-row_outcome (row_is.Refused r) = refused r.number r.place
-row_outcome (row_is.Given r) = accepted r
 
 -- ---- kind 4, a swap: "notional, fixed rate, tenor, frequency (u32), day count 0 to 2, 30"
 abbrev pub swap_layout : Layout SwapRecord
@@ -167,10 +145,6 @@ read_swap = read_as swap_layout
 unfoldable pub read_swap_uncoded : List ℕ → Outcome SwapRecord
 unfolding swap_in
 read_swap_uncoded = read_uncoded swap_layout
-
-abbrev pub swap_outcome : SwapRead → Outcome SwapRecord
-swap_outcome (swap_is.Refused r) = refused r.number r.place
-swap_outcome (swap_is.Given s) = accepted s
 
 -- ---- kind 5, a dated swap, document 02's: "kind 4's body without its day count, then two dates and a day count, each date u16 year, u8 month, u8 day; its tenor is not read"; 38
 
@@ -223,6 +197,3 @@ unfoldable pub read_dated_swap_uncoded : List ℕ → Outcome DatedSwapRecord
 unfolding dated_swap_in
 read_dated_swap_uncoded = read_uncoded dated_swap_layout
 
-abbrev pub dated_swap_outcome : DatedSwapRead → Outcome DatedSwapRecord
-dated_swap_outcome (dated_swap_is.Refused r) = refused r.number r.place
-dated_swap_outcome (dated_swap_is.Given s) = accepted s

@@ -1,36 +1,38 @@
 // Kind 2, a bond: 26 bytes.
 ghost use Rattle.std.specs.Prelude.{◌≡◌, length};
-ghost use Rattle.records.specs.Kinds.{bond_size, bond_in, read_bond_uncoded, read_bond, bond_outcome, bond_bytes};
+ghost use Rattle.refusals.specs.Answers.{outcome};
+ghost use Rattle.records.specs.Kinds.{bond_size, bond_in, read_bond_uncoded, read_bond, bond_bytes};
 
-use crate::{BondRead, BondRecord, bad_record, fields};
+use crate::{BondRecord, bad_record, fields};
 use numbers::patterns::is_nan;
+use refusals::{Cause, Refusal};
 
 pub const BOND_KIND: u8 = 2;
 
 pub const BOND_SIZE: usize = 26;
 
 // The bond that the bytes hold, or refusal 11 for another kind or length, or a frequency code outside 0 to 3.
-pub fn read_bond(bytes: &[u8]) -> BondRead
-    ensures { bond_outcome result ≡ read_bond bytes.now }
+pub fn read_bond(bytes: &[u8]) -> Result<BondRecord, Refusal>
+    ensures { outcome result ≡ read_bond bytes.now }
 {
     if bad_record(BOND_KIND, BOND_SIZE, bytes) {
-        return BondRead::Refused(refusals::refuse(11));
+        return Err(refusals::refuse(Cause::Record));
     }
     let bond = bond_in(bytes);
     if bond.frequency > 3 {
-        return BondRead::Refused(refusals::refuse(11));
+        return Err(refusals::refuse(Cause::Record));
     }
-    BondRead::Given(bond)
+    Ok(bond)
 }
 
 // The bond that the bytes hold, whatever its frequency's code: refusal 11 is for another kind or length alone.
-pub fn read_bond_uncoded(bytes: &[u8]) -> BondRead
-    ensures { bond_outcome result ≡ read_bond_uncoded bytes.now }
+pub fn read_bond_uncoded(bytes: &[u8]) -> Result<BondRecord, Refusal>
+    ensures { outcome result ≡ read_bond_uncoded bytes.now }
 {
     if bad_record(BOND_KIND, BOND_SIZE, bytes) {
-        return BondRead::Refused(refusals::refuse(11));
+        return Err(refusals::refuse(Cause::Record));
     }
-    BondRead::Given(bond_in(bytes))
+    Ok(bond_in(bytes))
 }
 
 // Where no number is a NaN the patterns are the numbers, and the three tests come before anything is done with one.

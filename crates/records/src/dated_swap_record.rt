@@ -1,37 +1,39 @@
 // Kind 5, a swap between two dates: 38 bytes. A date that is none is still part of a well-formed record.
 ghost use Rattle.std.specs.Prelude.{◌≡◌, ◌+◌, ◌≤◌, length};
 ghost use Rattle.std.proofs.lemmas.List.Edits.{sets};
-ghost use Rattle.records.specs.Kinds.{date_at, date_bytes, dated_swap_size, dated_swap_in, read_dated_swap_uncoded, read_dated_swap, dated_swap_outcome, dated_swap_bytes};
+ghost use Rattle.refusals.specs.Answers.{outcome};
+ghost use Rattle.records.specs.Kinds.{date_at, date_bytes, dated_swap_size, dated_swap_in, read_dated_swap_uncoded, read_dated_swap, dated_swap_bytes};
 
-use crate::{DatedSwapRead, DatedSwapRecord, bad_record, fields};
+use crate::{DatedSwapRecord, bad_record, fields};
 use dates::Date;
+use refusals::{Cause, Refusal};
 
 pub const DATED_SWAP_KIND: u8 = 5;
 
 pub const DATED_SWAP_SIZE: usize = 38;
 
 // The swap that the bytes hold, or refusal 11 for another kind or length, or a day count code outside 0 to 2.
-pub fn read_dated_swap(bytes: &[u8]) -> DatedSwapRead
-    ensures { dated_swap_outcome result ≡ read_dated_swap bytes.now }
+pub fn read_dated_swap(bytes: &[u8]) -> Result<DatedSwapRecord, Refusal>
+    ensures { outcome result ≡ read_dated_swap bytes.now }
 {
     if bad_record(DATED_SWAP_KIND, DATED_SWAP_SIZE, bytes) {
-        return DatedSwapRead::Refused(refusals::refuse(11));
+        return Err(refusals::refuse(Cause::Record));
     }
     let swap = dated_swap_in(bytes);
     if swap.count > 2 {
-        return DatedSwapRead::Refused(refusals::refuse(11));
+        return Err(refusals::refuse(Cause::Record));
     }
-    DatedSwapRead::Given(swap)
+    Ok(swap)
 }
 
 // The swap that the bytes hold, whatever its day count's code: refusal 11 is for another kind or length alone.
-pub fn read_dated_swap_uncoded(bytes: &[u8]) -> DatedSwapRead
-    ensures { dated_swap_outcome result ≡ read_dated_swap_uncoded bytes.now }
+pub fn read_dated_swap_uncoded(bytes: &[u8]) -> Result<DatedSwapRecord, Refusal>
+    ensures { outcome result ≡ read_dated_swap_uncoded bytes.now }
 {
     if bad_record(DATED_SWAP_KIND, DATED_SWAP_SIZE, bytes) {
-        return DatedSwapRead::Refused(refusals::refuse(11));
+        return Err(refusals::refuse(Cause::Record));
     }
-    DatedSwapRead::Given(dated_swap_in(bytes))
+    Ok(dated_swap_in(bytes))
 }
 
 fn dated_swap_in(bytes: &[u8]) -> DatedSwapRecord

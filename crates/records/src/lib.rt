@@ -60,36 +60,6 @@ pub struct DatedSwapRecord {
     pub count: u8,
 }
 
-#[derive(Clone, Copy)]
-pub enum TermsRead {
-    Refused(refusals::Refusal),
-    Given(Terms),
-}
-
-#[derive(Clone, Copy)]
-pub enum RowRead {
-    Refused(refusals::Refusal),
-    Given(Row),
-}
-
-#[derive(Clone, Copy)]
-pub enum BondRead {
-    Refused(refusals::Refusal),
-    Given(BondRecord),
-}
-
-#[derive(Clone, Copy)]
-pub enum SwapRead {
-    Refused(refusals::Refusal),
-    Given(SwapRecord),
-}
-
-#[derive(Clone, Copy)]
-pub enum DatedSwapRead {
-    Refused(refusals::Refusal),
-    Given(DatedSwapRecord),
-}
-
 // Line 11: a record of another kind or another length.
 fn bad_record(kind: u8, size: usize, bytes: &[u8]) -> bool
     requires { 0 < size }

@@ -1,21 +1,23 @@
 // Kind 3, a row of a schedule: 37 bytes.
 ghost use Rattle.std.specs.Prelude.{◌≡◌, length};
-ghost use Rattle.records.specs.Kinds.{row_size, row_in, read_row, row_outcome, row_bytes};
+ghost use Rattle.refusals.specs.Answers.{outcome};
+ghost use Rattle.records.specs.Kinds.{row_size, row_in, read_row, row_bytes};
 
-use crate::{Row, RowRead, bad_record, fields};
+use crate::{Row, bad_record, fields};
+use refusals::{Cause, Refusal};
 
 pub const ROW_KIND: u8 = 3;
 
 pub const ROW_SIZE: usize = 37;
 
 // The row that the bytes hold, or refusal 11 for another kind or length.
-pub fn read_row(bytes: &[u8]) -> RowRead
-    ensures { row_outcome result ≡ read_row bytes.now }
+pub fn read_row(bytes: &[u8]) -> Result<Row, Refusal>
+    ensures { outcome result ≡ read_row bytes.now }
 {
     if bad_record(ROW_KIND, ROW_SIZE, bytes) {
-        return RowRead::Refused(refusals::refuse(11));
+        return Err(refusals::refuse(Cause::Record));
     }
-    RowRead::Given(row_in(bytes))
+    Ok(row_in(bytes))
 }
 
 fn row_in(bytes: &[u8]) -> Row

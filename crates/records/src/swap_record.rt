@@ -1,35 +1,37 @@
 // Kind 4, a swap: 30 bytes.
 ghost use Rattle.std.specs.Prelude.{◌≡◌, length};
-ghost use Rattle.records.specs.Kinds.{swap_size, swap_in, read_swap_uncoded, read_swap, swap_outcome, swap_bytes};
+ghost use Rattle.refusals.specs.Answers.{outcome};
+ghost use Rattle.records.specs.Kinds.{swap_size, swap_in, read_swap_uncoded, read_swap, swap_bytes};
 
-use crate::{SwapRead, SwapRecord, bad_record, fields};
+use crate::{SwapRecord, bad_record, fields};
+use refusals::{Cause, Refusal};
 
 pub const SWAP_KIND: u8 = 4;
 
 pub const SWAP_SIZE: usize = 30;
 
 // The swap that the bytes hold, or refusal 11 for another kind or length, or a day count code outside 0 to 2.
-pub fn read_swap(bytes: &[u8]) -> SwapRead
-    ensures { swap_outcome result ≡ read_swap bytes.now }
+pub fn read_swap(bytes: &[u8]) -> Result<SwapRecord, Refusal>
+    ensures { outcome result ≡ read_swap bytes.now }
 {
     if bad_record(SWAP_KIND, SWAP_SIZE, bytes) {
-        return SwapRead::Refused(refusals::refuse(11));
+        return Err(refusals::refuse(Cause::Record));
     }
     let swap = swap_in(bytes);
     if swap.count > 2 {
-        return SwapRead::Refused(refusals::refuse(11));
+        return Err(refusals::refuse(Cause::Record));
     }
-    SwapRead::Given(swap)
+    Ok(swap)
 }
 
 // The swap that the bytes hold, whatever its day count's code: refusal 11 is for another kind or length alone.
-pub fn read_swap_uncoded(bytes: &[u8]) -> SwapRead
-    ensures { swap_outcome result ≡ read_swap_uncoded bytes.now }
+pub fn read_swap_uncoded(bytes: &[u8]) -> Result<SwapRecord, Refusal>
+    ensures { outcome result ≡ read_swap_uncoded bytes.now }
 {
     if bad_record(SWAP_KIND, SWAP_SIZE, bytes) {
-        return SwapRead::Refused(refusals::refuse(11));
+        return Err(refusals::refuse(Cause::Record));
     }
-    SwapRead::Given(swap_in(bytes))
+    Ok(swap_in(bytes))
 }
 
 fn swap_in(bytes: &[u8]) -> SwapRecord

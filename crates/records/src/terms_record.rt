@@ -1,21 +1,23 @@
 // Kind 1, a loan's terms: 21 bytes.
 ghost use Rattle.std.specs.Prelude.{◌≡◌, length};
-ghost use Rattle.records.specs.Kinds.{terms_size, terms_in, read_terms, terms_outcome, terms_bytes};
+ghost use Rattle.refusals.specs.Answers.{outcome};
+ghost use Rattle.records.specs.Kinds.{terms_size, terms_in, read_terms, terms_bytes};
 
-use crate::{Terms, TermsRead, bad_record, fields};
+use crate::{Terms, bad_record, fields};
+use refusals::{Cause, Refusal};
 
 pub const TERMS_KIND: u8 = 1;
 
 pub const TERMS_SIZE: usize = 21;
 
 // The terms that the bytes hold, or refusal 11 for another kind or length.
-pub fn read_terms(bytes: &[u8]) -> TermsRead
-    ensures { terms_outcome result ≡ read_terms bytes.now }
+pub fn read_terms(bytes: &[u8]) -> Result<Terms, Refusal>
+    ensures { outcome result ≡ read_terms bytes.now }
 {
     if bad_record(TERMS_KIND, TERMS_SIZE, bytes) {
-        return TermsRead::Refused(refusals::refuse(11));
+        return Err(refusals::refuse(Cause::Record));
     }
-    TermsRead::Given(terms_in(bytes))
+    Ok(terms_in(bytes))
 }
 
 fn terms_in(bytes: &[u8]) -> Terms

@@ -13,6 +13,7 @@ use Rattle.refusals.specs.Outcome.{Outcome, refused, accepted, Line, first_or, j
 use Rattle.refusals.specs.Places.{placed}
 use Rattle.refusals.proofs.Judging.{followed, judged_in_parts}
 use Rattle.refusals.proofs.Verdicts.{verdict}
+use Rattle.refusals.specs.Answers.{number}
 
 -- a refusal that a u32 holds, by the first lines of several
 pub refused_early : (ls ms : List Line) (k p : ℕ) → p ≤ largest → refused k p ≡ verdict ls → refused k p ≡ placed (verdict (ls ++ ms))
@@ -40,7 +41,7 @@ module _ {Item : Type 0} (k : ℕ) (bad : Item → Bool) (items : List Item) (d 
   begun = refl
 
   pub found : (o : Outcome Unit) (i : ℕ) → o ≡ Rest i → i < length items → bad (get_or items i d) ≡ true
-      → (r : Refusal) → (r.number ≡ k) × (r.place ≡ min i largest) → refused r.number r.place ≡ placed o
+      → (r : Refusal) → (number r.cause ≡ k) × (r.place ≡ min i largest) → refused (number r.cause) r.place ≡ placed o
   unfolding placed
   found o i e h b r is = rw (e, turn i h, b, is.0, is.1)
 

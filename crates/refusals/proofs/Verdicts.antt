@@ -5,10 +5,10 @@ use mathlib.Core.List.{List, [], ◌∷◌}
 use Prim.Native.Nat.{ℕ, suc}
 use native.Mathlib.Omega.{arith}
 use Rattle.refusals.specs.declared.Refusal.{Refusal}
-use Rattle.refusals.specs.declared.Verdict.{Verdict}
-use Rattle.refusals.specs.declared.Verdict.TheVariants as verdict_is
-use Rattle.refusals.specs.Answers.{verdict_outcome}
 use Rattle.refusals.specs.Outcome.{Outcome, refused, accepted, Line, first_or, judged}
+use Rattle.std.specs.declared.result.Result.TheVariants.{Ok, Err}
+use Rattle.std.specs.declared.result.Result.{Result}
+use Rattle.refusals.specs.Answers.{number, outcome}
 
 -- the lines, judging no value
 abbrev pub verdict : List Line → Outcome Unit
@@ -39,16 +39,16 @@ pub accepted_alike : {Value : Type 0} (ls : List Line) (v : Value) → accepted 
 accepted_alike ls v e = ap (carried v) e ∙ sym (judged_carried ls v)
 
 -- the same as a `match` on a verdict has it, in either arm
-pub refused_by : {Value : Type 0} (ls : List Line) (v : Value) (x : Verdict) (r : Refusal) → x ≡ verdict_is.Refused r → verdict_outcome x ≡ verdict ls
-    → refused r.number r.place ≡ judged ls v
-refused_by ls v x r h e = refused_alike ls v r.number r.place (sym (ap verdict_outcome h) ∙ e)
+pub refused_by : {Value : Type 0} (ls : List Line) (v : Value) (x : Result Unit Refusal) (r : Refusal) → x ≡ Err r → outcome x ≡ verdict ls
+    → refused (number r.cause) r.place ≡ judged ls v
+refused_by ls v x r h e = refused_alike ls v (number r.cause) r.place (sym (ap outcome h) ∙ e)
 
-pub accepted_by : {Value : Type 0} (ls : List Line) (v : Value) (x : Verdict) → x ≡ verdict_is.Accepted → verdict_outcome x ≡ verdict ls
+pub accepted_by : {Value : Type 0} (ls : List Line) (v : Value) (x : Result Unit Refusal) → x ≡ Ok tt → outcome x ≡ verdict ls
     → accepted v ≡ judged ls v
-accepted_by ls v x h e = accepted_alike ls v (sym (ap verdict_outcome h) ∙ e)
+accepted_by ls v x h e = accepted_alike ls v (sym (ap outcome h) ∙ e)
 
 -- a refusal of a line that names no list
-pub refused_as : {Value : Type 0} (k : ℕ) (r : Refusal) (o : Outcome Value) → (r.number ≡ k) × (r.place ≡ 0) → refused k 0 ≡ o → refused r.number r.place ≡ o
+pub refused_as : {Value : Type 0} (k : ℕ) (r : Refusal) (o : Outcome Value) → (number r.cause ≡ k) × (r.place ≡ 0) → refused k 0 ≡ o → refused (number r.cause) r.place ≡ o
 refused_as k r o h e = rw (h.0, h.1) e
 
 -- ---- what is accepted is the value that the lines judge

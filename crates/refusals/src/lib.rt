@@ -1,58 +1,62 @@
-// Refusals: document 01's table, the number and place that a call is refused with, and the answers that many functions share.
+// Refusals: document 01's table, and the cause and place that a call is refused with.
 #![tactic(auto)]
 
 ghost use Rattle.std.specs.Prelude.{◌≡◌, min};
 ghost use Rattle.numbers.specs.Whole.{largest};
+ghost use Rattle.refusals.specs.Answers.{number};
 ghost use Rattle.refusals.specs.Table.{bad_amount, bad_term, bad_number};
 
-#[derive(Clone, Copy)]
+// The causes of a refusal, one for each line of the table, in its order.
+#[derive(Clone, Copy, Debug, PartialEq, Eq)]
+pub enum Cause {
+    Amount = 1,
+    Term,
+    Room,
+    Lengths,
+    KnotCount,
+    Knot,
+    Time,
+    Frequency,
+    Number,
+    PastEnd,
+    Record,
+    Bracket,
+    BreakEven,
+    Year,
+    Date,
+    Kind,
+}
+
+// What a call that is refused answers: the cause, and the index of the first bad item where the line names a list, else 0.
+#[derive(Clone, Copy, Debug, PartialEq, Eq)]
 pub struct Refusal {
-    pub number: u32,
+    pub cause: Cause,
     pub place: u32,
 }
 
-// Whether a call may go on.
-#[derive(Clone, Copy)]
-pub enum Verdict {
-    Refused(Refusal),
-    Accepted,
-}
-
-// A float that was asked for.
-#[derive(Clone, Copy)]
-pub enum Number {
-    Refused(Refusal),
-    Given(f64),
-}
-
-// A whole number that was asked for.
-#[derive(Clone, Copy)]
-pub enum Count {
-    Refused(Refusal),
-    Given(u32),
+impl Refusal {
+    // The number of the line.
+    pub fn number(self) -> u32
+        ensures { result ≡ number self.cause }
+    {
+        self.cause as u32
+    }
 }
 
 // The refusal of a line that names no list: its place is 0.
-pub fn refuse(number: u32) -> Refusal
-    ensures { (result.number ≡ number) × (result.place ≡ 0) }
+pub fn refuse(cause: Cause) -> Refusal
+    ensures { (number result.cause ≡ number cause) × (result.place ≡ 0) }
 {
-    Refusal { number, place: 0 }
+    Refusal { cause, place: 0 }
 }
 
 // The refusal of a line at an index; one that no u32 holds is given as the largest.
-pub fn refuse_at(number: u32, i: usize) -> Refusal
-    ensures { (result.number ≡ number) × (result.place ≡ min i largest) }
+pub fn refuse_at(cause: Cause, i: usize) -> Refusal
+    ensures { (number result.cause ≡ number cause) × (result.place ≡ min i largest) }
 {
-    if i < 4294967295 {
-        Refusal {
-            number,
-            place: i as u32,
-        }
-    } else {
-        Refusal {
-            number,
-            place: 4294967295,
-        }
+    Refusal {
+        cause,
+        place: u32::try_from(i).unwrap_or(u32::MAX),
     }
 }
 
@@ -60,20 +64,14 @@ pub fn refuse_at(number: u32, i: usize) -> Refusal
 pub fn bad_amount(x: f64) -> bool
     ensures { result ≡ bad_amount x }
 {
-    if x < 0.0 {
-        return true;
-    }
-    !numbers::sizes::is_finite(x)
+    x < 0.0 || !numbers::sizes::is_finite(x)
 }
 
 // Line 2: a term of 0 or above 1,200.
 pub fn bad_term(term: u32) -> bool
     ensures { result ≡ bad_term term }
 {
-    if term == 0 {
-        return true;
-    }
-    term > 1200
+    term == 0 || term > 1200
 }
 
 // Line 9: a number that is not finite.

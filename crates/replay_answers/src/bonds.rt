@@ -1,14 +1,13 @@
 // Bonds: face, coupon, maturity and the frequency's code, a yield or a market price, and by how much the yield moves; a
 // zero-coupon bond has a yield and a maturity alone.
 use bond::Bond;
-use bond::codes::FrequencyRead;
-use refusals::Number;
 use replaying::float_at;
+use refusals::{Cause, Refusal};
 
 const BYTES: usize = 11 * 8;
 
 // The same questions at a yield or at a price, anywhere or in document 01's range, have two families.
-fn of_bond(question: u64, bond: Bond, at: f64, case: &[u8]) -> Number {
+fn of_bond(question: u64, bond: Bond, at: f64, case: &[u8]) -> Result<f64, Refusal> {
     match question {
         401 | 402 => bond::price::price(at, bond),
         403 => bond::price::dv01(at, bond),
@@ -26,18 +25,18 @@ fn of_bond(question: u64, bond: Bond, at: f64, case: &[u8]) -> Number {
 }
 
 // The frequency of a code. A code is one byte, so that a larger one is outside the set.
-fn frequency_in(code: u64) -> FrequencyRead {
+fn frequency_in(code: u64) -> Result<Frequency, Refusal> {
     if code < 256 {
         bond::codes::frequency_of(code as u8)
     } else {
-        FrequencyRead::Refused(refusals::refuse(11))
+        Err(refusals::refuse(Cause::Record))
     }
 }
 
-fn of_record(question: u64, case: &[u8]) -> Number {
+fn of_record(question: u64, case: &[u8]) -> Result<f64, Refusal> {
     match frequency_in(replaying::word_at(case, 8)) {
-        FrequencyRead::Refused(refusal) => Number::Refused(refusal),
-        FrequencyRead::Given(frequency) => {
+        Err(refusal) => Err(refusal),
+        Ok(frequency) => {
             let bond = Bond {
                 face: float_at(case, 5),
                 coupon: float_at(case, 6),
@@ -49,7 +48,7 @@ fn of_record(question: u64, case: &[u8]) -> Number {
     }
 }
 
-pub(crate) fn answer(question: u64, case: &[u8]) -> Number {
+pub(crate) fn answer(question: u64, case: &[u8]) -> Result<f64, Refusal> {
     if case.len() != BYTES {
         return replaying::no_answer();
     }

@@ -1,7 +1,7 @@
 // Yield curves, asked at one time or between two, and models, whose three betas and decay come before the time.
-use refusals::Number;
 use replaying::float_at;
 use yield_curve::nelson_siegel::NelsonSiegel;
+use refusals::Refusal;
 
 fn model_in(case: &[u8]) -> NelsonSiegel {
     NelsonSiegel {
@@ -12,7 +12,7 @@ fn model_in(case: &[u8]) -> NelsonSiegel {
     }
 }
 
-pub(crate) fn answer(question: u64, case: &[u8], times: &[f64], rates: &[f64]) -> Number {
+pub(crate) fn answer(question: u64, case: &[u8], times: &[f64], rates: &[f64]) -> Result<f64, Refusal> {
     let t = float_at(case, 5);
     match question {
         501 => yield_curve::linear::linear_interpolate(times, rates, t),
@@ -22,7 +22,7 @@ pub(crate) fn answer(question: u64, case: &[u8], times: &[f64], rates: &[f64]) -
         505 => yield_curve::linear::par_yield(times, rates, t),
         507 => yield_curve::nelson_siegel::yield_at(model_in(case), float_at(case, 9)),
         508 => yield_curve::nelson_siegel::forward_rate(model_in(case), float_at(case, 9)),
-        509 => Number::Given(yield_curve::nelson_siegel::instantaneous_forward(model_in(case))),
+        509 => Ok(yield_curve::nelson_siegel::instantaneous_forward(model_in(case))),
         _ => replaying::no_answer(),
     }
 }

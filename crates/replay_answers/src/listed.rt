@@ -1,8 +1,8 @@
 // Questions over lists: eight words of numbers, the counts of four lists, and then the items of each.
 ghost use Rattle.std.specs.Prelude.{◌≡◌, ◌≤◌, length};
 
-use refusals::Number;
 use replaying::word_at;
+use refusals::Refusal;
 
 // The words before the items, and the most items that a list may have.
 const HEAD: usize = 17;
@@ -45,7 +45,7 @@ fn over(
     second: &[f64],
     third: &[f64],
     fourth: &[f64],
-) -> Number {
+) -> Result<f64, Refusal> {
     match question / 100 {
         5 => crate::curve_lookups::answer(question, case, first, second),
         6 => crate::swap_values::answer(question, case, first, second),
@@ -54,7 +54,7 @@ fn over(
     }
 }
 
-pub(crate) fn answer(question: u64, case: &[u8]) -> Number {
+pub(crate) fn answer(question: u64, case: &[u8]) -> Result<f64, Refusal> {
     let first = count_at(case, 13);
     let second = count_at(case, 14);
     let third = count_at(case, 15);

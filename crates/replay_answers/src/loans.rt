@@ -1,15 +1,14 @@
 // Loans: principal, rate and term, and what stands beside them, a second loan among it.
-use mortgage::savings::SavingsAnswer;
-use records::{Terms, TermsRead};
-use refusals::{Count, Number};
+use records::Terms;
 use replaying::{float_at, whole_at, word_at};
+use refusals::Refusal;
 
 const BYTES: usize = 13 * 8;
 
-fn terms_of(principal: f64, rate: f64, term: Count) -> TermsRead {
+fn terms_of(principal: f64, rate: f64, term: Result<u32, Refusal>) -> Result<Terms, Refusal> {
     match term {
-        Count::Refused(refusal) => TermsRead::Refused(refusal),
-        Count::Given(term) => TermsRead::Given(Terms {
+        Err(refusal) => Err(refusal),
+        Ok(term) => Ok(Terms {
             principal,
             rate,
             term,
@@ -18,51 +17,51 @@ fn terms_of(principal: f64, rate: f64, term: Count) -> TermsRead {
 }
 
 // A count among the Rust's numbers is a float.
-fn as_number(count: Count) -> Number {
+fn as_number(count: Result<u32, Refusal>) -> Result<f64, Refusal> {
     match count {
-        Count::Refused(refusal) => Number::Refused(refusal),
-        Count::Given(n) => Number::Given(n as f64),
+        Err(refusal) => Err(refusal),
+        Ok(n) => Ok(n as f64),
     }
 }
 
-fn remaining(terms: Terms, months: Count) -> Number {
+fn remaining(terms: Terms, months: Result<u32, Refusal>) -> Result<f64, Refusal> {
     match months {
-        Count::Refused(refusal) => Number::Refused(refusal),
-        Count::Given(months) => mortgage::totals::remaining_balance(terms, months),
+        Err(refusal) => Err(refusal),
+        Ok(months) => mortgage::totals::remaining_balance(terms, months),
     }
 }
 
-fn months_saved(terms: Terms, extra: f64) -> Number {
+fn months_saved(terms: Terms, extra: f64) -> Result<f64, Refusal> {
     match mortgage::savings::prepayment_savings(terms, extra) {
-        SavingsAnswer::Refused(refusal) => Number::Refused(refusal),
-        SavingsAnswer::Saved(savings) => Number::Given(savings.months as f64),
+        Err(refusal) => Err(refusal),
+        Ok(savings) => Ok(savings.months as f64),
     }
 }
 
-fn interest_saved(terms: Terms, extra: f64) -> Number {
+fn interest_saved(terms: Terms, extra: f64) -> Result<f64, Refusal> {
     match mortgage::savings::prepayment_savings(terms, extra) {
-        SavingsAnswer::Refused(refusal) => Number::Refused(refusal),
-        SavingsAnswer::Saved(savings) => Number::Given(savings.interest),
+        Err(refusal) => Err(refusal),
+        Ok(savings) => Ok(savings.interest),
     }
 }
 
-fn breakeven(old: Terms, new: Terms, cost: f64, elapsed: Count) -> Number {
+fn breakeven(old: Terms, new: Terms, cost: f64, elapsed: Result<u32, Refusal>) -> Result<f64, Refusal> {
     match elapsed {
-        Count::Refused(refusal) => Number::Refused(refusal),
-        Count::Given(elapsed) => {
+        Err(refusal) => Err(refusal),
+        Ok(elapsed) => {
             as_number(mortgage::breakeven::refinance_breakeven(old, new, cost, elapsed))
         }
     }
 }
 
-fn breakeven_in(old: Terms, case: &[u8]) -> Number {
+fn breakeven_in(old: Terms, case: &[u8]) -> Result<f64, Refusal> {
     match terms_of(float_at(case, 8), float_at(case, 9), whole_at(case, 10)) {
-        TermsRead::Refused(refusal) => Number::Refused(refusal),
-        TermsRead::Given(new) => breakeven(old, new, float_at(case, 11), whole_at(case, 12)),
+        Err(refusal) => Err(refusal),
+        Ok(new) => breakeven(old, new, float_at(case, 11), whole_at(case, 12)),
     }
 }
 
-fn of_terms(question: u64, terms: Terms, case: &[u8]) -> Number {
+fn of_terms(question: u64, terms: Terms, case: &[u8]) -> Result<f64, Refusal> {
     match question {
         201 => mortgage::payment::monthly_payment(terms),
         202 => crate::rows::answer(
@@ -81,12 +80,12 @@ fn of_terms(question: u64, terms: Terms, case: &[u8]) -> Number {
     }
 }
 
-pub(crate) fn answer(question: u64, case: &[u8]) -> Number {
+pub(crate) fn answer(question: u64, case: &[u8]) -> Result<f64, Refusal> {
     if case.len() != BYTES {
         return replaying::no_answer();
     }
     match terms_of(float_at(case, 5), float_at(case, 6), whole_at(case, 7)) {
-        TermsRead::Refused(refusal) => Number::Refused(refusal),
-        TermsRead::Given(terms) => of_terms(question, terms, case),
+        Err(refusal) => Err(refusal),
+        Ok(terms) => of_terms(question, terms, case),
     }
 }

@@ -14,16 +14,16 @@ mod rows;
 mod spreads;
 mod swap_values;
 
-use refusals::Number;
 use replaying::{QUESTION, Tally};
 use std::io;
 use std::io::{Cursor, Read};
+use refusals::Refusal;
 
 // Room for the list; a longer one is cut short, and says so by its tally.
 const ROOM: usize = 400000;
 
 // The hundreds of a question say what it is about.
-fn answer(question: u64, case: &[u8]) -> Number {
+fn answer(question: u64, case: &[u8]) -> Result<f64, Refusal> {
     match question / 100 {
         1 => powers::answer(question, case),
         2 => loans::answer(question, case),

@@ -1,42 +1,42 @@
 // Points, rate curves, and flows over a curve, at a spread or at a market price.
-use refusals::Number;
 use replaying::float_at;
-use spread_analytics::spread::{SensitivityAnswer, SpreadAnswer};
+use spread_analytics::spread::SpreadAnswer;
 use spread_analytics::units::BasisPoints;
+use refusals::Refusal;
 
-fn decimal(points: f64) -> Number {
+fn decimal(points: f64) -> Result<f64, Refusal> {
     let rate = spread_analytics::units::to_decimal(BasisPoints(points));
-    Number::Given(rate.0)
+    Ok(rate.0)
 }
 
 // Whether there was a sign change, as 1 or 0.
-fn was_found(answer: SpreadAnswer) -> Number {
+fn was_found(answer: SpreadAnswer) -> Result<f64, Refusal> {
     match answer {
-        SpreadAnswer::Refused(refusal) => Number::Refused(refusal),
-        SpreadAnswer::Found(points) => Number::Given(1.0),
-        SpreadAnswer::NoSignChange(points) => Number::Given(0.0),
+        SpreadAnswer::Refused(refusal) => Err(refusal),
+        SpreadAnswer::Found(points) => Ok(1.0),
+        SpreadAnswer::NoSignChange(points) => Ok(0.0),
     }
 }
 
-fn points_of(answer: SpreadAnswer) -> Number {
+fn points_of(answer: SpreadAnswer) -> Result<f64, Refusal> {
     match answer {
-        SpreadAnswer::Refused(refusal) => Number::Refused(refusal),
-        SpreadAnswer::Found(points) => Number::Given(points.0),
-        SpreadAnswer::NoSignChange(points) => Number::Given(points.0),
+        SpreadAnswer::Refused(refusal) => Err(refusal),
+        SpreadAnswer::Found(points) => Ok(points.0),
+        SpreadAnswer::NoSignChange(points) => Ok(points.0),
     }
 }
 
-fn duration_of(answer: SensitivityAnswer) -> Number {
+fn duration_of(answer: Result<Sensitivity, Refusal>) -> Result<f64, Refusal> {
     match answer {
-        SensitivityAnswer::Refused(refusal) => Number::Refused(refusal),
-        SensitivityAnswer::Given(both) => Number::Given(both.duration),
+        Err(refusal) => Err(refusal),
+        Ok(both) => Ok(both.duration),
     }
 }
 
-fn convexity_of(answer: SensitivityAnswer) -> Number {
+fn convexity_of(answer: Result<Sensitivity, Refusal>) -> Result<f64, Refusal> {
     match answer {
-        SensitivityAnswer::Refused(refusal) => Number::Refused(refusal),
-        SensitivityAnswer::Given(both) => Number::Given(both.convexity),
+        Err(refusal) => Err(refusal),
+        Ok(both) => Ok(both.convexity),
     }
 }
 
@@ -47,7 +47,7 @@ fn of_flows(
     tenors: &[f64],
     rates: &[f64],
     at: f64,
-) -> Number {
+) -> Result<f64, Refusal> {
     let spread = BasisPoints(at);
     match question {
         706 => spread_analytics::spread::pv_cash_flows(times, amounts, tenors, rates, spread),
@@ -77,7 +77,7 @@ pub(crate) fn answer(
     second: &[f64],
     third: &[f64],
     fourth: &[f64],
-) -> Number {
+) -> Result<f64, Refusal> {
     let at = float_at(case, 5);
     match question {
         701 => spread_analytics::rate_curves::rate_at(first, second, at),

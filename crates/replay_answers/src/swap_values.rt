@@ -1,25 +1,25 @@
 // Day counts, discount curves and swaps: notional, fixed rate, tenor, frequency, the day count's code, and who receives fixed.
-use refusals::{Count, Number};
 use replaying::{float_at, whole_at, word_at};
-use swaps::day_counts::{DayCount, DayCountRead};
+use swaps::day_counts::DayCount;
 use swaps::{AnySwap, Swap};
+use refusals::{Cause, Refusal};
 
 // The day count of a code. A code is one byte, so that a larger one is outside the set.
-fn day_count_in(code: u64) -> DayCountRead {
+fn day_count_in(code: u64) -> Result<DayCount, Refusal> {
     if code < 256 {
         swaps::day_counts::day_count_of(code as u8)
     } else {
-        DayCountRead::Refused(refusals::refuse(11))
+        Err(refusals::refuse(Cause::Record))
     }
 }
 
-fn fraction(day_count: DayCountRead, days: Count) -> Number {
+fn fraction(day_count: Result<DayCount, Refusal>, days: Result<u32, Refusal>) -> Result<f64, Refusal> {
     match day_count {
-        DayCountRead::Refused(refusal) => Number::Refused(refusal),
-        DayCountRead::Given(day_count) => match days {
-            Count::Refused(refusal) => Number::Refused(refusal),
-            Count::Given(days) => {
-                Number::Given(swaps::day_counts::day_count_fraction(day_count, days))
+        Err(refusal) => Err(refusal),
+        Ok(day_count) => match days {
+            Err(refusal) => Err(refusal),
+            Ok(days) => {
+                Ok(swaps::day_counts::day_count_fraction(day_count, days))
             }
         },
     }
@@ -31,7 +31,7 @@ fn of_swap(
     tenors: &[f64],
     zeros: &[f64],
     receives_fixed: bool,
-) -> Number {
+) -> Result<f64, Refusal> {
     match question {
         605 => swaps::legs::fixed_leg_pv(swap, tenors, zeros),
         606 => swaps::legs::floating_leg_pv(swap, tenors, zeros),
@@ -49,10 +49,10 @@ fn counted_by(
     day_count: DayCount,
     tenors: &[f64],
     zeros: &[f64],
-) -> Number {
+) -> Result<f64, Refusal> {
     match whole_at(case, 8) {
-        Count::Refused(refusal) => Number::Refused(refusal),
-        Count::Given(frequency) => {
+        Err(refusal) => Err(refusal),
+        Ok(frequency) => {
             let swap = Swap {
                 notional: float_at(case, 5),
                 fixed_rate: float_at(case, 6),
@@ -71,14 +71,14 @@ fn counted_by(
     }
 }
 
-fn valued(question: u64, case: &[u8], tenors: &[f64], zeros: &[f64]) -> Number {
+fn valued(question: u64, case: &[u8], tenors: &[f64], zeros: &[f64]) -> Result<f64, Refusal> {
     match day_count_in(word_at(case, 9)) {
-        DayCountRead::Refused(refusal) => Number::Refused(refusal),
-        DayCountRead::Given(day_count) => counted_by(question, case, day_count, tenors, zeros),
+        Err(refusal) => Err(refusal),
+        Ok(day_count) => counted_by(question, case, day_count, tenors, zeros),
     }
 }
 
-pub(crate) fn answer(question: u64, case: &[u8], tenors: &[f64], zeros: &[f64]) -> Number {
+pub(crate) fn answer(question: u64, case: &[u8], tenors: &[f64], zeros: &[f64]) -> Result<f64, Refusal> {
     match question {
         601 => fraction(day_count_in(word_at(case, 5)), whole_at(case, 6)),
         602 => swaps::discount::rate_at(tenors, zeros, float_at(case, 5)),

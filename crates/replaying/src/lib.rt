@@ -5,11 +5,11 @@
 ghost use Rattle.std.specs.Prelude.{◌≡◌, ◌+◌, ◌≤◌, length};
 ghost use Rattle.records.specs.Bytes.{value_of, field};
 ghost use Rattle.refusals.specs.Outcome.{refused};
-ghost use Rattle.refusals.specs.Answers.{number_outcome, count_outcome};
+ghost use Rattle.refusals.specs.Answers.{outcome};
 ghost use Rattle.replaying.specs.Words.{word_at, float_at, whole_at, first_case};
 ghost use Rattle.replaying.specs.Agreement.{agrees, result_of, answer_agrees, counted};
 
-use refusals::{Count, Number, Refusal};
+use refusals::{Cause, Refusal};
 use std::io;
 
 // Words of a case: what is asked about stands from 5 on.
@@ -67,14 +67,14 @@ pub fn float_at(list: &[u8], k: usize) -> f64
 }
 
 // Word k as a whole number of 32 bits. A larger one is refused with a number that the table does not have.
-pub fn whole_at(list: &[u8], k: usize) -> Count
-    ensures { count_outcome result ≡ whole_at k list.now }
+pub fn whole_at(list: &[u8], k: usize) -> Result<u32, Refusal>
+    ensures { outcome result ≡ whole_at k list.now }
 {
     let word = word_at(list, k);
     if word < 0x1_0000_0000 {
-        Count::Given(word as u32)
+        Ok(word as u32)
     } else {
-        Count::Refused(refusals::refuse(0))
+        Err(refusals::refuse(Cause::XX0))
     }
 }
 
@@ -92,10 +92,10 @@ pub fn first_case(list: &[u8]) -> usize
 }
 
 // What is no question has no answer: a refusal with a number that the table does not have, which agrees with nothing.
-pub fn no_answer() -> Number
-    ensures { number_outcome result ≡ refused 0 0 }
+pub fn no_answer() -> Result<f64, Refusal>
+    ensures { outcome result ≡ refused 0 0 }
 {
-    Number::Refused(refusals::refuse(0))
+    Err(refusals::refuse(Cause::XX0))
 }
 
 // Whether our number agrees with the Rust's: a NaN with a NaN, equal numbers, zeros of either sign among them, and else those whose distance is finite
@@ -125,19 +125,19 @@ fn result_of(refusal: Refusal) -> u64
 }
 
 // Whether our answer agrees with the one that a case holds. A result of 0 was accepted, so that a refusal with no number agrees with nothing.
-pub fn answer_agrees(ours: Number, case: &[u8]) -> bool
-    ensures { result ≡ answer_agrees (number_outcome ours) case.now }
+pub fn answer_agrees(ours: Result<f64, Refusal>, case: &[u8]) -> bool
+    ensures { result ≡ answer_agrees (outcome ours) case.now }
 {
     let result = word_at(case, RESULT);
     match ours {
-        Number::Refused(refusal) => {
+        Err(refusal) => {
             if result == 0 {
                 false
             } else {
                 result == result_of(refusal)
             }
         }
-        Number::Given(number) => {
+        Ok(number) => {
             if result == 0 {
                 agrees(number, float_at(case, NUMBER), float_at(case, DISTANCE))
             } else {

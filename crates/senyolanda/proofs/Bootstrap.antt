@@ -8,14 +8,15 @@ use lib.Seq.{take-append_seam}
 use lib.Ieee.{Float}
 use Rattle.numbers.specs.Clamps.{plus_zero}
 use Rattle.refusals.specs.Outcome.{accepted}
-use Rattle.refusals.specs.Answers.{verdict_outcome}
-use Rattle.refusals.specs.declared.Verdict.{Verdict}
-use Rattle.refusals.specs.declared.Verdict.TheVariants as verdict_is
 use Rattle.refusals.proofs.Verdicts.{verdict, accepted_by}
 use Rattle.swaps.specs.declared.bootstrap.DiscountCurve.{DiscountCurve}
 use Rattle.swaps.specs.Bootstrap.{next_zero, zeros_up_to, par_lines, from_par_rates}
 use Rattle.swaps.specs.Bootstrapped.{in_room, curve_of, bootstrapped}
 use Rattle.swaps.proofs.ParLines.{accepted_counts}
+use Rattle.std.specs.declared.result.Result.TheVariants.{Ok, Err}
+use Rattle.std.specs.declared.result.Result.{Result}
+use Rattle.refusals.specs.declared.Refusal.{Refusal}
+use Rattle.refusals.specs.Answers.{outcome}
 
 module _ (tenors pars : List Float) where
   one_each : (k : ℕ) → length (zeros_up_to tenors pars k) ≡ k
@@ -37,7 +38,7 @@ module _ (tenors pars : List Float) where
   fits : {m : ℕ} → m ≡ length zeros_of + length (replicate (120 - length zeros_of) plus_zero) → length tenors ≤ m
   fits e = omega (arith, one_each (length tenors))
 
-  module _ (curve : DiscountCurve) (v : Verdict) (judged_so : verdict_outcome v ≡ verdict (par_lines tenors pars)) (is : curve ≡ bootstrapped tenors pars) (ok : v ≡ verdict_is.Accepted) where
+  module _ (curve : DiscountCurve) (v : Result Unit Refusal) (judged_so : outcome v ≡ verdict (par_lines tenors pars)) (is : curve ≡ bootstrapped tenors pars) (ok : v ≡ (Ok tt)) where
     pub solved : accepted zeros_of ≡ from_par_rates tenors pars
     unfolding from_par_rates
     solved = accepted_by (par_lines tenors pars) zeros_of v ok judged_so
@@ -51,7 +52,7 @@ module _ (tenors pars : List Float) where
 
     pub few : length (take curve.knots curve.zeros) ≤ 120
     few =
-        let n = accepted_counts tenors pars (sym (ap verdict_outcome ok) ∙ judged_so) in
+        let n = accepted_counts tenors pars (sym (ap outcome ok) ∙ judged_so) in
         rw in_front (omega (arith, n.1, one_each (length tenors)))
 
     -- the room holds them

@@ -19,6 +19,7 @@ use Rattle.spread_analytics.proofs.SpreadVerdict.{refused_4}
 use Rattle.spread_analytics.proofs.TooMany.{too_many}
 use Rattle.senyolanda.specs.Told.{refusal_result, told}
 use Rattle.senyolanda.specs.Dated.{times_in, amounts_in}
+use Rattle.refusals.specs.Answers.{number}
 
 -- ---- the times and the amounts, by their index
 abbrev pub time_at : List Float → ℕ → Float
@@ -92,7 +93,7 @@ module _ {Value Places : Type 0} (laid : Value → Places) (value : List Float �
   abbrev answer : List Float → List Float → Outcome Value
   answer times amounts = judged (spread_lines times amounts tenors rates bad) (value times amounts)
 
-  pub told_odd : (result : ℕ) (r : Refusal) → ¬ (length xs % 2 ≡ 0) → (r.number ≡ 4) × (r.place ≡ 0) → result ≡ refusal_result r.number r.place
+  pub told_odd : (result : ℕ) (r : Refusal) → ¬ (length xs % 2 ≡ 0) → ((number r.cause) ≡ 4) × (r.place ≡ 0) → result ≡ refusal_result (number r.cause) r.place
       → (result, before) ≡ told laid (answer (times_in xs) (amounts_in xs)) before
   unfolding told
   told_odd result r odd is_4 e =

@@ -8,8 +8,6 @@ use Rattle.bond.specs.declared.Bond.{Bond}
 use Rattle.bond.specs.declared.Frequency.{Frequency}
 use Rattle.bond.specs.Bonds.{periods_per_year, number_lines}
 use Rattle.bond.specs.Codes.{last_code, frequency_at, frequency_of}
-use Rattle.senyolanda.specs.declared.bonds.BondIn.{BondIn}
-use Rattle.senyolanda.specs.declared.bonds.BondIn.TheVariants as bond_is
 use Rattle.senyolanda.specs.Told.{coded}
 
 abbrev pub paid_each : Frequency → BondRecord → Bond
@@ -39,6 +37,3 @@ periods_per_year_of code = and_then (frequency_of code) (λ (f : Frequency). acc
 abbrev pub bond_numbers : BondRecord → Float × Float × Float × ℕ
 bond_numbers b = (b.face, b.coupon, b.maturity, b.frequency)
 
-abbrev pub bond_in_outcome : BondIn → Outcome Bond
-bond_in_outcome (bond_is.Refused r) = refused r.number r.place
-bond_in_outcome (bond_is.Given b) = accepted b

@@ -9,8 +9,6 @@ use Rattle.pool.specs.Loans.{bad_records, pool_lines}
 use Rattle.refusals.specs.Places.{placed}
 use Rattle.pool.specs.Speed.{smm}
 use Rattle.pool.specs.Flows.{too_little, cash_flows, flows_into}
-use Rattle.senyolanda.specs.declared.pools.SpeedIn.{SpeedIn}
-use Rattle.senyolanda.specs.declared.pools.SpeedIn.TheVariants as speed_is
 
 -- 0: CPR with its rate; 1: PSA with its factor; 2: a history, which lies beside it
 unfoldable pub speed_at : ℕ → Float → Speed
@@ -49,6 +47,3 @@ room_after bytes code number history room = room_by (speed_for bytes (too_little
 abbrev pub totals_numbers : Totals → List Float
 totals_numbers t = t.balance ∷ t.coupon ∷ t.maturity ∷ []
 
-abbrev pub speed_in_outcome : SpeedIn → Outcome Speed
-speed_in_outcome (speed_is.Refused r) = refused r.number r.place
-speed_in_outcome (speed_is.Given s) = accepted s

@@ -15,8 +15,6 @@ use Rattle.swaps.specs.Codes.{last_code, day_count_at, day_count_of}
 use Rattle.swaps.specs.DayCounts.{day_fraction}
 use Rattle.swaps.specs.Swap.{swap_lines}
 use Rattle.swaps.specs.DatedSwap.{uncoded_dated_lines}
-use Rattle.senyolanda.specs.declared.swap_values.SwapIn.{SwapIn}
-use Rattle.senyolanda.specs.declared.swap_values.SwapIn.TheVariants as swap_is
 use Rattle.senyolanda.specs.Told.{coded}
 use Rattle.senyolanda.specs.Dates.{date_numbers}
 
@@ -73,6 +71,3 @@ valuation_numbers v = v.npv ∷ v.fixed_pv ∷ v.floating_pv ∷ v.par_rate ∷ 
 abbrev pub zeros_over : List Float → List Float → List Float
 zeros_over room zeros = zeros ++ drop (length zeros) room
 
-abbrev pub swap_in_outcome : SwapIn → Outcome AnySwap
-swap_in_outcome (swap_is.Refused r) = refused r.number r.place
-swap_in_outcome (swap_is.Given s) = accepted s

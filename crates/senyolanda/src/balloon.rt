@@ -17,7 +17,6 @@ use crate::loans::{AMOUNTS, COUNTS, loan_in, put_loan};
 use crate::results::refusal_result;
 use crate::years::put_year;
 use mortgage::kinds::Kind;
-use records::TermsRead;
 
 // Opens a loan with a balloon in a month with the worked-out payment.
 #[unsafe(no_mangle)]
@@ -44,8 +43,8 @@ pub extern "C" fn senyolanda_open_balloon_with_payment(
     ensures { (result, (counts.new, amounts.new)) ≡ told loan_numbers (and_then (read_terms «record».now) (λ (t : Terms). kind_opened_with (balloon month) t given)) (counts.old, amounts.old) }
 {
     match records::terms_record::read_terms(record) {
-        TermsRead::Refused(refusal) => refusal_result(refusal),
-        TermsRead::Given(terms) => {
+        Err(refusal) => refusal_result(refusal),
+        Ok(terms) => {
             let opening = mortgage::opening::open_balloon_with_payment(terms, month, given);
             put_loan(opening, counts, amounts)
         }

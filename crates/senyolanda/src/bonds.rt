@@ -1,49 +1,42 @@
 // Bonds: a bond comes as a kind 2 record.
 ghost use Rattle.std.specs.Prelude.{◌≡◌};
 ghost use Rattle.refusals.specs.Outcome.{judged};
-ghost use Rattle.refusals.specs.Answers.{verdict_outcome};
+ghost use Rattle.refusals.specs.Answers.{outcome};
 ghost use Rattle.bond.specs.Price.{price as price_at, dv01 as dv01_at, current_yield, zero_coupon_price};
 ghost use Rattle.bond.specs.Yield.{yield_to_maturity};
 ghost use Rattle.bond.specs.Durations.{macaulay_duration, modified_duration, convexity as convexity_at, price_change, macaulay_at_price, modified_at_price, convexity_at_price};
 ghost use Rattle.senyolanda.specs.Told.{told_number};
-ghost use Rattle.senyolanda.specs.Bonds.{uncoded_lines, bond_read, bond_in_outcome, of_bond, periods_per_year_of};
+ghost use Rattle.senyolanda.specs.Bonds.{uncoded_lines, bond_read, of_bond, periods_per_year_of};
 
 use crate::results::{ACCEPTED, put_number, refusal_result};
 use bond::Bond;
-use bond::codes::FrequencyRead;
-use records::{BondRead, BondRecord};
-use refusals::{Refusal, Verdict};
-
-#[derive(Clone, Copy)]
-pub(crate) enum BondIn {
-    Refused(Refusal),
-    Given(Bond),
-}
+use records::BondRecord;
+use refusals::{Cause, Refusal};
 
 // Lines 1, 7 and 9 of a bond whose frequency nobody knows.
-fn judge_uncoded(fields: BondRecord, beside: f64) -> Verdict
-    ensures { verdict_outcome result ≡ judged (uncoded_lines fields beside) tt }
+fn judge_uncoded(fields: BondRecord, beside: f64) -> Result<(), Refusal>
+    ensures { outcome result ≡ judged (uncoded_lines fields beside) tt }
 {
     let bad_maturity = curves::curve::bad_time(fields.maturity);
     bond::bonds::judge_numbers(fields.face, bad_maturity, fields.coupon, beside)
 }
 
 // The bond of a record that has one number beside it. A code outside its set waits for what else the bond is refused with.
-fn bond_in(bytes: &[u8], beside: f64) -> BondIn
-    ensures { bond_in_outcome result ≡ bond_read bytes.now beside }
+fn bond_in(bytes: &[u8], beside: f64) -> Result<Bond, Refusal>
+    ensures { outcome result ≡ bond_read bytes.now beside }
 {
     match records::bond_record::read_bond_uncoded(bytes) {
-        BondRead::Refused(refusal) => BondIn::Refused(refusal),
-        BondRead::Given(fields) => match bond::codes::frequency_of(fields.frequency) {
-            FrequencyRead::Given(frequency) => BondIn::Given(Bond {
+        Err(refusal) => Err(refusal),
+        Ok(fields) => match bond::codes::frequency_of(fields.frequency) {
+            Ok(frequency) => Ok(Bond {
                 face: fields.face,
                 coupon: fields.coupon,
                 maturity: fields.maturity,
                 frequency,
             }),
-            FrequencyRead::Refused(unknown) => match judge_uncoded(fields, beside) {
-                Verdict::Refused(refusal) => BondIn::Refused(refusal),
-                Verdict::Accepted => BondIn::Refused(unknown),
+            Err(unknown) => match judge_uncoded(fields, beside) {
+                Err(refusal) => Err(refusal),
+                Ok(()) => Err(unknown),
             },
         },
     }
@@ -55,8 +48,8 @@ pub extern "C" fn senyolanda_bond_price(record: &[u8], ytm: f64, price: &mut f64
     ensures { (result, price.new) ≡ told_number (of_bond «record».now ytm (price_at ytm)) price.old }
 {
     match bond_in(record, ytm) {
-        BondIn::Refused(refusal) => refusal_result(refusal),
-        BondIn::Given(bond) => put_number(bond::price::price(ytm, bond), price),
+        Err(refusal) => refusal_result(refusal),
+        Ok(bond) => put_number(bond::price::price(ytm, bond), price),
     }
 }
 
@@ -66,8 +59,8 @@ pub extern "C" fn senyolanda_bond_dv01(record: &[u8], ytm: f64, dv01: &mut f64) 
     ensures { (result, dv01.new) ≡ told_number (of_bond «record».now ytm (dv01_at ytm)) dv01.old }
 {
     match bond_in(record, ytm) {
-        BondIn::Refused(refusal) => refusal_result(refusal),
-        BondIn::Given(bond) => put_number(bond::price::dv01(ytm, bond), dv01),
+        Err(refusal) => refusal_result(refusal),
+        Ok(bond) => put_number(bond::price::dv01(ytm, bond), dv01),
     }
 }
 
@@ -81,8 +74,8 @@ pub extern "C" fn senyolanda_bond_current_yield(
     ensures { (result, current.new) ≡ told_number (of_bond «record».now market (current_yield market)) current.old }
 {
     match bond_in(record, market) {
-        BondIn::Refused(refusal) => refusal_result(refusal),
-        BondIn::Given(bond) => put_number(bond::price::current_yield(market, bond), current),
+        Err(refusal) => refusal_result(refusal),
+        Ok(bond) => put_number(bond::price::current_yield(market, bond), current),
     }
 }
 
@@ -96,8 +89,8 @@ pub extern "C" fn senyolanda_bond_yield_to_maturity(
     ensures { (result, ytm.new) ≡ told_number (of_bond «record».now market (yield_to_maturity market)) ytm.old }
 {
     match bond_in(record, market) {
-        BondIn::Refused(refusal) => refusal_result(refusal),
-        BondIn::Given(bond) => put_number(bond::yields::yield_to_maturity(market, bond), ytm),
+        Err(refusal) => refusal_result(refusal),
+        Ok(bond) => put_number(bond::yields::yield_to_maturity(market, bond), ytm),
     }
 }
 
@@ -110,8 +103,8 @@ pub extern "C" fn senyolanda_bond_macaulay_duration(
     ensures { (result, duration.new) ≡ told_number (of_bond «record».now ytm (macaulay_duration ytm)) duration.old }
 {
     match bond_in(record, ytm) {
-        BondIn::Refused(refusal) => refusal_result(refusal),
-        BondIn::Given(bond) => put_number(bond::durations::macaulay_duration(ytm, bond), duration),
+        Err(refusal) => refusal_result(refusal),
+        Ok(bond) => put_number(bond::durations::macaulay_duration(ytm, bond), duration),
     }
 }
 
@@ -124,8 +117,8 @@ pub extern "C" fn senyolanda_bond_modified_duration(
     ensures { (result, duration.new) ≡ told_number (of_bond «record».now ytm (modified_duration ytm)) duration.old }
 {
     match bond_in(record, ytm) {
-        BondIn::Refused(refusal) => refusal_result(refusal),
-        BondIn::Given(bond) => put_number(bond::durations::modified_duration(ytm, bond), duration),
+        Err(refusal) => refusal_result(refusal),
+        Ok(bond) => put_number(bond::durations::modified_duration(ytm, bond), duration),
     }
 }
 
@@ -134,8 +127,8 @@ pub extern "C" fn senyolanda_bond_convexity(record: &[u8], ytm: f64, convexity: 
     ensures { (result, convexity.new) ≡ told_number (of_bond «record».now ytm (convexity_at ytm)) convexity.old }
 {
     match bond_in(record, ytm) {
-        BondIn::Refused(refusal) => refusal_result(refusal),
-        BondIn::Given(bond) => put_number(bond::durations::convexity(ytm, bond), convexity),
+        Err(refusal) => refusal_result(refusal),
+        Ok(bond) => put_number(bond::durations::convexity(ytm, bond), convexity),
     }
 }
 
@@ -150,8 +143,8 @@ pub extern "C" fn senyolanda_bond_price_change(
     ensures { (result, change.new) ≡ told_number (of_bond «record».now ytm (price_change ytm delta)) change.old }
 {
     match bond_in(record, ytm) {
-        BondIn::Refused(refusal) => refusal_result(refusal),
-        BondIn::Given(bond) => {
+        Err(refusal) => refusal_result(refusal),
+        Ok(bond) => {
             put_number(
                 bond::durations::price_change_approximation(ytm, delta, bond),
                 change,
@@ -170,8 +163,8 @@ pub extern "C" fn senyolanda_bond_macaulay_duration_at_price(
     ensures { (result, duration.new) ≡ told_number (of_bond «record».now market (macaulay_at_price market)) duration.old }
 {
     match bond_in(record, market) {
-        BondIn::Refused(refusal) => refusal_result(refusal),
-        BondIn::Given(bond) => {
+        Err(refusal) => refusal_result(refusal),
+        Ok(bond) => {
             put_number(
                 bond::durations::macaulay_duration_at_price(market, bond),
                 duration,
@@ -189,8 +182,8 @@ pub extern "C" fn senyolanda_bond_modified_duration_at_price(
     ensures { (result, duration.new) ≡ told_number (of_bond «record».now market (modified_at_price market)) duration.old }
 {
     match bond_in(record, market) {
-        BondIn::Refused(refusal) => refusal_result(refusal),
-        BondIn::Given(bond) => {
+        Err(refusal) => refusal_result(refusal),
+        Ok(bond) => {
             put_number(
                 bond::durations::modified_duration_at_price(market, bond),
                 duration,
@@ -208,8 +201,8 @@ pub extern "C" fn senyolanda_bond_convexity_at_price(
     ensures { (result, convexity.new) ≡ told_number (of_bond «record».now market (convexity_at_price market)) convexity.old }
 {
     match bond_in(record, market) {
-        BondIn::Refused(refusal) => refusal_result(refusal),
-        BondIn::Given(bond) => {
+        Err(refusal) => refusal_result(refusal),
+        Ok(bond) => {
             put_number(bond::durations::convexity_at_price(market, bond), convexity)
         }
     }
@@ -229,11 +222,11 @@ pub extern "C" fn senyolanda_periods_per_year(frequency: u32, periods: &mut u32)
     ensures { (result, periods.new) ≡ told_number (periods_per_year_of frequency) periods.old }
 {
     if frequency > 3 {
-        return refusal_result(refusals::refuse(11));
+        return refusal_result(refusals::refuse(Cause::Record));
     }
     match bond::codes::frequency_of(frequency as u8) {
-        FrequencyRead::Refused(refusal) => refusal_result(refusal),
-        FrequencyRead::Given(given) => {
+        Err(refusal) => refusal_result(refusal),
+        Ok(given) => {
             *periods = bond::bonds::periods_per_year(given);
             ACCEPTED
         }

@@ -1,13 +1,14 @@
 // Dates as three numbers: day numbers, the days between two dates, a date so many months later.
 ghost use Rattle.std.specs.Prelude.{◌≡◌, false, ◌⊎◌};
 ghost use Rattle.dates.specs.Calendar.{is_date};
-ghost use Rattle.dates.specs.Answers.{day_number_of, date_numbered, actual_days_of, thirty_days_of, months_later_of, date_outcome};
+ghost use Rattle.refusals.specs.Answers.{outcome};
+ghost use Rattle.dates.specs.Answers.{day_number_of, date_numbered, actual_days_of, thirty_days_of, months_later_of};
 ghost use Rattle.senyolanda.specs.Told.{told, told_number};
 ghost use Rattle.senyolanda.specs.Dates.{date_of, date_numbers, dated_fraction_by};
 
 use crate::results::{ACCEPTED, put_count, put_number, refusal_result};
-use dates::{Date, DateAnswer};
-use swaps::day_counts::DayCountRead;
+use dates::Date;
+use refusals::{Cause, Refusal};
 
 // The numbers of a date: year, month, day.
 pub const DATE_NUMBERS: usize = 3;
@@ -42,12 +43,12 @@ fn no_date() -> Date
     }
 }
 
-fn put_date(answer: DateAnswer, date: &mut [u32; DATE_NUMBERS]) -> u64
-    ensures { (result, date.new) ≡ told date_numbers (date_outcome answer) date.old }
+fn put_date(answer: Result<Date, Refusal>, date: &mut [u32; DATE_NUMBERS]) -> u64
+    ensures { (result, date.new) ≡ told date_numbers (outcome answer) date.old }
 {
     match answer {
-        DateAnswer::Refused(refusal) => refusal_result(refusal),
-        DateAnswer::Given(given) => {
+        Err(refusal) => refusal_result(refusal),
+        Ok(given) => {
             *date = [given.year as u32, given.month as u32, given.day as u32];
             ACCEPTED
         }
@@ -133,13 +134,13 @@ pub extern "C" fn senyolanda_dated_fraction(
     ensures { (result, fraction.new) ≡ told_number (dated_fraction_by day_count (date_of first_year first_month first_day) (date_of second_year second_month second_day)) fraction.old }
 {
     if day_count > 2 {
-        return refusal_result(refusals::refuse(11));
+        return refusal_result(refusals::refuse(Cause::Record));
     }
     let first = date_of(first_year, first_month, first_day);
     let second = date_of(second_year, second_month, second_day);
     match swaps::day_counts::day_count_of(day_count as u8) {
-        DayCountRead::Refused(refusal) => refusal_result(refusal),
-        DayCountRead::Given(given) => {
+        Err(refusal) => refusal_result(refusal),
+        Ok(given) => {
             let answer = swaps::day_counts::dated_fraction(given, first, second);
             put_number(answer, fraction)
         }

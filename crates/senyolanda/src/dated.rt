@@ -8,6 +8,7 @@ ghost use Rattle.senyolanda.specs.Dated.{times_in, amounts_in};
 use crate::results::{put_number, refusal_result};
 use crate::spreads::{put_sensitivity, put_spread};
 use spread_analytics::units::BasisPoints;
+use refusals::Cause;
 
 // How many flows of so many numbers are looked at: one more than there may be shows that there are too many.
 fn looked_at(count: usize) -> usize
@@ -45,7 +46,7 @@ pub extern "C" fn senyolanda_dated_pv(
     ensures { (result, pv.new) ≡ told_number (pv_cash_flows (times_in flows.now) (amounts_in flows.now) tenors.now rates.now points) pv.old }
 {
     if flows.len() % 2 != 0 {
-        return refusal_result(refusals::refuse(4));
+        return refusal_result(refusals::refuse(Cause::Lengths));
     }
     let mut times = [0.0; 1201];
     let mut amounts = [0.0; 1201];
@@ -76,7 +77,7 @@ pub extern "C" fn senyolanda_dated_z_spread(
     ensures { (result, (points.new, found.new)) ≡ told spread_numbers (z_spread (times_in flows.now) (amounts_in flows.now) tenors.now rates.now market) (points.old, found.old) }
 {
     if flows.len() % 2 != 0 {
-        return refusal_result(refusals::refuse(4));
+        return refusal_result(refusals::refuse(Cause::Lengths));
     }
     let mut times = [0.0; 1201];
     let mut amounts = [0.0; 1201];
@@ -103,7 +104,7 @@ pub extern "C" fn senyolanda_dated_duration_convexity(
     ensures { (result, sensitivity.new) ≡ told sensitivity_numbers (duration_convexity (times_in flows.now) (amounts_in flows.now) tenors.now rates.now points) sensitivity.old }
 {
     if flows.len() % 2 != 0 {
-        return refusal_result(refusals::refuse(4));
+        return refusal_result(refusals::refuse(Cause::Lengths));
     }
     let mut times = [0.0; 1201];
     let mut amounts = [0.0; 1201];

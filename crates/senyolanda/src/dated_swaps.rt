@@ -3,16 +3,17 @@ ghost use Rattle.std.specs.Prelude.{◌≡◌};
 ghost use Rattle.swaps.specs.Valuation.{fixed_leg_pv, floating_leg_pv, swap_npv, par_swap_rate, swap_dv01, swap_duration, value_swap};
 ghost use Rattle.swaps.specs.declared.AnySwap.{AnySwap};
 ghost use Rattle.senyolanda.specs.Told.{told, told_number};
-ghost use Rattle.senyolanda.specs.Swaps.{dated_by, dated_swap_read, swap_in_outcome, of_dated_swap, is_true, valuation_numbers};
+ghost use Rattle.refusals.specs.Answers.{outcome};
+ghost use Rattle.senyolanda.specs.Swaps.{dated_by, dated_swap_read, of_dated_swap, is_true, valuation_numbers};
 
 use crate::swap_values::{
     SwapIn, put_duration, put_dv01, put_fixed_leg, put_floating_leg, put_npv, put_par_rate,
     put_values,
 };
-use records::{DatedSwapRead, DatedSwapRecord};
-use refusals::Verdict;
-use swaps::day_counts::{DayCount, DayCountRead};
+use records::DatedSwapRecord;
+use swaps::day_counts::DayCount;
 use swaps::{AnySwap, DatedSwap};
+use refusals::Refusal;
 
 fn dated_by(day_count: DayCount, fields: DatedSwapRecord) -> DatedSwap
     ensures { result ≡ dated_by day_count fields }
@@ -30,20 +31,20 @@ fn dated_by(day_count: DayCount, fields: DatedSwapRecord) -> DatedSwap
 }
 
 // The swap of a record, over a curve. A code outside its set waits for what else the swap and the curve are refused with, but goes before its dates.
-fn dated_swap_in(bytes: &[u8], tenors: &[f64], zeros: &[f64]) -> SwapIn
-    ensures { swap_in_outcome result ≡ dated_swap_read bytes.now tenors.now zeros.now }
+fn dated_swap_in(bytes: &[u8], tenors: &[f64], zeros: &[f64]) -> Result<AnySwap, Refusal>
+    ensures { outcome result ≡ dated_swap_read bytes.now tenors.now zeros.now }
 {
     match records::dated_swap_record::read_dated_swap_uncoded(bytes) {
-        DatedSwapRead::Refused(refusal) => SwapIn::Refused(refusal),
-        DatedSwapRead::Given(fields) => match swaps::day_counts::day_count_of(fields.count) {
-            DayCountRead::Given(day_count) => {
-                SwapIn::Given(AnySwap::Dated(dated_by(day_count, fields)))
+        Err(refusal) => Err(refusal),
+        Ok(fields) => match swaps::day_counts::day_count_of(fields.count) {
+            Ok(day_count) => {
+                Ok(AnySwap::Dated(dated_by(day_count, fields)))
             }
-            DayCountRead::Refused(unknown) => {
+            Err(unknown) => {
                 let swap = dated_by(DayCount::Thirty360, fields);
                 match swaps::judging::judge_but_dates(swap, tenors, zeros) {
-                    Verdict::Refused(refusal) => SwapIn::Refused(refusal),
-                    Verdict::Accepted => SwapIn::Refused(unknown),
+                    Err(refusal) => Err(refusal),
+                    Ok(()) => Err(unknown),
                 }
             }
         },

@@ -15,7 +15,6 @@ use crate::kinds::{NO_INDEX, draw_kind, draw_kind_with_years, next_kind_row, ope
 use crate::loans::{AMOUNTS, COUNTS, put_loan};
 use crate::results::refusal_result;
 use mortgage::kinds::Kind;
-use records::TermsRead;
 
 // Opens a loan with so many months of interest alone with the worked-out payment.
 #[unsafe(no_mangle)]
@@ -48,8 +47,8 @@ pub extern "C" fn senyolanda_open_interest_only_with_payment(
     ensures { (result, (counts.new, amounts.new)) ≡ told loan_numbers (and_then (read_terms «record».now) (λ (t : Terms). kind_opened_with (interest_only months) t given)) (counts.old, amounts.old) }
 {
     match records::terms_record::read_terms(record) {
-        TermsRead::Refused(refusal) => refusal_result(refusal),
-        TermsRead::Given(terms) => {
+        Err(refusal) => refusal_result(refusal),
+        Ok(terms) => {
             let opening = mortgage::opening::open_interest_only_with_payment(terms, months, given);
             put_loan(opening, counts, amounts)
         }

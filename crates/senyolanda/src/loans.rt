@@ -3,25 +3,21 @@ ghost use Rattle.std.specs.Prelude.{◌≡◌, Float, List};
 ghost use Rattle.refusals.specs.Outcome.{and_then};
 ghost use Rattle.records.specs.declared.Terms.{Terms};
 ghost use Rattle.records.specs.Kinds.{read_terms};
-ghost use Rattle.mortgage.specs.Payment.{monthly_payment, opened, opened_with, opening_outcome};
-ghost use Rattle.mortgage.specs.Draws.{drawing_outcome};
+ghost use Rattle.refusals.specs.Answers.{outcome};
+ghost use Rattle.mortgage.specs.Payment.{monthly_payment, opened, opened_with};
 ghost use Rattle.mortgage.specs.Rows.{next_outcome};
 ghost use Rattle.mortgage.specs.Kinds.{way_of};
 ghost use Rattle.mortgage.specs.Level.{drawn, filled, next_row};
 ghost use Rattle.mortgage.specs.Totals.{total_interest, remaining_balance, loan_to_value};
-ghost use Rattle.mortgage.specs.Savings.{prepayment_savings, savings_outcome};
+ghost use Rattle.mortgage.specs.Savings.{prepayment_savings};
 ghost use Rattle.listing.specs.Listing.{listed, listed_size, lines_over};
 ghost use Rattle.senyolanda.specs.Told.{told, told_number};
 ghost use Rattle.senyolanda.specs.Loans.{loan_in, loan_numbers, portion_numbers, kind_next_numbers, next_numbers, savings_numbers, breakeven_of};
 
 use crate::results::{ACCEPTED, put_count, put_number, refusal_result};
 use mortgage::Loan;
-use mortgage::draws::Drawing;
 use mortgage::kinds::Kind;
-use mortgage::opening::Opening;
 use mortgage::rows::Next;
-use mortgage::savings::SavingsAnswer;
-use records::TermsRead;
 use refusals::Refusal;
 
 #[unsafe(no_mangle)]
@@ -29,8 +25,8 @@ pub extern "C" fn senyolanda_monthly_payment(record: &[u8], payment: &mut f64) -
     ensures { (result, payment.new) ≡ told_number (and_then (read_terms «record».now) monthly_payment) payment.old }
 {
     match records::terms_record::read_terms(record) {
-        TermsRead::Refused(refusal) => refusal_result(refusal),
-        TermsRead::Given(terms) => put_number(mortgage::payment::monthly_payment(terms), payment),
+        Err(refusal) => refusal_result(refusal),
+        Ok(terms) => put_number(mortgage::payment::monthly_payment(terms), payment),
     }
 }
 
@@ -61,15 +57,15 @@ fn hand_back(loan: Loan, counts: &mut [u32; COUNTS], amounts: &mut [f64; AMOUNTS
 
 // A loan that was opened.
 pub(crate) fn put_loan(
-    opening: Opening,
+    opening: Result<Loan, Refusal>,
     counts: &mut [u32; COUNTS],
     amounts: &mut [f64; AMOUNTS],
 ) -> u64
-    ensures { (result, (counts.new, amounts.new)) ≡ told loan_numbers (opening_outcome opening) (counts.old, amounts.old) }
+    ensures { (result, (counts.new, amounts.new)) ≡ told loan_numbers (outcome opening) (counts.old, amounts.old) }
 {
     match opening {
-        Opening::Refused(refusal) => refusal_result(refusal),
-        Opening::Open(loan) => {
+        Err(refusal) => refusal_result(refusal),
+        Ok(loan) => {
             hand_back(loan, counts, amounts);
             ACCEPTED
         }
@@ -86,8 +82,8 @@ pub extern "C" fn senyolanda_open(
     ensures { (result, (counts.new, amounts.new)) ≡ told loan_numbers (and_then (read_terms «record».now) opened) (counts.old, amounts.old) }
 {
     match records::terms_record::read_terms(record) {
-        TermsRead::Refused(refusal) => refusal_result(refusal),
-        TermsRead::Given(terms) => put_loan(mortgage::opening::open(terms), counts, amounts),
+        Err(refusal) => refusal_result(refusal),
+        Ok(terms) => put_loan(mortgage::opening::open(terms), counts, amounts),
     }
 }
 
@@ -102,8 +98,8 @@ pub extern "C" fn senyolanda_open_with_payment(
     ensures { (result, (counts.new, amounts.new)) ≡ told loan_numbers (and_then (read_terms «record».now) (λ (t : Terms). opened_with t given)) (counts.old, amounts.old) }
 {
     match records::terms_record::read_terms(record) {
-        TermsRead::Refused(refusal) => refusal_result(refusal),
-        TermsRead::Given(terms) => {
+        Err(refusal) => refusal_result(refusal),
+        Ok(terms) => {
             let opening = mortgage::opening::open_with_payment(terms, given);
             put_loan(opening, counts, amounts)
         }
@@ -112,17 +108,17 @@ pub extern "C" fn senyolanda_open_with_payment(
 
 // What a draw hands back.
 pub(crate) fn put_portion(
-    drawing: Drawing,
+    drawing: Result<Portion, Refusal>,
     counts: &mut [u32; COUNTS],
     amounts: &mut [f64; AMOUNTS],
     written: &mut u32,
     owed: &mut u32,
 ) -> u64
-    ensures { (result, (counts.new, amounts.new, written.new, owed.new)) ≡ told portion_numbers (drawing_outcome drawing) (counts.old, amounts.old, written.old, owed.old) }
+    ensures { (result, (counts.new, amounts.new, written.new, owed.new)) ≡ told portion_numbers (outcome drawing) (counts.old, amounts.old, written.old, owed.old) }
 {
     match drawing {
-        Drawing::Refused(refusal) => refusal_result(refusal),
-        Drawing::Drawn(portion) => {
+        Err(refusal) => refusal_result(refusal),
+        Ok(portion) => {
             hand_back(portion.loan, counts, amounts);
             *written = portion.written;
             *owed = portion.owed;
@@ -196,8 +192,8 @@ pub extern "C" fn senyolanda_total_interest(record: &[u8], interest: &mut f64) -
     ensures { (result, interest.new) ≡ told_number (and_then (read_terms «record».now) total_interest) interest.old }
 {
     match records::terms_record::read_terms(record) {
-        TermsRead::Refused(refusal) => refusal_result(refusal),
-        TermsRead::Given(terms) => put_number(mortgage::totals::total_interest(terms), interest),
+        Err(refusal) => refusal_result(refusal),
+        Ok(terms) => put_number(mortgage::totals::total_interest(terms), interest),
     }
 }
 
@@ -207,8 +203,8 @@ pub extern "C" fn senyolanda_remaining_balance(record: &[u8], months: u32, balan
     ensures { (result, balance.new) ≡ told_number (and_then (read_terms «record».now) (λ (t : Terms). remaining_balance t months)) balance.old }
 {
     match records::terms_record::read_terms(record) {
-        TermsRead::Refused(refusal) => refusal_result(refusal),
-        TermsRead::Given(terms) => {
+        Err(refusal) => refusal_result(refusal),
+        Ok(terms) => {
             put_number(mortgage::totals::remaining_balance(terms, months), balance)
         }
     }
@@ -220,17 +216,17 @@ pub extern "C" fn senyolanda_ltv(record: &[u8], value: f64, ratio: &mut f64) -> 
     ensures { (result, ratio.new) ≡ told_number (and_then (read_terms «record».now) (λ (t : Terms). loan_to_value t value)) ratio.old }
 {
     match records::terms_record::read_terms(record) {
-        TermsRead::Refused(refusal) => refusal_result(refusal),
-        TermsRead::Given(terms) => put_number(mortgage::totals::ltv(terms, value), ratio),
+        Err(refusal) => refusal_result(refusal),
+        Ok(terms) => put_number(mortgage::totals::ltv(terms, value), ratio),
     }
 }
 
-fn put_savings(answer: SavingsAnswer, months: &mut u32, interest: &mut f64) -> u64
-    ensures { (result, (months.new, interest.new)) ≡ told savings_numbers (savings_outcome answer) (months.old, interest.old) }
+fn put_savings(answer: Result<Savings, Refusal>, months: &mut u32, interest: &mut f64) -> u64
+    ensures { (result, (months.new, interest.new)) ≡ told savings_numbers (outcome answer) (months.old, interest.old) }
 {
     match answer {
-        SavingsAnswer::Refused(refusal) => refusal_result(refusal),
-        SavingsAnswer::Saved(savings) => {
+        Err(refusal) => refusal_result(refusal),
+        Ok(savings) => {
             *months = savings.months;
             *interest = savings.interest;
             ACCEPTED
@@ -249,8 +245,8 @@ pub extern "C" fn senyolanda_prepayment_savings(
     ensures { (result, (months.new, interest.new)) ≡ told savings_numbers (and_then (read_terms «record».now) (λ (t : Terms). prepayment_savings t extra)) (months.old, interest.old) }
 {
     match records::terms_record::read_terms(record) {
-        TermsRead::Refused(refusal) => refusal_result(refusal),
-        TermsRead::Given(terms) => {
+        Err(refusal) => refusal_result(refusal),
+        Ok(terms) => {
             put_savings(
                 mortgage::savings::prepayment_savings(terms, extra),
                 months,
@@ -282,10 +278,10 @@ pub extern "C" fn senyolanda_refinance_breakeven(
     ensures { (result, month.new) ≡ told_number (breakeven_of old_record.now new_record.now cost elapsed) month.old }
 {
     match records::terms_record::read_terms(old_record) {
-        TermsRead::Refused(refusal) => refusal_result(at_place(refusal, 0)),
-        TermsRead::Given(old) => match records::terms_record::read_terms(new_record) {
-            TermsRead::Refused(refusal) => refusal_result(at_place(refusal, 1)),
-            TermsRead::Given(new) => {
+        Err(refusal) => refusal_result(at_place(refusal, 0)),
+        Ok(old) => match records::terms_record::read_terms(new_record) {
+            Err(refusal) => refusal_result(at_place(refusal, 1)),
+            Ok(new) => {
                 let found = mortgage::breakeven::refinance_breakeven(old, new, cost, elapsed);
                 put_count(found, month)
             }

@@ -6,7 +6,6 @@ ghost use Rattle.senyolanda.specs.Told.{always, told, told_number};
 ghost use Rattle.senyolanda.specs.Models.{model_of, model_numbers, metrics_numbers};
 
 use crate::results::{ACCEPTED, put_number, refusal_result};
-use yield_curve::fitting::FitAnswer;
 use yield_curve::nelson_siegel::NelsonSiegel;
 
 fn model_of(numbers: &[f64; 4]) -> NelsonSiegel
@@ -30,8 +29,8 @@ pub extern "C" fn senyolanda_nelson_siegel_fit(
     ensures { (result, model.new) ≡ told model_numbers (fit times.now rates.now) model.old }
 {
     match yield_curve::fitting::fit(times, rates) {
-        FitAnswer::Refused(refusal) => refusal_result(refusal),
-        FitAnswer::Given(fitted) => {
+        Err(refusal) => refusal_result(refusal),
+        Ok(fitted) => {
             *model = [fitted.beta0, fitted.beta1, fitted.beta2, fitted.decay];
             ACCEPTED
         }

@@ -7,46 +7,40 @@ ghost use Rattle.pool.specs.Flows.{too_little};
 ghost use Rattle.pool.specs.Price.{pool_price, pool_duration, pool_convexity};
 ghost use Rattle.pool.specs.Totals.{pool_totals};
 ghost use Rattle.senyolanda.specs.Told.{told, told_number};
-ghost use Rattle.senyolanda.specs.Pools.{speed_of, speed_for, speed_in_outcome, smm_of, months_of, room_after, totals_numbers};
+ghost use Rattle.refusals.specs.Answers.{outcome};
+ghost use Rattle.senyolanda.specs.Pools.{speed_of, speed_for, smm_of, months_of, room_after, totals_numbers};
 
 use crate::results::{ACCEPTED, put_count, put_number, refusal_result};
 use pool::speed::Speed;
-use pool::totals::TotalsAnswer;
-use refusals::{Refusal, Verdict};
-
-#[derive(Clone, Copy)]
-pub(crate) enum SpeedIn {
-    Refused(Refusal),
-    Given(Speed),
-}
+use refusals::{Cause, Refusal};
 
 // The speed of a code: 0 CPR, 1 PSA, 2 a history.
-fn speed_of(code: u32, number: f64) -> SpeedIn
-    ensures { speed_in_outcome result ≡ speed_of code number }
+fn speed_of(code: u32, number: f64) -> Result<Speed, Refusal>
+    ensures { outcome result ≡ speed_of code number }
 {
     match code {
-        0 => SpeedIn::Given(Speed::Cpr(number)),
-        1 => SpeedIn::Given(Speed::Psa(number)),
-        2 => SpeedIn::Given(Speed::History),
-        _ => SpeedIn::Refused(refusals::refuse(11)),
+        0 => Ok(Speed::Cpr(number)),
+        1 => Ok(Speed::Psa(number)),
+        2 => Ok(Speed::History),
+        _ => Err(refusals::refuse(Cause::Record)),
     }
 }
 
 // The speed that a pool is asked with. A code outside its set waits for what else the pool is refused with, but goes before a bad record: both are 11, and a
 // single argument counts before a list item.
-fn speed_for(records: &[u8], asked: bool, room: usize, code: u32, number: f64) -> SpeedIn
-    ensures { speed_in_outcome result ≡ speed_for records.now (asked && too_little records.now room) code number }
+fn speed_for(records: &[u8], asked: bool, room: usize, code: u32, number: f64) -> Result<Speed, Refusal>
+    ensures { outcome result ≡ speed_for records.now (asked && too_little records.now room) code number }
 {
     match speed_of(code, number) {
-        SpeedIn::Given(speed) => SpeedIn::Given(speed),
-        SpeedIn::Refused(unknown) => match pool::loans::judge_pool(records, asked, room) {
-            Verdict::Refused(refusal) => {
+        Ok(speed) => Ok(speed),
+        Err(unknown) => match pool::loans::judge_pool(records, asked, room) {
+            Err(refusal) => {
                 if refusal.number == 11 {
-                    return SpeedIn::Refused(unknown);
+                    return Err(unknown);
                 }
-                SpeedIn::Refused(refusal)
+                Err(refusal)
             }
-            Verdict::Accepted => SpeedIn::Refused(unknown),
+            Ok(()) => Err(unknown),
         },
     }
 }
@@ -63,8 +57,8 @@ pub extern "C" fn senyolanda_monthly_smm(
     ensures { (result, smm.new) ≡ told_number (smm_of speed number history.now month) smm.old }
 {
     match speed_of(speed, number) {
-        SpeedIn::Refused(refusal) => refusal_result(refusal),
-        SpeedIn::Given(given) => {
+        Err(refusal) => refusal_result(refusal),
+        Ok(given) => {
             *smm = pool::speed::monthly_smm(given, history, month);
             ACCEPTED
         }
@@ -85,8 +79,8 @@ pub extern "C" fn senyolanda_pool_cash_flows(
     ensures room_after { room.new ≡ room_after records.now speed number history.now room.old }
 {
     match speed_for(records, true, room.len(), speed, number) {
-        SpeedIn::Refused(refusal) => refusal_result(refusal),
-        SpeedIn::Given(given) => {
+        Err(refusal) => refusal_result(refusal),
+        Ok(given) => {
             put_count(
                 pool::flows::cash_flows(records, given, history, room),
                 months,
@@ -108,8 +102,8 @@ pub extern "C" fn senyolanda_pool_price(
     ensures { (result, price.new) ≡ told_number (and_then (speed_for records.now false speed number) (λ (s : Speed). placed (pool_price records.now s history.now rate))) price.old }
 {
     match speed_for(records, false, 0, speed, number) {
-        SpeedIn::Refused(refusal) => refusal_result(refusal),
-        SpeedIn::Given(given) => {
+        Err(refusal) => refusal_result(refusal),
+        Ok(given) => {
             put_number(pool::price::price(records, given, history, rate), price)
         }
     }
@@ -127,8 +121,8 @@ pub extern "C" fn senyolanda_pool_duration(
     ensures { (result, duration.new) ≡ told_number (and_then (speed_for records.now false speed number) (λ (s : Speed). placed (pool_duration records.now s history.now rate))) duration.old }
 {
     match speed_for(records, false, 0, speed, number) {
-        SpeedIn::Refused(refusal) => refusal_result(refusal),
-        SpeedIn::Given(given) => {
+        Err(refusal) => refusal_result(refusal),
+        Ok(given) => {
             put_number(
                 pool::price::duration(records, given, history, rate),
                 duration,
@@ -149,8 +143,8 @@ pub extern "C" fn senyolanda_pool_convexity(
     ensures { (result, convexity.new) ≡ told_number (and_then (speed_for records.now false speed number) (λ (s : Speed). placed (pool_convexity records.now s history.now rate))) convexity.old }
 {
     match speed_for(records, false, 0, speed, number) {
-        SpeedIn::Refused(refusal) => refusal_result(refusal),
-        SpeedIn::Given(given) => {
+        Err(refusal) => refusal_result(refusal),
+        Ok(given) => {
             put_number(
                 pool::price::convexity(records, given, history, rate),
                 convexity,
@@ -165,8 +159,8 @@ pub extern "C" fn senyolanda_pool_totals(records: &[u8], totals: &mut [f64; 3]) 
     ensures { (result, totals.new) ≡ told totals_numbers (placed (pool_totals records.now)) totals.old }
 {
     match pool::totals::pool_totals(records) {
-        TotalsAnswer::Refused(refusal) => refusal_result(refusal),
-        TotalsAnswer::Given(sums) => {
+        Err(refusal) => refusal_result(refusal),
+        Ok(sums) => {
             *totals = [sums.balance, sums.coupon, sums.maturity];
             ACCEPTED
         }

@@ -12,6 +12,7 @@ ghost use Rattle.senyolanda.specs.Swaps.{swap_numbers, dated_swap_numbers};
 use crate::date_counts::DATE_NUMBERS;
 use crate::results::{ACCEPTED, refusal_result};
 use dates::Date;
+use refusals::Cause;
 use records::{
     BondRead, BondRecord, DatedSwapRead, DatedSwapRecord, Row, RowRead, SwapRead, SwapRecord,
     Terms, TermsRead,
@@ -27,8 +28,8 @@ pub extern "C" fn senyolanda_read_loan(
     ensures { (result, (principal.new, rate.new, term.new)) ≡ told terms_numbers (read_terms «record».now) (principal.old, rate.old, term.old) }
 {
     match records::terms_record::read_terms(record) {
-        TermsRead::Refused(refusal) => refusal_result(refusal),
-        TermsRead::Given(terms) => {
+        Err(refusal) => refusal_result(refusal),
+        Ok(terms) => {
             *principal = terms.principal;
             *rate = terms.rate;
             *term = terms.term;
@@ -66,8 +67,8 @@ pub extern "C" fn senyolanda_read_bond(
     ensures { (result, (face.new, coupon.new, maturity.new, frequency.new)) ≡ told bond_numbers (read_bond «record».now) (face.old, coupon.old, maturity.old, frequency.old) }
 {
     match records::bond_record::read_bond(record) {
-        BondRead::Refused(refusal) => refusal_result(refusal),
-        BondRead::Given(bond) => {
+        Err(refusal) => refusal_result(refusal),
+        Ok(bond) => {
             *face = bond.face;
             *coupon = bond.coupon;
             *maturity = bond.maturity;
@@ -89,7 +90,7 @@ pub extern "C" fn senyolanda_write_bond(
     ensures { (result, «record».new) ≡ told bond_bytes (judged (line 11 (bad_code 3 frequency) ∷ []) (record { face = face; coupon = coupon; maturity = maturity; frequency = frequency })) «record».old }
 {
     if frequency > 3 {
-        return refusal_result(refusals::refuse(11));
+        return refusal_result(refusals::refuse(Cause::Record));
     }
     let bond = BondRecord {
         face,
@@ -113,8 +114,8 @@ pub extern "C" fn senyolanda_read_row(
     ensures { (result, (month.new, payment.new, principal.new, interest.new, balance.new)) ≡ told row_numbers (read_row «record».now) (month.old, payment.old, principal.old, interest.old, balance.old) }
 {
     match records::row_record::read_row(record) {
-        RowRead::Refused(refusal) => refusal_result(refusal),
-        RowRead::Given(row) => {
+        Err(refusal) => refusal_result(refusal),
+        Ok(row) => {
             *month = row.month;
             *payment = row.payment;
             *principal = row.principal;
@@ -159,8 +160,8 @@ pub extern "C" fn senyolanda_read_swap(
     ensures { (result, (notional.new, rate.new, tenor.new, frequency.new, day_count.new)) ≡ told swap_numbers (read_swap «record».now) (notional.old, rate.old, tenor.old, frequency.old, day_count.old) }
 {
     match records::swap_record::read_swap(record) {
-        SwapRead::Refused(refusal) => refusal_result(refusal),
-        SwapRead::Given(swap) => {
+        Err(refusal) => refusal_result(refusal),
+        Ok(swap) => {
             *notional = swap.notional;
             *rate = swap.rate;
             *tenor = swap.tenor;
@@ -184,7 +185,7 @@ pub extern "C" fn senyolanda_write_swap(
     ensures { (result, «record».new) ≡ told swap_bytes (judged (line 11 (bad_code 2 day_count) ∷ []) (record { notional = notional; rate = rate; tenor = tenor; frequency = frequency; count = day_count })) «record».old }
 {
     if day_count > 2 {
-        return refusal_result(refusals::refuse(11));
+        return refusal_result(refusals::refuse(Cause::Record));
     }
     let swap = SwapRecord {
         notional,
@@ -211,8 +212,8 @@ pub extern "C" fn senyolanda_read_dated_swap(
     ensures { (result, (notional.new, rate.new, tenor.new, frequency.new, first.new, second.new, day_count.new)) ≡ told dated_swap_numbers (read_dated_swap «record».now) (notional.old, rate.old, tenor.old, frequency.old, first.old, second.old, day_count.old) }
 {
     match records::dated_swap_record::read_dated_swap(record) {
-        DatedSwapRead::Refused(refusal) => refusal_result(refusal),
-        DatedSwapRead::Given(swap) => {
+        Err(refusal) => refusal_result(refusal),
+        Ok(swap) => {
             let from = swap.first;
             let to = swap.second;
             *notional = swap.notional;
@@ -259,13 +260,13 @@ pub extern "C" fn senyolanda_write_dated_swap(
     ensures { (result, «record».new) ≡ told dated_swap_bytes (judged (written_lines day_count (date_of first_year first_month first_day) (date_of second_year second_month second_day)) (record { notional = notional; rate = rate; tenor = tenor; frequency = frequency; first = date_of first_year first_month first_day; second = date_of second_year second_month second_day; count = day_count })) «record».old }
 {
     if day_count > 2 {
-        return refusal_result(refusals::refuse(11));
+        return refusal_result(refusals::refuse(Cause::Record));
     }
     if too_large(first_year, first_month, first_day) {
-        return refusal_result(refusals::refuse(15));
+        return refusal_result(refusals::refuse(Cause::Date));
     }
     if too_large(second_year, second_month, second_day) {
-        return refusal_result(refusals::refuse(15));
+        return refusal_result(refusals::refuse(Cause::Date));
     }
     let swap = DatedSwapRecord {
         notional,

@@ -3,13 +3,15 @@ ghost use Rattle.std.specs.Prelude.{◌≡◌};
 ghost use Rattle.spread_analytics.specs.Units.{as_decimal};
 ghost use Rattle.spread_analytics.specs.Curves.{rate_at, discount_factor, forward_rate};
 ghost use Rattle.spread_analytics.specs.Flows.{bond_cash_flows, flow_time, flow_amount, column_in};
-ghost use Rattle.spread_analytics.specs.Spread.{pv_cash_flows, z_spread, duration_convexity, spread_outcome, sensitivity_outcome};
+ghost use Rattle.refusals.specs.Answers.{outcome};
+ghost use Rattle.spread_analytics.specs.Spread.{pv_cash_flows, z_spread, duration_convexity, spread_outcome};
 ghost use Rattle.senyolanda.specs.Told.{always, told, told_number};
 ghost use Rattle.senyolanda.specs.Spreads.{spread_numbers, sensitivity_numbers};
 
 use crate::results::{ACCEPTED, put_count, put_number, refusal_result};
-use spread_analytics::spread::{SensitivityAnswer, SpreadAnswer};
+use spread_analytics::spread::SpreadAnswer;
 use spread_analytics::units::BasisPoints;
+use refusals::Refusal;
 
 // So many basis points, as a decimal rate.
 #[unsafe(no_mangle)]
@@ -120,12 +122,12 @@ pub(crate) fn put_spread(answer: SpreadAnswer, points: &mut f64, found: &mut u32
     }
 }
 
-pub(crate) fn put_sensitivity(answer: SensitivityAnswer, sensitivity: &mut [f64; 2]) -> u64
-    ensures { (result, sensitivity.new) ≡ told sensitivity_numbers (sensitivity_outcome answer) sensitivity.old }
+pub(crate) fn put_sensitivity(answer: Result<Sensitivity, Refusal>, sensitivity: &mut [f64; 2]) -> u64
+    ensures { (result, sensitivity.new) ≡ told sensitivity_numbers (outcome answer) sensitivity.old }
 {
     match answer {
-        SensitivityAnswer::Refused(refusal) => refusal_result(refusal),
-        SensitivityAnswer::Given(given) => {
+        Err(refusal) => refusal_result(refusal),
+        Ok(given) => {
             *sensitivity = [given.duration, given.convexity];
             ACCEPTED
         }

@@ -2,24 +2,18 @@
 ghost use Rattle.std.specs.Prelude.{◌≡◌, ◌≤◌, ◌++◌, length, drop};
 ghost use Rattle.swaps.specs.Discount.{rate_at, discount_factor};
 ghost use Rattle.swaps.specs.Bootstrap.{from_par_rates};
-ghost use Rattle.swaps.specs.Valuation.{fixed_leg_pv, floating_leg_pv, swap_npv, par_swap_rate, swap_dv01, swap_duration, value_swap, valuation_outcome};
+ghost use Rattle.refusals.specs.Answers.{outcome};
+ghost use Rattle.swaps.specs.Valuation.{fixed_leg_pv, floating_leg_pv, swap_npv, par_swap_rate, swap_dv01, swap_duration, value_swap};
 ghost use Rattle.refusals.specs.Outcome.{and_then};
 ghost use Rattle.swaps.specs.declared.AnySwap.{AnySwap};
 ghost use Rattle.senyolanda.specs.Told.{told, told_number};
-ghost use Rattle.senyolanda.specs.Swaps.{counted_by, swap_read, swap_in_outcome, of_swap, is_true, fraction_of, valuation_numbers, zeros_over};
+ghost use Rattle.senyolanda.specs.Swaps.{counted_by, swap_read, of_swap, is_true, fraction_of, valuation_numbers, zeros_over};
 
 use crate::results::{ACCEPTED, put_number, refusal_result};
-use records::{SwapRead, SwapRecord};
-use refusals::{Refusal, Verdict};
-use swaps::day_counts::{DayCount, DayCountRead};
-use swaps::valuation::ValuationAnswer;
+use records::SwapRecord;
+use refusals::{Cause, Refusal};
+use swaps::day_counts::DayCount;
 use swaps::{AnySwap, Swap};
-
-#[derive(Clone, Copy)]
-pub(crate) enum SwapIn {
-    Refused(Refusal),
-    Given(AnySwap),
-}
 
 fn counted_by(day_count: DayCount, fields: SwapRecord) -> Swap
     ensures { result ≡ counted_by day_count fields }
@@ -34,20 +28,20 @@ fn counted_by(day_count: DayCount, fields: SwapRecord) -> Swap
 }
 
 // The swap of a record, over a curve. A code outside its set waits for what else the swap and the curve are refused with, which no day count changes.
-fn swap_in(bytes: &[u8], tenors: &[f64], zeros: &[f64]) -> SwapIn
-    ensures { swap_in_outcome result ≡ swap_read bytes.now tenors.now zeros.now }
+fn swap_in(bytes: &[u8], tenors: &[f64], zeros: &[f64]) -> Result<AnySwap, Refusal>
+    ensures { outcome result ≡ swap_read bytes.now tenors.now zeros.now }
 {
     match records::swap_record::read_swap_uncoded(bytes) {
-        SwapRead::Refused(refusal) => SwapIn::Refused(refusal),
-        SwapRead::Given(fields) => match swaps::day_counts::day_count_of(fields.count) {
-            DayCountRead::Given(day_count) => {
-                SwapIn::Given(AnySwap::Undated(counted_by(day_count, fields)))
+        Err(refusal) => Err(refusal),
+        Ok(fields) => match swaps::day_counts::day_count_of(fields.count) {
+            Ok(day_count) => {
+                Ok(AnySwap::Undated(counted_by(day_count, fields)))
             }
-            DayCountRead::Refused(unknown) => {
+            Err(unknown) => {
                 let swap = counted_by(DayCount::Thirty360, fields);
                 match swaps::judging::judge_swap(swap, tenors, zeros) {
-                    Verdict::Refused(refusal) => SwapIn::Refused(refusal),
-                    Verdict::Accepted => SwapIn::Refused(unknown),
+                    Err(refusal) => Err(refusal),
+                    Ok(()) => Err(unknown),
                 }
             }
         },
@@ -64,11 +58,11 @@ pub extern "C" fn senyolanda_day_count_fraction(
     ensures { (result, fraction.new) ≡ told_number (fraction_of day_count days) fraction.old }
 {
     if day_count > 2 {
-        return refusal_result(refusals::refuse(11));
+        return refusal_result(refusals::refuse(Cause::Record));
     }
     match swaps::day_counts::day_count_of(day_count as u8) {
-        DayCountRead::Refused(refusal) => refusal_result(refusal),
-        DayCountRead::Given(given) => {
+        Err(refusal) => refusal_result(refusal),
+        Ok(given) => {
             *fraction = swaps::day_counts::day_count_fraction(given, days);
             ACCEPTED
         }
@@ -100,8 +94,8 @@ pub extern "C" fn senyolanda_bootstrap(
     let verdict = found.verdict;
     let curve = found.curve;
     match verdict {
-        Verdict::Refused(refusal) => refusal_result(refusal),
-        Verdict::Accepted => {
+        Err(refusal) => refusal_result(refusal),
+        Ok(()) => {
             let zeros = curve.zeros;
             copy_over(&zeros[..curve.knots], zero_rates);
             ACCEPTED
@@ -133,12 +127,12 @@ pub extern "C" fn senyolanda_discount_curve_factor(
     put_number(swaps::discount::discount_factor(tenors, zeros, t), factor)
 }
 
-fn put_valuation(answer: ValuationAnswer, valuation: &mut [f64; 6]) -> u64
-    ensures { (result, valuation.new) ≡ told valuation_numbers (valuation_outcome answer) valuation.old }
+fn put_valuation(answer: Result<SwapValuation, Refusal>, valuation: &mut [f64; 6]) -> u64
+    ensures { (result, valuation.new) ≡ told valuation_numbers (outcome answer) valuation.old }
 {
     match answer {
-        ValuationAnswer::Refused(refusal) => refusal_result(refusal),
-        ValuationAnswer::Given(value) => {
+        Err(refusal) => refusal_result(refusal),
+        Ok(value) => {
             *valuation = [
                 value.npv,
                 value.fixed_pv,
@@ -153,24 +147,24 @@ fn put_valuation(answer: ValuationAnswer, valuation: &mut [f64; 6]) -> u64
 }
 
 // ---- what is asked of a swap of either kind that was read
-pub(crate) fn put_fixed_leg(read: SwapIn, tenors: &[f64], zeros: &[f64], pv: &mut f64) -> u64
-    ensures { (result, pv.new) ≡ told_number (and_then (swap_in_outcome read) (λ (s : AnySwap). fixed_leg_pv s tenors.now zeros.now)) pv.old }
+pub(crate) fn put_fixed_leg(read: Result<AnySwap, Refusal>, tenors: &[f64], zeros: &[f64], pv: &mut f64) -> u64
+    ensures { (result, pv.new) ≡ told_number (and_then (outcome read) (λ (s : AnySwap). fixed_leg_pv s tenors.now zeros.now)) pv.old }
 {
     match read {
-        SwapIn::Refused(refusal) => refusal_result(refusal),
-        SwapIn::Given(swap) => {
+        Err(refusal) => refusal_result(refusal),
+        Ok(swap) => {
             let answer = swaps::legs::fixed_leg_pv(swap, tenors, zeros);
             put_number(answer, pv)
         }
     }
 }
 
-pub(crate) fn put_floating_leg(read: SwapIn, tenors: &[f64], zeros: &[f64], pv: &mut f64) -> u64
-    ensures { (result, pv.new) ≡ told_number (and_then (swap_in_outcome read) (λ (s : AnySwap). floating_leg_pv s tenors.now zeros.now)) pv.old }
+pub(crate) fn put_floating_leg(read: Result<AnySwap, Refusal>, tenors: &[f64], zeros: &[f64], pv: &mut f64) -> u64
+    ensures { (result, pv.new) ≡ told_number (and_then (outcome read) (λ (s : AnySwap). floating_leg_pv s tenors.now zeros.now)) pv.old }
 {
     match read {
-        SwapIn::Refused(refusal) => refusal_result(refusal),
-        SwapIn::Given(swap) => {
+        Err(refusal) => refusal_result(refusal),
+        Ok(swap) => {
             let answer = swaps::legs::floating_leg_pv(swap, tenors, zeros);
             put_number(answer, pv)
         }
@@ -178,29 +172,29 @@ pub(crate) fn put_floating_leg(read: SwapIn, tenors: &[f64], zeros: &[f64], pv: 
 }
 
 pub(crate) fn put_npv(
-    read: SwapIn,
+    read: Result<AnySwap, Refusal>,
     tenors: &[f64],
     zeros: &[f64],
     receive_fixed: u32,
     npv: &mut f64,
 ) -> u64
-    ensures { (result, npv.new) ≡ told_number (and_then (swap_in_outcome read) (λ (s : AnySwap). swap_npv s tenors.now zeros.now (is_true receive_fixed))) npv.old }
+    ensures { (result, npv.new) ≡ told_number (and_then (outcome read) (λ (s : AnySwap). swap_npv s tenors.now zeros.now (is_true receive_fixed))) npv.old }
 {
     match read {
-        SwapIn::Refused(refusal) => refusal_result(refusal),
-        SwapIn::Given(swap) => {
+        Err(refusal) => refusal_result(refusal),
+        Ok(swap) => {
             let answer = swaps::valuation::swap_npv(swap, tenors, zeros, receive_fixed != 0);
             put_number(answer, npv)
         }
     }
 }
 
-pub(crate) fn put_par_rate(read: SwapIn, tenors: &[f64], zeros: &[f64], rate: &mut f64) -> u64
-    ensures { (result, rate.new) ≡ told_number (and_then (swap_in_outcome read) (λ (s : AnySwap). par_swap_rate s tenors.now zeros.now)) rate.old }
+pub(crate) fn put_par_rate(read: Result<AnySwap, Refusal>, tenors: &[f64], zeros: &[f64], rate: &mut f64) -> u64
+    ensures { (result, rate.new) ≡ told_number (and_then (outcome read) (λ (s : AnySwap). par_swap_rate s tenors.now zeros.now)) rate.old }
 {
     match read {
-        SwapIn::Refused(refusal) => refusal_result(refusal),
-        SwapIn::Given(swap) => {
+        Err(refusal) => refusal_result(refusal),
+        Ok(swap) => {
             let answer = swaps::valuation::par_swap_rate(swap, tenors, zeros);
             put_number(answer, rate)
         }
@@ -208,29 +202,29 @@ pub(crate) fn put_par_rate(read: SwapIn, tenors: &[f64], zeros: &[f64], rate: &m
 }
 
 pub(crate) fn put_dv01(
-    read: SwapIn,
+    read: Result<AnySwap, Refusal>,
     tenors: &[f64],
     zeros: &[f64],
     receive_fixed: u32,
     dv01: &mut f64,
 ) -> u64
-    ensures { (result, dv01.new) ≡ told_number (and_then (swap_in_outcome read) (λ (s : AnySwap). swap_dv01 s tenors.now zeros.now (is_true receive_fixed))) dv01.old }
+    ensures { (result, dv01.new) ≡ told_number (and_then (outcome read) (λ (s : AnySwap). swap_dv01 s tenors.now zeros.now (is_true receive_fixed))) dv01.old }
 {
     match read {
-        SwapIn::Refused(refusal) => refusal_result(refusal),
-        SwapIn::Given(swap) => {
+        Err(refusal) => refusal_result(refusal),
+        Ok(swap) => {
             let answer = swaps::valuation::swap_dv01(swap, tenors, zeros, receive_fixed != 0);
             put_number(answer, dv01)
         }
     }
 }
 
-pub(crate) fn put_duration(read: SwapIn, tenors: &[f64], zeros: &[f64], duration: &mut f64) -> u64
-    ensures { (result, duration.new) ≡ told_number (and_then (swap_in_outcome read) (λ (s : AnySwap). swap_duration s tenors.now zeros.now)) duration.old }
+pub(crate) fn put_duration(read: Result<AnySwap, Refusal>, tenors: &[f64], zeros: &[f64], duration: &mut f64) -> u64
+    ensures { (result, duration.new) ≡ told_number (and_then (outcome read) (λ (s : AnySwap). swap_duration s tenors.now zeros.now)) duration.old }
 {
     match read {
-        SwapIn::Refused(refusal) => refusal_result(refusal),
-        SwapIn::Given(swap) => {
+        Err(refusal) => refusal_result(refusal),
+        Ok(swap) => {
             let answer = swaps::valuation::swap_duration(swap, tenors, zeros);
             put_number(answer, duration)
         }
@@ -239,17 +233,17 @@ pub(crate) fn put_duration(read: SwapIn, tenors: &[f64], zeros: &[f64], duration
 
 // All of it at once: value, fixed leg, floating leg, par rate, value of a basis point, duration.
 pub(crate) fn put_values(
-    read: SwapIn,
+    read: Result<AnySwap, Refusal>,
     tenors: &[f64],
     zeros: &[f64],
     receive_fixed: u32,
     valuation: &mut [f64; 6],
 ) -> u64
-    ensures { (result, valuation.new) ≡ told valuation_numbers (and_then (swap_in_outcome read) (λ (s : AnySwap). value_swap s tenors.now zeros.now (is_true receive_fixed))) valuation.old }
+    ensures { (result, valuation.new) ≡ told valuation_numbers (and_then (outcome read) (λ (s : AnySwap). value_swap s tenors.now zeros.now (is_true receive_fixed))) valuation.old }
 {
     match read {
-        SwapIn::Refused(refusal) => refusal_result(refusal),
-        SwapIn::Given(swap) => {
+        Err(refusal) => refusal_result(refusal),
+        Ok(swap) => {
             let answer = swaps::valuation::value_swap(swap, tenors, zeros, receive_fixed != 0);
             put_valuation(answer, valuation)
         }

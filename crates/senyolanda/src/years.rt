@@ -1,14 +1,14 @@
 // Year-end totals: the draw with lent lines beside its rows, and the lookup of a year.
 ghost use Rattle.std.specs.Prelude.{◌≡◌};
 ghost use Rattle.mortgage.specs.Years.{year_places};
-ghost use Rattle.mortgage.specs.YearDraws.{year_outcome};
+ghost use Rattle.refusals.specs.Answers.{outcome};
 ghost use Rattle.mortgage.specs.Level.{drawn_with_years, filled_with_years, summed, looked_up};
 ghost use Rattle.senyolanda.specs.Told.{told};
 ghost use Rattle.senyolanda.specs.Loans.{loan_in, portion_numbers};
 
 use crate::loans::{AMOUNTS, COUNTS, loan_in, put_portion};
 use crate::results::{ACCEPTED, refusal_result};
-use mortgage::years::YearAnswer;
+use refusals::Refusal;
 
 // Writes as many rows as the room holds and the term still owes, and enters them into their years' lines.
 #[unsafe(no_mangle)]
@@ -29,12 +29,12 @@ pub extern "C" fn senyolanda_draw_with_years(
 }
 
 // A year's line that was looked up.
-pub(crate) fn put_year(answer: YearAnswer, line: &mut [f64; mortgage::years::YEAR_WIDTH]) -> u64
-    ensures { (result, line.new) ≡ told year_places (year_outcome answer) line.old }
+pub(crate) fn put_year(answer: Result<Year, Refusal>, line: &mut [f64; mortgage::years::YEAR_WIDTH]) -> u64
+    ensures { (result, line.new) ≡ told year_places (outcome answer) line.old }
 {
     match answer {
-        YearAnswer::Refused(refusal) => refusal_result(refusal),
-        YearAnswer::Found(year) => {
+        Err(refusal) => refusal_result(refusal),
+        Ok(year) => {
             *line = [year.months, year.interest, year.principal, year.balance];
             ACCEPTED
         }

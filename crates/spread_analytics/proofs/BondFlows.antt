@@ -12,14 +12,14 @@ use borrow.Author.Tests.{ltb-false}
 use Rattle.numbers.specs.Literals.{one}
 use Rattle.numbers.specs.Whole.{nearest_whole}
 use Rattle.refusals.specs.declared.Refusal.{Refusal}
-use Rattle.refusals.specs.declared.Verdict.{Verdict}
-use Rattle.refusals.specs.declared.Verdict.TheVariants as verdict_is
-use Rattle.refusals.specs.Answers.{verdict_outcome}
 use Rattle.refusals.specs.Outcome.{Outcome, refused, accepted, Line, line, first_or, judged}
 use Rattle.refusals.specs.Table.{bad_amount, no_room_in_either, bad_time, too_many_periods, bad_number}
 use Rattle.refusals.proofs.Causes.{neither}
 use Rattle.refusals.proofs.Verdicts.{verdict, refused_by, accepted_by}
 use Rattle.spread_analytics.specs.Flows.{per_year, flow_count, flow_period, flow_coupon, flow_time, flow_amount, bad_flows, no_flow_room, bond_cash_flows, first_of, column_in}
+use Rattle.std.specs.declared.result.Result.TheVariants.{Ok, Err}
+use Rattle.std.specs.declared.result.Result.{Result}
+use Rattle.refusals.specs.Answers.{number, outcome}
 
 -- ---- lines 1, 3, 7 and 9, by their causes
 abbrev pub flow_lines_by : Bool → Bool → Bool → Bool → List Line
@@ -54,11 +54,11 @@ not_short false true short coupon e = let z : ◌≡◌ {A = ℕ} 0 1 = cc in ab
 not_short false false true coupon e = let z : ◌≡◌ {A = ℕ} 0 1 = cc in absurd (omega arith)
 not_short false false false coupon e = refl
 
-pub room_for_all : (face many coupon : Bool) (times amounts count : ℕ) (x : Verdict) → x ≡ verdict_is.Accepted
-    → verdict_outcome x ≡ verdict (flow_lines_by face many (no_room_in_either count times amounts) coupon) → (count ≤ times) × (count ≤ amounts)
+pub room_for_all : (face many coupon : Bool) (times amounts count : ℕ) (x : Result Unit Refusal) → x ≡ (Ok tt)
+    → outcome x ≡ verdict (flow_lines_by face many (no_room_in_either count times amounts) coupon) → (count ≤ times) × (count ≤ amounts)
 unfolding no_room_in_either
 room_for_all face many coupon times amounts count x h e =
-    let s = neither (ltb times count) (ltb amounts count) (not_short face many _ coupon (sym (ap verdict_outcome h) ∙ e)) in
+    let s = neither (ltb times count) (ltb amounts count) (not_short face many _ coupon (sym (ap outcome h) ∙ e)) in
     (ltb-false times count s.0, ltb-false amounts count s.1)
 
 -- ---- the columns as the code works them out are the definition's
@@ -82,8 +82,8 @@ module _ (face coupon tenor : Float) (frequency count : ℕ) where
       same_amounts n paid q = simp (n, q)
 
 -- ---- the two lists after it
-module _ (face coupon tenor : Float) (frequency count : ℕ) (times amounts : List Float) (x : Verdict) (n : count ≡ nearest_whole (mul binary64 tenor (per_year frequency)))
-    (e : verdict_outcome x ≡ verdict (flow_lines_by (bad_amount face) (bad_time tenor || too_many_periods count) (no_room_in_either count (length times) (length amounts)) (bad_number coupon))) where
+module _ (face coupon tenor : Float) (frequency count : ℕ) (times amounts : List Float) (x : Result Unit Refusal) (n : count ≡ nearest_whole (mul binary64 tenor (per_year frequency)))
+    (e : outcome x ≡ verdict (flow_lines_by (bad_amount face) (bad_time tenor || too_many_periods count) (no_room_in_either count (length times) (length amounts)) (bad_number coupon))) where
   abbrev outcome : Outcome ℕ
   outcome = bond_cash_flows face coupon tenor frequency times amounts
 
@@ -93,26 +93,26 @@ module _ (face coupon tenor : Float) (frequency count : ℕ) (times amounts : Li
   unfolding bad_flows flow_count
   as_lines o v h = h ∙ rw n
 
-  refused_is : (r : Refusal) → x ≡ verdict_is.Refused r → refused r.number r.place ≡ outcome
+  refused_is : (r : Refusal) → x ≡ Err r → refused (number r.cause) r.place ≡ outcome
   unfolding bond_cash_flows no_flow_room
   refused_is r h = as_lines _ _ (refused_by _ (flow_count face coupon tenor frequency) x r h e)
 
-  accepted_is : x ≡ verdict_is.Accepted → accepted count ≡ outcome
+  accepted_is : x ≡ (Ok tt) → accepted count ≡ outcome
   unfolding bond_cash_flows no_flow_room
   accepted_is h = ap accepted to_count ∙ as_lines _ _ (accepted_by _ (flow_count face coupon tenor frequency) x h e)
     where
       to_count : count ≡ flow_count face coupon tenor frequency
       to_count = count_is face coupon tenor frequency count n
 
-  pub refused_untouched : (r : Refusal) → x ≡ verdict_is.Refused r
-      → (refused r.number r.place ≡ outcome)
+  pub refused_untouched : (r : Refusal) → x ≡ Err r
+      → (refused (number r.cause) r.place ≡ outcome)
       × ((times ≡ column_in outcome (flow_time face coupon tenor frequency) times)
       × (amounts ≡ column_in outcome (flow_amount face coupon tenor frequency) amounts))
   refused_untouched r h =
       let o = refused_is r h in
       (o, (ap (λ (y : Outcome ℕ). column_in y (flow_time face coupon tenor frequency) times) o, ap (λ (y : Outcome ℕ). column_in y (flow_amount face coupon tenor frequency) amounts) o))
 
-  pub accepted_put : x ≡ verdict_is.Accepted → (period paid : Float) → period ≡ div binary64 one (per_year frequency) → paid ≡ div binary64 (mul binary64 face coupon) (per_year frequency)
+  pub accepted_put : x ≡ (Ok tt) → (period paid : Float) → period ≡ div binary64 one (per_year frequency) → paid ≡ div binary64 (mul binary64 face coupon) (per_year frequency)
       → (times' amounts' : List Float)
       → times' ≡ first_of (λ (i : ℕ). mul binary64 (of_int binary64 (pos i)) period) count ++ drop count times
       → amounts' ≡ first_of (λ (i : ℕ). cond (eqb i count) (add binary64 paid face) paid) count ++ drop count amounts

@@ -7,9 +7,6 @@ use lib.Dec.{eqb, ltb}
 use lib.ListN.{length, get_or}
 use lib.Ieee.{Float}
 use borrow.Author.Tests.{eq-eqb, ne_eqb, eqb-true, ltb-false, not-false}
-use Rattle.refusals.specs.declared.Verdict.{Verdict}
-use Rattle.refusals.specs.declared.Verdict.TheVariants as verdict_is
-use Rattle.refusals.specs.Answers.{verdict_outcome}
 use Rattle.refusals.specs.Outcome.{Outcome, refused, accepted, Line, alone}
 use Rattle.refusals.specs.Table.{unequal, too_many_flows, bad_time, bad_number}
 use Rattle.refusals.proofs.Judging.{none_is, passed}
@@ -20,6 +17,10 @@ use Rattle.refusals.proofs.OneCause.{caused}
 use Rattle.curves.proofs.Listing.{accepted_rises}
 use Rattle.spread_analytics.specs.Spread.{spread_lines}
 use Rattle.spread_analytics.proofs.ItemLine.{item_line}
+use Rattle.std.specs.declared.result.Result.TheVariants.{Ok, Err}
+use Rattle.std.specs.declared.result.Result.{Result}
+use Rattle.refusals.specs.declared.Refusal.{Refusal}
+use Rattle.refusals.specs.Answers.{outcome}
 
 -- lines 7 and 9, of the flows
 abbrev pub times_line : List Float → Line
@@ -70,10 +71,10 @@ module _ (times amounts tenors rates : List Float) (bad : Bool) where
       → verdict (curve_lines tenors rates ++ times_line times ∷ amounts_line bad amounts ∷ []) ≡ verdict (spread_lines times amounts tenors rates bad)
   in_parts h = rw (equal _ _ h)
 
-  pub flows_listed : (x : Verdict) → x ≡ verdict_is.Accepted → verdict_outcome x ≡ verdict (spread_lines times amounts tenors rates bad)
+  pub flows_listed : (x : Result Unit Refusal) → x ≡ (Ok tt) → outcome x ≡ verdict (spread_lines times amounts tenors rates bad)
       → (length times ≡ length amounts) × (length times ≤ 1200) × Rising tenors
   flows_listed x h e =
-      let after_4 = passed tt tt _ _ (sym (ap verdict_outcome h) ∙ e) in
+      let after_4 = passed tt tt _ _ (sym (ap outcome h) ∙ e) in
       let after_5 = passed tt tt _ _ after_4.1 in
       let after_6 = passed tt tt _ _ after_5.1 in
       let paired = same _ _ (either _ (unequal (length tenors) (length rates)) (none_is after_4.0 0)) in

@@ -4,17 +4,13 @@ use mathlib.Core.Path.{◌≡◌, sym, ap, ◌∙◌}
 use mathlib.Core.List.{List}
 use lib.Ieee.{Float}
 use Rattle.numbers.proofs.Determined.{Determined, Settled}
-use Rattle.refusals.specs.declared.Number.{Number}
-use Rattle.refusals.specs.Answers.{number_outcome}
 use Rattle.refusals.proofs.OneToOne.{same_refusal, verdict_one_to_one, number_one_to_one, count_one_to_one}
 use Rattle.spread_analytics.specs.declared.units.BasisPoints.{BasisPoints}
 use Rattle.spread_analytics.specs.declared.units.DecimalRate.{DecimalRate}
 use Rattle.spread_analytics.specs.declared.spread.SpreadAnswer.{SpreadAnswer}
 use Rattle.spread_analytics.specs.declared.spread.SpreadAnswer.TheVariants as spread_is
-use Rattle.spread_analytics.specs.declared.spread.SensitivityAnswer.{SensitivityAnswer}
-use Rattle.spread_analytics.specs.declared.spread.SensitivityAnswer.TheVariants as sensitivity_is
 use Rattle.spread_analytics.specs.declared.dated.CashFlow.{CashFlow}
-use Rattle.spread_analytics.specs.Spread.{pv_cash_flows, z_spread, duration_convexity, spread_outcome, sensitivity_outcome}
+use Rattle.spread_analytics.specs.Spread.{pv_cash_flows, z_spread, duration_convexity, spread_outcome}
 use Rattle.spread_analytics.specs.Dated.{times_of, amounts_of}
 use Rattle.spread_analytics.proofs.units.to_decimal.Kinds as to_decimal_kinds
 use Rattle.spread_analytics.proofs.units.to_decimal.Reads as to_decimal
@@ -38,6 +34,10 @@ use Rattle.spread_analytics.proofs.curves_each.rate_at_each.Kinds as rate_at_eac
 use Rattle.spread_analytics.proofs.curves_each.rate_at_each.Reads as rate_at_each
 use Rattle.spread_analytics.proofs.curves_each.discount_factor_at_each.Kinds as discount_factor_at_each_kinds
 use Rattle.spread_analytics.proofs.curves_each.discount_factor_at_each.Reads as discount_factor_at_each
+use Rattle.std.specs.declared.result.Result.TheVariants.{Ok, Err}
+use Rattle.std.specs.declared.result.Result.{Result}
+use Rattle.refusals.specs.declared.Refusal.{Refusal}
+use Rattle.refusals.specs.Answers.{outcome}
 
 -- ---- each answer has its own outcome
 same_points : (s t : BasisPoints) → s.0 ≡ t.0 → s ≡ t
@@ -57,11 +57,11 @@ spread_one_to_one (spread_is.NoSignChange s) (spread_is.Refused r) e = cc
 spread_one_to_one (spread_is.NoSignChange s) (spread_is.Found t) e = cc
 spread_one_to_one (spread_is.NoSignChange s) (spread_is.NoSignChange t) e = ap spread_is.NoSignChange (same_points s t (cc))
 
-pub sensitivity_one_to_one : (x y : SensitivityAnswer) → sensitivity_outcome x ≡ sensitivity_outcome y → x ≡ y
-sensitivity_one_to_one (sensitivity_is.Refused r) (sensitivity_is.Refused s) e = ap sensitivity_is.Refused (same_refusal r s e)
-sensitivity_one_to_one (sensitivity_is.Refused r) (sensitivity_is.Given t) e = cc
-sensitivity_one_to_one (sensitivity_is.Given s) (sensitivity_is.Refused r) e = cc
-sensitivity_one_to_one (sensitivity_is.Given s) (sensitivity_is.Given t) e = cc
+pub sensitivity_one_to_one : (x y : Result Sensitivity Refusal) → outcome x ≡ outcome y → x ≡ y
+sensitivity_one_to_one (Err r) (Err s) e = ap Err (same_refusal r s e)
+sensitivity_one_to_one (Err r) (Ok t) e = cc
+sensitivity_one_to_one (Ok s) (Err r) e = cc
+sensitivity_one_to_one (Ok s) (Ok t) e = cc
 
 -- ---- so each promise leaves one result
 pub to_decimal_determined : Determined 0 to_decimal_kinds.ps to_decimal_kinds.r to_decimal.Post
@@ -99,16 +99,16 @@ bond_cash_flows_settled κs a x y w w' p q =
 
 -- ---- dated flows: a promise of that form leaves one result
 module _ (flows : List CashFlow) (tenors rates : List Float) (s : Float) where
-  pub pv_of_determined : (x y : Number) → number_outcome x ≡ pv_cash_flows (times_of flows) (amounts_of flows) tenors rates s
-      → number_outcome y ≡ pv_cash_flows (times_of flows) (amounts_of flows) tenors rates s → x ≡ y
+  pub pv_of_determined : (x y : Result Float Refusal) → outcome x ≡ pv_cash_flows (times_of flows) (amounts_of flows) tenors rates s
+      → outcome y ≡ pv_cash_flows (times_of flows) (amounts_of flows) tenors rates s → x ≡ y
   pv_of_determined x y p q = number_one_to_one x y (p ∙ sym q)
 
   pub z_spread_of_determined : (x y : SpreadAnswer) → spread_outcome x ≡ z_spread (times_of flows) (amounts_of flows) tenors rates s
       → spread_outcome y ≡ z_spread (times_of flows) (amounts_of flows) tenors rates s → x ≡ y
   z_spread_of_determined x y p q = spread_one_to_one x y (p ∙ sym q)
 
-  pub duration_convexity_of_determined : (x y : SensitivityAnswer) → sensitivity_outcome x ≡ duration_convexity (times_of flows) (amounts_of flows) tenors rates s
-      → sensitivity_outcome y ≡ duration_convexity (times_of flows) (amounts_of flows) tenors rates s → x ≡ y
+  pub duration_convexity_of_determined : (x y : Result Sensitivity Refusal) → outcome x ≡ duration_convexity (times_of flows) (amounts_of flows) tenors rates s
+      → outcome y ≡ duration_convexity (times_of flows) (amounts_of flows) tenors rates s → x ≡ y
   duration_convexity_of_determined x y p q = sensitivity_one_to_one x y (p ∙ sym q)
 
 -- ---- lists of lookups: one verdict, and one list after the call

@@ -11,12 +11,11 @@ use Rattle.refusals.specs.Table.{unequal, bad_knot_count, bad_knots, bad_time, t
 use Rattle.elementary.specs.Exp.{exp}
 use Rattle.curves.specs.Segments.{knot}
 use Rattle.spread_analytics.specs.declared.spread.Sensitivity.{Sensitivity}
-use Rattle.spread_analytics.specs.declared.spread.SensitivityAnswer.{SensitivityAnswer}
-use Rattle.spread_analytics.specs.declared.spread.SensitivityAnswer.TheVariants as sensitivity_is
 use Rattle.spread_analytics.specs.declared.spread.SpreadAnswer.{SpreadAnswer}
 use Rattle.spread_analytics.specs.declared.spread.SpreadAnswer.TheVariants as spread_is
 use Rattle.spread_analytics.specs.Units.{as_decimal}
 use Rattle.spread_analytics.specs.Curves.{rate_of}
+use Rattle.refusals.specs.Answers.{number}
 
 -- a spread in points, found between the ends or at one of them
 pub data Found : Type 0 where
@@ -97,10 +96,7 @@ module _ (times amounts tenors rates : List Float) where
   duration_convexity points = judged (spread_lines times amounts tenors rates false) (sensitivity_of points)
 
 abbrev pub spread_outcome : SpreadAnswer → Outcome Found
-spread_outcome (spread_is.Refused r) = refused r.number r.place
+spread_outcome (spread_is.Refused r) = refused (number r.cause) r.place
 spread_outcome (spread_is.Found s) = accepted (found s.0)
 spread_outcome (spread_is.NoSignChange s) = accepted (at_end s.0)
 
-abbrev pub sensitivity_outcome : SensitivityAnswer → Outcome Sensitivity
-sensitivity_outcome (sensitivity_is.Refused r) = refused r.number r.place
-sensitivity_outcome (sensitivity_is.Given s) = accepted s

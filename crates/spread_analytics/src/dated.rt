@@ -2,14 +2,14 @@
 ghost use Rattle.std.specs.Prelude.{◌≡◌, Bool, cond, List, ◌<◌, ◌≤◌, ltb, length, take, replicate, Float};
 ghost use Rattle.numbers.specs.Clamps.{plus_zero};
 ghost use Rattle.refusals.specs.Outcome.{Outcome, refused, judged};
-ghost use Rattle.refusals.specs.Answers.{number_outcome};
-ghost use Rattle.spread_analytics.specs.Spread.{spread_lines, pv_cash_flows, z_spread, duration_convexity, spread_outcome, sensitivity_outcome};
+ghost use Rattle.refusals.specs.Answers.{outcome};
+ghost use Rattle.spread_analytics.specs.Spread.{spread_lines, pv_cash_flows, z_spread, duration_convexity, spread_outcome};
 ghost use Rattle.spread_analytics.specs.Dated.{times_of, amounts_of};
 ghost use Rattle.spread_analytics.specs.declared.dated.CashFlow.{CashFlow};
 
-use crate::spread::{SensitivityAnswer, SpreadAnswer};
+use crate::spread::SpreadAnswer;
 use crate::units::BasisPoints;
-use refusals::{Number, Refusal, Verdict};
+use refusals::{Cause, Refusal};
 
 #[derive(Clone, Copy)]
 pub struct CashFlow {
@@ -49,8 +49,8 @@ fn refused_for_count(tenors: &[f64], rates: &[f64]) -> Refusal
         → ◌≡◌ {A = Outcome Unit} (refused result.number result.place) (judged (spread_lines times amounts tenors.now rates.now bad) tt) }
 {
     match curves::curve::judge_curve(tenors, rates) {
-        Verdict::Refused(refusal) => refusal,
-        Verdict::Accepted => refusals::refuse(7),
+        Err(refusal) => refusal,
+        Ok(()) => refusals::refuse(Cause::Time),
     }
 }
 
@@ -61,13 +61,13 @@ fn pv_of_lists(
     tenors: &[f64],
     rates: &[f64],
     spread: BasisPoints,
-) -> Number
+) -> Result<f64, Refusal>
     requires { (length lists.times ≡ 1200) × (length lists.amounts ≡ 1200) }
     ensures { (flows : List CashFlow) → length flows ≡ count → (length flows ≤ 1200 → (take (length flows) lists.times ≡ times_of flows) × (take (length flows) lists.amounts ≡ amounts_of flows))
-        → number_outcome result ≡ pv_cash_flows (times_of flows) (amounts_of flows) tenors.now rates.now spread.0 }
+        → outcome result ≡ pv_cash_flows (times_of flows) (amounts_of flows) tenors.now rates.now spread.0 }
 {
     if count > 1200 {
-        return Number::Refused(refused_for_count(tenors, rates));
+        return Err(refused_for_count(tenors, rates));
     }
     let times = lists.times;
     let amounts = lists.amounts;
@@ -99,13 +99,13 @@ fn sensitivity_of_lists(
     tenors: &[f64],
     rates: &[f64],
     spread: BasisPoints,
-) -> SensitivityAnswer
+) -> Result<Sensitivity, Refusal>
     requires { (length lists.times ≡ 1200) × (length lists.amounts ≡ 1200) }
     ensures { (flows : List CashFlow) → length flows ≡ count → (length flows ≤ 1200 → (take (length flows) lists.times ≡ times_of flows) × (take (length flows) lists.amounts ≡ amounts_of flows))
-        → sensitivity_outcome result ≡ duration_convexity (times_of flows) (amounts_of flows) tenors.now rates.now spread.0 }
+        → outcome result ≡ duration_convexity (times_of flows) (amounts_of flows) tenors.now rates.now spread.0 }
 {
     if count > 1200 {
-        return SensitivityAnswer::Refused(refused_for_count(tenors, rates));
+        return Err(refused_for_count(tenors, rates));
     }
     let times = lists.times;
     let amounts = lists.amounts;
@@ -130,8 +130,8 @@ pub(crate) fn gathered(flows: &[CashFlow]) -> Lists
 }
 
 // The present value of flows over a curve and a spread.
-pub fn pv_of(flows: &[CashFlow], tenors: &[f64], rates: &[f64], spread: BasisPoints) -> Number
-    ensures { number_outcome result ≡ pv_cash_flows (times_of flows.now) (amounts_of flows.now) tenors.now rates.now spread.0 }
+pub fn pv_of(flows: &[CashFlow], tenors: &[f64], rates: &[f64], spread: BasisPoints) -> Result<f64, Refusal>
+    ensures { outcome result ≡ pv_cash_flows (times_of flows.now) (amounts_of flows.now) tenors.now rates.now spread.0 }
 {
     let lists = gathered(flows);
     pv_of_lists(lists, flows.len(), tenors, rates, spread)
@@ -151,8 +151,8 @@ pub fn duration_convexity_of(
     tenors: &[f64],
     rates: &[f64],
     spread: BasisPoints,
-) -> SensitivityAnswer
-    ensures { sensitivity_outcome result ≡ duration_convexity (times_of flows.now) (amounts_of flows.now) tenors.now rates.now spread.0 }
+) -> Result<Sensitivity, Refusal>
+    ensures { outcome result ≡ duration_convexity (times_of flows.now) (amounts_of flows.now) tenors.now rates.now spread.0 }
 {
     let lists = gathered(flows);
     sensitivity_of_lists(lists, flows.len(), tenors, rates, spread)

@@ -6,10 +6,10 @@ ghost use Rattle.numbers.specs.Literals.{one};
 ghost use Rattle.numbers.specs.Whole.{nearest_whole};
 ghost use Rattle.refusals.specs.Outcome.{line, judged};
 ghost use Rattle.refusals.specs.Table.{bad_amount, no_room_in_either, bad_time, too_many_periods, bad_number};
-ghost use Rattle.refusals.specs.Answers.{verdict_outcome, count_outcome};
+ghost use Rattle.refusals.specs.Answers.{outcome};
 ghost use Rattle.spread_analytics.specs.Flows.{per_year, flow_time, flow_amount, bond_cash_flows, first_of, column_in};
 
-use refusals::{Count, Verdict, refuse};
+use refusals::{Cause, Refusal, refuse};
 
 // A frequency of 0 is read as 1.
 fn at_least_one(frequency: u32) -> u32
@@ -72,22 +72,22 @@ fn judge_bond_flows(
     count: u32,
     times: usize,
     amounts: usize,
-) -> Verdict
-    ensures { verdict_outcome result ≡ judged (line 1 (bad_amount face) ∷ line 3 (not (bad_time tenor || too_many_periods count) && no_room_in_either count times amounts) ∷ line 7 (bad_time tenor || too_many_periods count) ∷ line 9 (bad_number coupon) ∷ []) tt }
+) -> Result<(), Refusal>
+    ensures { outcome result ≡ judged (line 1 (bad_amount face) ∷ line 3 (not (bad_time tenor || too_many_periods count) && no_room_in_either count times amounts) ∷ line 7 (bad_time tenor || too_many_periods count) ∷ line 9 (bad_number coupon) ∷ []) tt }
 {
     if refusals::bad_amount(face) {
-        return Verdict::Refused(refuse(1));
+        return Err(refuse(Cause::Amount));
     }
     if bad_flows(tenor, count) {
-        return Verdict::Refused(refuse(7));
+        return Err(refuse(Cause::Time));
     }
     if too_little_room(count, times, amounts) {
-        return Verdict::Refused(refuse(3));
+        return Err(refuse(Cause::Room));
     }
     if refusals::bad_number(coupon) {
-        return Verdict::Refused(refuse(9));
+        return Err(refuse(Cause::Number));
     }
-    Verdict::Accepted
+    Ok(())
 }
 
 // The times of so many flows, a period apart.
@@ -134,18 +134,18 @@ pub fn bond_cash_flows(
     frequency: u32,
     times: &mut [f64],
     amounts: &mut [f64],
-) -> Count
-    ensures result_value { count_outcome result ≡ bond_cash_flows face coupon tenor frequency times.old amounts.old }
+) -> Result<u32, Refusal>
+    ensures result_value { outcome result ≡ bond_cash_flows face coupon tenor frequency times.old amounts.old }
     ensures times_after { times.new ≡ column_in (bond_cash_flows face coupon tenor frequency times.old amounts.old) (flow_time face coupon tenor frequency) times.old }
     ensures amounts_after { amounts.new ≡ column_in (bond_cash_flows face coupon tenor frequency times.old amounts.old) (flow_amount face coupon tenor frequency) amounts.old }
 {
     let count = flow_count(tenor, frequency);
     match judge_bond_flows(face, coupon, tenor, count, times.len(), amounts.len()) {
-        Verdict::Refused(refusal) => Count::Refused(refusal),
-        Verdict::Accepted => {
+        Err(refusal) => Err(refusal),
+        Ok(()) => {
             put_times(times, count, flow_period(frequency));
             put_amounts(amounts, count, flow_coupon(face, coupon, frequency), face);
-            Count::Given(count)
+            Ok(count)
         }
     }
 }

@@ -1,45 +1,45 @@
 // The lines of the table that every function over cash flows and a curve asks first.
 ghost use Rattle.std.specs.Prelude.{◌≡◌, false, [], ◌∷◌, map, ◌≤◌, length};
 ghost use Rattle.refusals.specs.Outcome.{alone, judged};
-ghost use Rattle.refusals.specs.Answers.{verdict_outcome};
+ghost use Rattle.refusals.specs.Answers.{outcome};
 ghost use Rattle.refusals.specs.Table.{too_many_flows, bad_time, bad_number};
 ghost use Rattle.spread_analytics.specs.Spread.{spread_lines};
 
 use curves::each::all_finite;
-use refusals::{Refusal, Verdict, refuse};
+use refusals::{Cause, Refusal, refuse};
 
 // One line of a list: a single cause, and then each item that is not finite, at its index.
-fn judge_items(number: u32, single: bool, items: &[f64]) -> Verdict
+fn judge_items(number: u32, single: bool, items: &[f64]) -> Result<(), Refusal>
     requires { single ≡ false → length items.now ≤ 1200 }
-    ensures { verdict_outcome result ≡ judged ((record { number = number; causes = alone single (map bad_number items.now) }) ∷ []) tt }
+    ensures { outcome result ≡ judged ((record { number = number; causes = alone single (map bad_number items.now) }) ∷ []) tt }
 {
     if single {
-        return Verdict::Refused(refuse(number));
+        return Err(refuse(number));
     }
     if all_finite(items) {
-        return Verdict::Accepted;
+        return Ok(());
     }
     let mut i: usize = 0;
     while i < items.len() {
         if refusals::bad_number(items[i]) {
-            return Verdict::Refused(Refusal {
+            return Err(Refusal {
                 number,
                 place: i as u32,
             });
         }
         i += 1;
     }
-    Verdict::Accepted
+    Ok(())
 }
 
 // Lines 7 and 9, of the flows.
-fn judge_flows(times: &[f64], amounts: &[f64], bad: bool) -> Verdict
+fn judge_flows(times: &[f64], amounts: &[f64], bad: bool) -> Result<(), Refusal>
     requires { length times.now ≡ length amounts.now }
-    ensures { verdict_outcome result ≡ judged ((record { number = 7; causes = alone (too_many_flows (length times.now)) (map bad_time times.now) }) ∷ (record { number = 9; causes = alone bad (map bad_number amounts.now) }) ∷ []) tt }
+    ensures { outcome result ≡ judged ((record { number = 7; causes = alone (too_many_flows (length times.now)) (map bad_time times.now) }) ∷ (record { number = 9; causes = alone bad (map bad_number amounts.now) }) ∷ []) tt }
 {
     match judge_items(7, times.len() > 1200, times) {
-        Verdict::Refused(refusal) => Verdict::Refused(refusal),
-        Verdict::Accepted => judge_items(9, bad, amounts),
+        Err(refusal) => Err(refusal),
+        Ok(()) => judge_items(9, bad, amounts),
     }
 }
 
@@ -50,14 +50,14 @@ pub(crate) fn judge_spread(
     tenors: &[f64],
     rates: &[f64],
     bad: bool,
-) -> Verdict
-    ensures { verdict_outcome result ≡ judged (spread_lines times.now amounts.now tenors.now rates.now bad) tt }
+) -> Result<(), Refusal>
+    ensures { outcome result ≡ judged (spread_lines times.now amounts.now tenors.now rates.now bad) tt }
 {
     if times.len() != amounts.len() {
-        return Verdict::Refused(refuse(4));
+        return Err(refuse(Cause::Lengths));
     }
     match curves::curve::judge_curve(tenors, rates) {
-        Verdict::Refused(refusal) => Verdict::Refused(refusal),
-        Verdict::Accepted => judge_flows(times, amounts, bad),
+        Err(refusal) => Err(refusal),
+        Ok(()) => judge_flows(times, amounts, bad),
     }
 }

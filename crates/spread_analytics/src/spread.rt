@@ -6,18 +6,18 @@ ghost use Rattle.numbers.specs.Literals.{two_thousand, minus_five_hundred};
 ghost use Rattle.numbers.specs.Sizes.{absolute};
 ghost use Rattle.numbers.specs.Sums.{added_up};
 ghost use Rattle.refusals.specs.Outcome.{accepted};
-ghost use Rattle.refusals.specs.Answers.{number_outcome};
+ghost use Rattle.refusals.specs.Answers.{outcome};
 ghost use Rattle.curves.specs.Segments.{knot, Rising};
 ghost use Rattle.spread_analytics.specs.Units.{as_decimal};
 ghost use Rattle.spread_analytics.specs.Curves.{rate_of};
 ghost use Rattle.spread_analytics.specs.Spread.{worth_of, pv_cash_flows, error_at, spread_within, spread_of, z_spread, spread_outcome};
-ghost use Rattle.spread_analytics.specs.Spread.{factor_of, sensitivity_of, duration_convexity, sensitivity_outcome};
+ghost use Rattle.spread_analytics.specs.Spread.{factor_of, sensitivity_of, duration_convexity};
 
 use crate::judging::judge_spread;
 use crate::units::{BasisPoints, to_decimal};
 use crate::worth::{Sums, discounted_on, factors_of, keep_rates, sums_on, worth_at};
 use numbers::sizes::absolute_value;
-use refusals::{Number, Verdict};
+use refusals::Refusal;
 
 const LOWEST: f64 = -500.0;
 
@@ -34,12 +34,6 @@ pub enum SpreadAnswer {
 pub struct Sensitivity {
     pub duration: f64,
     pub convexity: f64,
-}
-
-#[derive(Clone, Copy)]
-pub enum SensitivityAnswer {
-    Refused(refusals::Refusal),
-    Given(Sensitivity),
 }
 
 // Where the block that starts at a flow ends: 64 on, or with the last flow.
@@ -79,12 +73,12 @@ pub fn pv_cash_flows(
     tenors: &[f64],
     rates: &[f64],
     spread: BasisPoints,
-) -> Number
-    ensures { number_outcome result ≡ pv_cash_flows times.now amounts.now tenors.now rates.now spread.0 }
+) -> Result<f64, Refusal>
+    ensures { outcome result ≡ pv_cash_flows times.now amounts.now tenors.now rates.now spread.0 }
 {
     match judge_spread(times, amounts, tenors, rates, false) {
-        Verdict::Refused(refusal) => Number::Refused(refusal),
-        Verdict::Accepted => Number::Given(worth_of(times, amounts, tenors, rates, spread)),
+        Err(refusal) => Err(refusal),
+        Ok(()) => Ok(worth_of(times, amounts, tenors, rates, spread)),
     }
 }
 
@@ -197,8 +191,8 @@ pub fn z_spread(
     ensures { spread_outcome result ≡ z_spread times.now amounts.now tenors.now rates.now market }
 {
     match judge_spread(times, amounts, tenors, rates, refusals::bad_number(market)) {
-        Verdict::Refused(refusal) => SpreadAnswer::Refused(refusal),
-        Verdict::Accepted => spread_of(times, amounts, tenors, rates, market),
+        Err(refusal) => SpreadAnswer::Refused(refusal),
+        Ok(()) => spread_of(times, amounts, tenors, rates, market),
     }
 }
 
@@ -261,12 +255,12 @@ pub fn duration_convexity(
     tenors: &[f64],
     rates: &[f64],
     spread: BasisPoints,
-) -> SensitivityAnswer
-    ensures { sensitivity_outcome result ≡ duration_convexity times.now amounts.now tenors.now rates.now spread.0 }
+) -> Result<Sensitivity, Refusal>
+    ensures { outcome result ≡ duration_convexity times.now amounts.now tenors.now rates.now spread.0 }
 {
     match judge_spread(times, amounts, tenors, rates, false) {
-        Verdict::Refused(refusal) => SensitivityAnswer::Refused(refusal),
-        Verdict::Accepted => SensitivityAnswer::Given(sensitivity_of(
+        Err(refusal) => Err(refusal),
+        Ok(()) => Ok(sensitivity_of(
             times, amounts, tenors, rates, spread,
         )),
     }

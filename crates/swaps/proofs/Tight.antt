@@ -3,16 +3,9 @@ use mathlib.Core.Path.{◌≡◌, sym, ap, ◌∙◌}
 use mathlib.Core.List.{List}
 use lib.Ieee.{Float}
 use Rattle.numbers.proofs.Determined.{Determined, Settled}
-use Rattle.refusals.specs.declared.Verdict.{Verdict}
 use Rattle.refusals.proofs.OneToOne.{same_refusal, verdict_one_to_one, number_one_to_one}
-use Rattle.swaps.specs.declared.day_counts.DayCountRead.{DayCountRead}
-use Rattle.swaps.specs.declared.day_counts.DayCountRead.TheVariants as day_count_is
 use Rattle.swaps.specs.declared.bootstrap.Bootstrap.{Bootstrap}
 use Rattle.swaps.specs.declared.bootstrap.DiscountCurve.{DiscountCurve}
-use Rattle.swaps.specs.declared.valuation.ValuationAnswer.{ValuationAnswer}
-use Rattle.swaps.specs.declared.valuation.ValuationAnswer.TheVariants as valuation_is
-use Rattle.swaps.specs.Codes.{day_count_outcome}
-use Rattle.swaps.specs.Valuation.{valuation_outcome}
 use Rattle.swaps.proofs.judging.judge_swap.Kinds as judge_swap_kinds
 use Rattle.swaps.proofs.judging.judge_swap.Reads as judge_swap
 use Rattle.swaps.proofs.judging.judge_but_dates.Kinds as judge_but_dates_kinds
@@ -51,23 +44,27 @@ use Rattle.swaps.proofs.discount_each.rate_at_each.Kinds as rate_at_each_kinds
 use Rattle.swaps.proofs.discount_each.rate_at_each.Reads as rate_at_each
 use Rattle.swaps.proofs.discount_each.discount_factor_at_each.Kinds as discount_factor_at_each_kinds
 use Rattle.swaps.proofs.discount_each.discount_factor_at_each.Reads as discount_factor_at_each
+use Rattle.std.specs.declared.result.Result.TheVariants.{Ok, Err}
+use Rattle.std.specs.declared.result.Result.{Result}
+use Rattle.refusals.specs.declared.Refusal.{Refusal}
+use Rattle.refusals.specs.Answers.{outcome}
 
 -- ---- an answer's number, place and values tell the answer
-pub day_count_told : (x y : DayCountRead) → day_count_outcome x ≡ day_count_outcome y → x ≡ y
-day_count_told (day_count_is.Refused r) (day_count_is.Refused s) e = ap day_count_is.Refused (same_refusal r s e)
-day_count_told (day_count_is.Refused r) (day_count_is.Given d) e = cc
-day_count_told (day_count_is.Given c) (day_count_is.Refused s) e = cc
-day_count_told (day_count_is.Given c) (day_count_is.Given d) e = cc
+pub day_count_told : (x y : Result DayCount Refusal) → outcome x ≡ outcome y → x ≡ y
+day_count_told (Err r) (Err s) e = ap Err (same_refusal r s e)
+day_count_told (Err r) (Ok d) e = cc
+day_count_told (Ok c) (Err s) e = cc
+day_count_told (Ok c) (Ok d) e = cc
 
-pub valuation_told : (x y : ValuationAnswer) → valuation_outcome x ≡ valuation_outcome y → x ≡ y
-valuation_told (valuation_is.Refused r) (valuation_is.Refused s) e = ap valuation_is.Refused (same_refusal r s e)
-valuation_told (valuation_is.Refused r) (valuation_is.Given w) e = cc
-valuation_told (valuation_is.Given v) (valuation_is.Refused s) e = cc
-valuation_told (valuation_is.Given v) (valuation_is.Given w) e = cc
+pub valuation_told : (x y : Result SwapValuation Refusal) → outcome x ≡ outcome y → x ≡ y
+valuation_told (Err r) (Err s) e = ap Err (same_refusal r s e)
+valuation_told (Err r) (Ok w) e = cc
+valuation_told (Ok v) (Err s) e = cc
+valuation_told (Ok v) (Ok w) e = cc
 
 pub bootstrap_told : (x y : Bootstrap) → x.verdict ≡ y.verdict → x.curve ≡ y.curve → x ≡ y
 bootstrap_told x y v c =
-    ap (λ (w : Verdict). record { verdict = w; curve = x.curve }) v ∙ ap (λ (d : DiscountCurve). record { verdict = y.verdict; curve = d }) c
+    ap (λ (w : Result Unit Refusal). record { verdict = w; curve = x.curve }) v ∙ ap (λ (d : DiscountCurve). record { verdict = y.verdict; curve = d }) c
 
 pub day_count_fraction_determined : Determined 0 day_count_fraction_kinds.ps day_count_fraction_kinds.r day_count_fraction.Post
 day_count_fraction_determined κs a x y e e' p q = p ∙ sym q

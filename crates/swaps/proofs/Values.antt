@@ -8,9 +8,6 @@ use lib.ListN.{length}
 use lib.Ieee.{Float, binary64, add, sub, div, eq}
 use Rattle.numbers.specs.Literals.{one}
 use Rattle.numbers.specs.Clamps.{plus_zero}
-use Rattle.refusals.specs.declared.Verdict.{Verdict}
-use Rattle.refusals.specs.declared.Verdict.TheVariants as verdict_is
-use Rattle.refusals.specs.Answers.{verdict_outcome}
 use Rattle.refusals.specs.Outcome.{accepted, Line, line}
 use Rattle.refusals.specs.Table.{bad_time, too_many_periods, bad_frequency, bad_dated_frequency, bad_number}
 use Rattle.refusals.proofs.Judging.{none_is, passed}
@@ -32,6 +29,10 @@ use Rattle.swaps.specs.Valuation.{bumped, point_value, valuation}
 use Rattle.swaps.specs.Legs.{fixed_leg, floating_leg, net_value, par_rate_of, duration}
 use Rattle.swaps.specs.inner.Runs.{HasPeriods, LegsOn}
 use Rattle.swaps.proofs.DatedSpans.{has_span}
+use Rattle.std.specs.declared.result.Result.TheVariants.{Ok, Err}
+use Rattle.std.specs.declared.result.Result.{Result}
+use Rattle.refusals.specs.declared.Refusal.{Refusal}
+use Rattle.refusals.specs.Answers.{outcome}
 
 module _ (t : Terms) (tenors : List Float) where
   -- ---- on a curve
@@ -83,9 +84,9 @@ module _ (tenors zeros : List Float) where
       let from_8 = passed tt tt _ _ (passed tt tt _ _ e).1 in
       has_span s (none_is from_8.0 0) (none_is (passed tt tt _ _ (passed tt tt _ _ from_8.1).1).0 0)
 
-  module _ (swap : AnySwap) (x : Verdict) (judge : verdict_outcome x ≡ verdict (lines_of swap tenors zeros)) (h : x ≡ verdict_is.Accepted) where
+  module _ (swap : AnySwap) (x : Result Unit Refusal) (judge : outcome x ≡ verdict (lines_of swap tenors zeros)) (h : x ≡ (Ok tt)) where
     abbrev of_curve : accepted tt ≡ verdict (curve_lines tenors zeros ++ term_lines swap)
-    of_curve = from_4 swap (sym (ap verdict_outcome h) ∙ judge)
+    of_curve = from_4 swap (sym (ap outcome h) ∙ judge)
 
     pub swap_rises : Rising tenors
     swap_rises = in_rising_order tenors zeros (term_lines swap) of_curve

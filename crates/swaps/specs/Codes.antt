@@ -4,8 +4,6 @@ use Rattle.refusals.specs.Outcome.{Outcome, refused, accepted, line, judged}
 use Rattle.refusals.specs.Table.{bad_code}
 use Rattle.swaps.specs.declared.day_counts.DayCount.{DayCount}
 use Rattle.swaps.specs.declared.day_counts.DayCount.TheVariants.{Actual360, Actual365, Thirty360}
-use Rattle.swaps.specs.declared.day_counts.DayCountRead.{DayCountRead}
-use Rattle.swaps.specs.declared.day_counts.DayCountRead.TheVariants as day_count_is
 
 abbrev pub code_of : DayCount → ℕ
 code_of Actual360 = 0
@@ -22,7 +20,3 @@ day_count_at code = cond (eqb code 0) Actual360 (cond (eqb code 1) Actual365 Thi
 unfoldable pub day_count_of : ℕ → Outcome DayCount
 day_count_of code = judged (line 11 (bad_code last_code code) ∷ []) (day_count_at code)
 
--- the answer: this paper's number and place, or the day count
-abbrev pub day_count_outcome : DayCountRead → Outcome DayCount
-day_count_outcome (day_count_is.Refused r) = refused r.number r.place
-day_count_outcome (day_count_is.Given d) = accepted d

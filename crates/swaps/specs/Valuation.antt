@@ -6,8 +6,6 @@ use Rattle.numbers.specs.Literals.{basis_point}
 use Rattle.refusals.specs.Outcome.{Outcome, refused, accepted, judged}
 use Rattle.swaps.specs.declared.AnySwap.{AnySwap}
 use Rattle.swaps.specs.declared.valuation.SwapValuation.{SwapValuation}
-use Rattle.swaps.specs.declared.valuation.ValuationAnswer.{ValuationAnswer}
-use Rattle.swaps.specs.declared.valuation.ValuationAnswer.TheVariants as valuation_is
 use Rattle.swaps.specs.Periods.{Terms, terms_of, lines_of}
 use Rattle.swaps.specs.Legs.{fixed_leg, floating_leg, net_value, par_rate_of, duration}
 
@@ -50,6 +48,3 @@ module _ (s : AnySwap) (tenors zeros : List Float) where
   unfoldable pub value_swap : Bool → Outcome SwapValuation
   value_swap receives_fixed = judged (lines_of s tenors zeros) (valuation (terms_of s) tenors zeros receives_fixed)
 
-abbrev pub valuation_outcome : ValuationAnswer → Outcome SwapValuation
-valuation_outcome (valuation_is.Refused r) = refused r.number r.place
-valuation_outcome (valuation_is.Given v) = accepted v

@@ -2,7 +2,7 @@
 ghost use Rattle.std.specs.Prelude.{◌≡◌, not, ◌||◌, [], ◌∷◌, map, ◌≤◌, length};
 ghost use Rattle.std.specs.Float.Ieee.{lt};
 ghost use Rattle.refusals.specs.Outcome.{refused, accepted, judged};
-ghost use Rattle.refusals.specs.Answers.{verdict_outcome};
+ghost use Rattle.refusals.specs.Answers.{outcome};
 ghost use Rattle.refusals.specs.Table.{bad_knot, bad_knots, bad_tenor};
 ghost use Rattle.curves.specs.Segments.{Rising};
 ghost use Rattle.swaps.specs.Bootstrap.{zeros_up_to, either_of, par_lines};
@@ -12,7 +12,7 @@ use crate::knots::next_zero;
 use crate::rooms::empty_room;
 use curves::curve::{bad_knot_after, bad_knot_count};
 use numbers::sizes::infinity;
-use refusals::{Refusal, Verdict, refuse};
+use refusals::{Cause, Refusal, refuse};
 
 // A discount curve with its knots in front; +0 beyond them.
 #[derive(Clone, Copy)]
@@ -25,7 +25,7 @@ pub struct DiscountCurve {
 // The verdict, and the curve, which has no knot where the verdict refuses.
 #[derive(Clone, Copy)]
 pub struct Bootstrap {
-    pub verdict: Verdict,
+    pub verdict: Result<(), Refusal>,
     pub curve: DiscountCurve,
 }
 
@@ -49,35 +49,35 @@ fn bad_par(before: f64, tenor: f64, par: f64) -> bool
 }
 
 // Line 6, at the first bad knot; -infinity stands before the first of all.
-fn judge_each(tenors: &[f64], pars: &[f64]) -> Verdict
+fn judge_each(tenors: &[f64], pars: &[f64]) -> Result<(), Refusal>
     requires { (length tenors.now ≡ length pars.now) × (length tenors.now ≤ 120) }
-    ensures { verdict_outcome result ≡ judged ((record { number = 6; causes = either_of (bad_knots tenors.now pars.now) (map bad_tenor tenors.now) }) ∷ []) tt }
+    ensures { outcome result ≡ judged ((record { number = 6; causes = either_of (bad_knots tenors.now pars.now) (map bad_tenor tenors.now) }) ∷ []) tt }
 {
     let mut before = -infinity();
     let mut i: usize = 0;
     while i < tenors.len() {
         let tenor = tenors[i];
         if bad_par(before, tenor, pars[i]) {
-            return Verdict::Refused(Refusal {
-                number: 6,
+            return Err(Refusal {
+                cause: Cause::Knot,
                 place: i as u32,
             });
         }
         before = tenor;
         i += 1;
     }
-    Verdict::Accepted
+    Ok(())
 }
 
 // Lines 4, 5 and 6.
-fn judge_pars(tenors: &[f64], pars: &[f64]) -> Verdict
-    ensures { verdict_outcome result ≡ judged (par_lines tenors.now pars.now) tt }
+fn judge_pars(tenors: &[f64], pars: &[f64]) -> Result<(), Refusal>
+    ensures { outcome result ≡ judged (par_lines tenors.now pars.now) tt }
 {
     if tenors.len() != pars.len() {
-        return Verdict::Refused(refuse(4));
+        return Err(refuse(Cause::Lengths));
     }
     if bad_knot_count(tenors.len()) {
-        return Verdict::Refused(refuse(5));
+        return Err(refuse(Cause::KnotCount));
     }
     judge_each(tenors, pars)
 }
@@ -125,15 +125,15 @@ fn solved_curve(tenors: &[f64], pars: &[f64]) -> DiscountCurve
 }
 
 pub fn from_par_rates(tenors: &[f64], pars: &[f64]) -> Bootstrap
-    ensures { (verdict_outcome result.verdict ≡ judged (par_lines tenors.now pars.now) tt) × (result.curve ≡ bootstrapped tenors.now pars.now) }
+    ensures { (outcome result.verdict ≡ judged (par_lines tenors.now pars.now) tt) × (result.curve ≡ bootstrapped tenors.now pars.now) }
 {
     match judge_pars(tenors, pars) {
-        Verdict::Refused(refusal) => Bootstrap {
-            verdict: Verdict::Refused(refusal),
+        Err(refusal) => Bootstrap {
+            verdict: Err(refusal),
             curve: no_curve(),
         },
-        Verdict::Accepted => Bootstrap {
-            verdict: Verdict::Accepted,
+        Ok(()) => Bootstrap {
+            verdict: Ok(()),
             curve: solved_curve(tenors, pars),
         },
     }

@@ -1,24 +1,18 @@
 // Day counts over a number of days and between two dates, and their codes in a record.
 ghost use Rattle.std.specs.Prelude.{◌≡◌};
-ghost use Rattle.refusals.specs.Answers.{number_outcome};
+ghost use Rattle.refusals.specs.Answers.{outcome};
 ghost use Rattle.swaps.specs.DayCounts.{year_of, day_fraction, dated_fraction_of};
-ghost use Rattle.swaps.specs.Codes.{code_of, day_count_of, day_count_outcome};
+ghost use Rattle.swaps.specs.Codes.{code_of, day_count_of};
 
 use dates::Date;
 use dates::counts::{actual_days, bad_dates, thirty_days};
-use refusals::Number;
+use refusals::{Cause, Refusal};
 
 #[derive(Clone, Copy)]
 pub enum DayCount {
     Actual360,
     Actual365,
     Thirty360,
-}
-
-#[derive(Clone, Copy)]
-pub enum DayCountRead {
-    Refused(refusals::Refusal),
-    Given(DayCount),
 }
 
 // The days of a year.
@@ -40,29 +34,29 @@ pub fn day_count_fraction(day_count: DayCount, days: u32) -> f64
 }
 
 // The days between two dates, by the day count, as a fraction of a year.
-pub fn dated_fraction(day_count: DayCount, first: Date, second: Date) -> Number
-    ensures { number_outcome result ≡ dated_fraction_of day_count first second }
+pub fn dated_fraction(day_count: DayCount, first: Date, second: Date) -> Result<f64, Refusal>
+    ensures { outcome result ≡ dated_fraction_of day_count first second }
 {
     if bad_dates(first, second) {
-        return Number::Refused(refusals::refuse(15));
+        return Err(refusals::refuse(Cause::Date));
     }
     let days = match day_count {
         DayCount::Actual360 => actual_days(first, second),
         DayCount::Actual365 => actual_days(first, second),
         DayCount::Thirty360 => thirty_days(first, second),
     };
-    Number::Given(day_count_fraction(day_count, days))
+    Ok(day_count_fraction(day_count, days))
 }
 
 // The day count of a code; one outside the set is line 11.
-pub fn day_count_of(code: u8) -> DayCountRead
-    ensures { day_count_outcome result ≡ day_count_of code }
+pub fn day_count_of(code: u8) -> Result<DayCount, Refusal>
+    ensures { outcome result ≡ day_count_of code }
 {
     match code {
-        0 => DayCountRead::Given(DayCount::Actual360),
-        1 => DayCountRead::Given(DayCount::Actual365),
-        2 => DayCountRead::Given(DayCount::Thirty360),
-        _ => DayCountRead::Refused(refusals::refuse(11)),
+        0 => Ok(DayCount::Actual360),
+        1 => Ok(DayCount::Actual365),
+        2 => Ok(DayCount::Thirty360),
+        _ => Err(refusals::refuse(Cause::Record)),
     }
 }
 

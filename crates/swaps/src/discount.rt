@@ -1,12 +1,12 @@
 // The discount curve: its zero rate and its discount factor at a time.
 ghost use Rattle.std.specs.Prelude.{◌≡◌};
-ghost use Rattle.refusals.specs.Answers.{number_outcome};
+ghost use Rattle.refusals.specs.Answers.{outcome};
 ghost use Rattle.curves.specs.Segments.{Rising};
 ghost use Rattle.swaps.specs.Discount.{zero_rate_of, discount_of, rate_at, discount_factor};
 
 use curves::curve::{bad_time, judge_asked};
 use curves::kinds::Kind;
-use refusals::{Number, Verdict};
+use refusals::Refusal;
 
 // The zero rate at a time.
 pub(crate) fn zero_rate_of(tenors: &[f64], zeros: &[f64], t: f64) -> f64
@@ -24,20 +24,20 @@ pub(crate) fn discount_of(tenors: &[f64], zeros: &[f64], t: f64) -> f64
     curves::lookups::discount_of(Kind::DiscountCurve, tenors, zeros, t)
 }
 
-pub fn rate_at(tenors: &[f64], zeros: &[f64], t: f64) -> Number
-    ensures { number_outcome result ≡ rate_at tenors.now zeros.now t }
+pub fn rate_at(tenors: &[f64], zeros: &[f64], t: f64) -> Result<f64, Refusal>
+    ensures { outcome result ≡ rate_at tenors.now zeros.now t }
 {
     match judge_asked(tenors, zeros, bad_time(t)) {
-        Verdict::Refused(refusal) => Number::Refused(refusal),
-        Verdict::Accepted => Number::Given(zero_rate_of(tenors, zeros, t)),
+        Err(refusal) => Err(refusal),
+        Ok(()) => Ok(zero_rate_of(tenors, zeros, t)),
     }
 }
 
-pub fn discount_factor(tenors: &[f64], zeros: &[f64], t: f64) -> Number
-    ensures { number_outcome result ≡ discount_factor tenors.now zeros.now t }
+pub fn discount_factor(tenors: &[f64], zeros: &[f64], t: f64) -> Result<f64, Refusal>
+    ensures { outcome result ≡ discount_factor tenors.now zeros.now t }
 {
     match judge_asked(tenors, zeros, bad_time(t)) {
-        Verdict::Refused(refusal) => Number::Refused(refusal),
-        Verdict::Accepted => Number::Given(discount_of(tenors, zeros, t)),
+        Err(refusal) => Err(refusal),
+        Ok(()) => Ok(discount_of(tenors, zeros, t)),
     }
 }

@@ -1,7 +1,7 @@
 // What every function over a swap and a curve asks first, of undated swaps and of dated ones.
 ghost use Rattle.std.specs.Prelude.{◌≡◌, ◌||◌, [], ◌∷◌, ◌++◌};
 ghost use Rattle.refusals.specs.Outcome.{line, judged};
-ghost use Rattle.refusals.specs.Answers.{verdict_outcome};
+ghost use Rattle.refusals.specs.Answers.{outcome};
 ghost use Rattle.refusals.specs.Table.{bad_amount, bad_time, too_many_periods, bad_frequency, bad_dated_frequency, bad_number};
 ghost use Rattle.curves.specs.Curve.{curve_lines};
 ghost use Rattle.dates.specs.Answers.{dates_line};
@@ -13,7 +13,7 @@ use crate::dated_periods::period_count;
 use crate::periods::payments;
 use crate::{AnySwap, DatedSwap, Swap};
 use dates::counts::bad_dates;
-use refusals::{Verdict, refuse};
+use refusals::{Cause, Refusal, refuse};
 
 // Line 7: a tenor that is not finite, or gives more than 1,200 payments.
 fn bad_tenor(swap: Swap) -> bool
@@ -36,19 +36,19 @@ fn bad_frequency(frequency: u32) -> bool
 }
 
 // Lines 7, 8 and 9, of whose causes the first two are known.
-fn judge_terms(line7: bool, line8: bool, rate: f64) -> Verdict
-    ensures { verdict_outcome result ≡ judged (line 7 line7 ∷ line 8 line8 ∷ line 9 (bad_number rate) ∷ []) tt }
+fn judge_terms(line7: bool, line8: bool, rate: f64) -> Result<(), Refusal>
+    ensures { outcome result ≡ judged (line 7 line7 ∷ line 8 line8 ∷ line 9 (bad_number rate) ∷ []) tt }
 {
     if line7 {
-        return Verdict::Refused(refuse(7));
+        return Err(refuse(Cause::Time));
     }
     if line8 {
-        return Verdict::Refused(refuse(8));
+        return Err(refuse(Cause::Frequency));
     }
     if refusals::bad_number(rate) {
-        return Verdict::Refused(refuse(9));
+        return Err(refuse(Cause::Number));
     }
-    Verdict::Accepted
+    Ok(())
 }
 
 // Line 1 of the notional, lines 4, 5 and 6 of the curve, and then those.
@@ -59,20 +59,20 @@ fn judge_priced(
     line7: bool,
     line8: bool,
     rate: f64,
-) -> Verdict
-    ensures { verdict_outcome result ≡ judged (line 1 (bad_amount notional) ∷ curve_lines tenors.now zeros.now ++ line 7 line7 ∷ line 8 line8 ∷ line 9 (bad_number rate) ∷ []) tt }
+) -> Result<(), Refusal>
+    ensures { outcome result ≡ judged (line 1 (bad_amount notional) ∷ curve_lines tenors.now zeros.now ++ line 7 line7 ∷ line 8 line8 ∷ line 9 (bad_number rate) ∷ []) tt }
 {
     if refusals::bad_amount(notional) {
-        return Verdict::Refused(refuse(1));
+        return Err(refuse(Cause::Amount));
     }
     match curves::curve::judge_curve(tenors, zeros) {
-        Verdict::Refused(refusal) => Verdict::Refused(refusal),
-        Verdict::Accepted => judge_terms(line7, line8, rate),
+        Err(refusal) => Err(refusal),
+        Ok(()) => judge_terms(line7, line8, rate),
     }
 }
 
-pub fn judge_swap(swap: Swap, tenors: &[f64], zeros: &[f64]) -> Verdict
-    ensures { verdict_outcome result ≡ judged (swap_lines swap tenors.now zeros.now) tt }
+pub fn judge_swap(swap: Swap, tenors: &[f64], zeros: &[f64]) -> Result<(), Refusal>
+    ensures { outcome result ≡ judged (swap_lines swap tenors.now zeros.now) tt }
 {
     let line7 = bad_tenor(swap);
     let line8 = bad_frequency(swap.frequency);
@@ -105,8 +105,8 @@ fn too_many_dated(swap: DatedSwap) -> bool
 }
 
 // Those of a dated swap and its curve, all but line 15.
-pub fn judge_but_dates(swap: DatedSwap, tenors: &[f64], zeros: &[f64]) -> Verdict
-    ensures { verdict_outcome result ≡ judged (uncoded_dated_lines swap tenors.now zeros.now) tt }
+pub fn judge_but_dates(swap: DatedSwap, tenors: &[f64], zeros: &[f64]) -> Result<(), Refusal>
+    ensures { outcome result ≡ judged (uncoded_dated_lines swap tenors.now zeros.now) tt }
 {
     let line7 = too_many_dated(swap);
     let line8 = bad_dated_frequency(swap.frequency);
@@ -114,29 +114,29 @@ pub fn judge_but_dates(swap: DatedSwap, tenors: &[f64], zeros: &[f64]) -> Verdic
 }
 
 // Line 15.
-fn judge_dates(swap: DatedSwap) -> Verdict
-    ensures { verdict_outcome result ≡ judged (dates_line swap.first swap.second ∷ []) tt }
+fn judge_dates(swap: DatedSwap) -> Result<(), Refusal>
+    ensures { outcome result ≡ judged (dates_line swap.first swap.second ∷ []) tt }
 {
     let first = swap.first;
     let second = swap.second;
     if bad_dates(first, second) {
-        return Verdict::Refused(refuse(15));
+        return Err(refuse(Cause::Date));
     }
-    Verdict::Accepted
+    Ok(())
 }
 
 // All lines of a dated swap.
-fn judge_dated(swap: DatedSwap, tenors: &[f64], zeros: &[f64]) -> Verdict
-    ensures { verdict_outcome result ≡ judged (dated_lines swap tenors.now zeros.now) tt }
+fn judge_dated(swap: DatedSwap, tenors: &[f64], zeros: &[f64]) -> Result<(), Refusal>
+    ensures { outcome result ≡ judged (dated_lines swap tenors.now zeros.now) tt }
 {
     match judge_but_dates(swap, tenors, zeros) {
-        Verdict::Refused(refusal) => Verdict::Refused(refusal),
-        Verdict::Accepted => judge_dates(swap),
+        Err(refusal) => Err(refusal),
+        Ok(()) => judge_dates(swap),
     }
 }
 
-pub fn judge_any(swap: AnySwap, tenors: &[f64], zeros: &[f64]) -> Verdict
-    ensures { verdict_outcome result ≡ judged (lines_of swap tenors.now zeros.now) tt }
+pub fn judge_any(swap: AnySwap, tenors: &[f64], zeros: &[f64]) -> Result<(), Refusal>
+    ensures { outcome result ≡ judged (lines_of swap tenors.now zeros.now) tt }
 {
     match swap {
         AnySwap::Undated(undated) => judge_swap(undated, tenors, zeros),

@@ -3,7 +3,7 @@ ghost use Rattle.std.specs.Prelude.{◌≡◌, cond, List, ℕ, ◌+◌, ◌<◌
 ghost use Rattle.std.specs.Float.Ieee.{eq};
 ghost use Rattle.numbers.specs.Literals.{one};
 ghost use Rattle.numbers.specs.Clamps.{plus_zero};
-ghost use Rattle.refusals.specs.Answers.{number_outcome};
+ghost use Rattle.refusals.specs.Answers.{outcome};
 ghost use Rattle.curves.specs.Segments.{Rising};
 ghost use Rattle.swaps.specs.Periods.{Terms, terms_of};
 ghost use Rattle.swaps.specs.Valuation.{fixed_leg_pv, floating_leg_pv};
@@ -17,7 +17,7 @@ use crate::runs::put_periods;
 use crate::terms::{end, fixed_rate, notional, period_count};
 use curves::each::discounts_onward;
 use curves::kinds::Kind;
-use refusals::{Number, Verdict};
+use refusals::Refusal;
 
 // The sums over periods, without the notional: of the fixed leg, of the floating leg, of the discount factors in fractions of a year,
 // and of the fixed leg with each payment times its date; and the discount factor at the end of the last of them.
@@ -237,26 +237,26 @@ pub(crate) fn both_legs_of(swap: AnySwap, tenors: &[f64], zeros: &[f64], higher:
     }
 }
 
-pub fn fixed_leg_pv(swap: AnySwap, tenors: &[f64], zeros: &[f64]) -> Number
-    ensures { number_outcome result ≡ fixed_leg_pv swap tenors.now zeros.now }
+pub fn fixed_leg_pv(swap: AnySwap, tenors: &[f64], zeros: &[f64]) -> Result<f64, Refusal>
+    ensures { outcome result ≡ fixed_leg_pv swap tenors.now zeros.now }
 {
     match judge_any(swap, tenors, zeros) {
-        Verdict::Refused(refusal) => Number::Refused(refusal),
-        Verdict::Accepted => {
+        Err(refusal) => Err(refusal),
+        Ok(()) => {
             let legs = legs_of(swap, tenors, zeros);
-            Number::Given(legs.fixed)
+            Ok(legs.fixed)
         }
     }
 }
 
-pub fn floating_leg_pv(swap: AnySwap, tenors: &[f64], zeros: &[f64]) -> Number
-    ensures { number_outcome result ≡ floating_leg_pv swap tenors.now zeros.now }
+pub fn floating_leg_pv(swap: AnySwap, tenors: &[f64], zeros: &[f64]) -> Result<f64, Refusal>
+    ensures { outcome result ≡ floating_leg_pv swap tenors.now zeros.now }
 {
     match judge_any(swap, tenors, zeros) {
-        Verdict::Refused(refusal) => Number::Refused(refusal),
-        Verdict::Accepted => {
+        Err(refusal) => Err(refusal),
+        Ok(()) => {
             let legs = legs_of(swap, tenors, zeros);
-            Number::Given(legs.floating)
+            Ok(legs.floating)
         }
     }
 }

@@ -4,11 +4,11 @@ ghost use Rattle.std.specs.Float.{binary64};
 ghost use Rattle.std.specs.Float.Ieee.{add, sub, div, eq};
 ghost use Rattle.numbers.specs.Literals.{one};
 ghost use Rattle.numbers.specs.Clamps.{plus_zero};
-ghost use Rattle.refusals.specs.Answers.{number_outcome};
+ghost use Rattle.refusals.specs.Answers.{outcome};
 ghost use Rattle.curves.specs.Segments.{Rising};
 ghost use Rattle.swaps.specs.Discount.{zero_rate_of};
 ghost use Rattle.swaps.specs.Periods.{terms_of};
-ghost use Rattle.swaps.specs.Valuation.{bumped, swap_npv, par_swap_rate, swap_dv01, swap_duration, valuation, value_swap, valuation_outcome};
+ghost use Rattle.swaps.specs.Valuation.{bumped, swap_npv, par_swap_rate, swap_dv01, swap_duration, valuation, value_swap};
 ghost use Rattle.swaps.specs.inner.Runs.{HasPeriods, LegsOn};
 
 use crate::AnySwap;
@@ -16,7 +16,7 @@ use crate::discount::zero_rate_of;
 use crate::judging::judge_any;
 use crate::legs::{BothLegs, Legs, both_legs_of, legs_of};
 use crate::terms::{end, per_year};
-use refusals::{Number, Verdict};
+use refusals::Refusal;
 
 #[derive(Clone, Copy)]
 pub struct SwapValuation {
@@ -26,12 +26,6 @@ pub struct SwapValuation {
     pub par_rate: f64,
     pub dv01: f64,
     pub duration: f64,
-}
-
-#[derive(Clone, Copy)]
-pub enum ValuationAnswer {
-    Refused(refusals::Refusal),
-    Given(SwapValuation),
 }
 
 // Fixed less floating for who receives fixed, else floating less fixed.
@@ -86,45 +80,45 @@ fn legs_with_bump(swap: AnySwap, tenors: &[f64], zeros: &[f64]) -> BothLegs
     both_legs_of(swap, tenors, zeros, &room[..n])
 }
 
-pub fn swap_npv(swap: AnySwap, tenors: &[f64], zeros: &[f64], receives_fixed: bool) -> Number
-    ensures { number_outcome result ≡ swap_npv swap tenors.now zeros.now receives_fixed }
+pub fn swap_npv(swap: AnySwap, tenors: &[f64], zeros: &[f64], receives_fixed: bool) -> Result<f64, Refusal>
+    ensures { outcome result ≡ swap_npv swap tenors.now zeros.now receives_fixed }
 {
     match judge_any(swap, tenors, zeros) {
-        Verdict::Refused(refusal) => Number::Refused(refusal),
-        Verdict::Accepted => Number::Given(net(legs_of(swap, tenors, zeros), receives_fixed)),
+        Err(refusal) => Err(refusal),
+        Ok(()) => Ok(net(legs_of(swap, tenors, zeros), receives_fixed)),
     }
 }
 
-pub fn par_swap_rate(swap: AnySwap, tenors: &[f64], zeros: &[f64]) -> Number
-    ensures { number_outcome result ≡ par_swap_rate swap tenors.now zeros.now }
+pub fn par_swap_rate(swap: AnySwap, tenors: &[f64], zeros: &[f64]) -> Result<f64, Refusal>
+    ensures { outcome result ≡ par_swap_rate swap tenors.now zeros.now }
 {
     match judge_any(swap, tenors, zeros) {
-        Verdict::Refused(refusal) => Number::Refused(refusal),
-        Verdict::Accepted => Number::Given(par_of(legs_of(swap, tenors, zeros))),
+        Err(refusal) => Err(refusal),
+        Ok(()) => Ok(par_of(legs_of(swap, tenors, zeros))),
     }
 }
 
 // What a basis point more in every zero rate changes the value by.
-pub fn swap_dv01(swap: AnySwap, tenors: &[f64], zeros: &[f64], receives_fixed: bool) -> Number
-    ensures { number_outcome result ≡ swap_dv01 swap tenors.now zeros.now receives_fixed }
+pub fn swap_dv01(swap: AnySwap, tenors: &[f64], zeros: &[f64], receives_fixed: bool) -> Result<f64, Refusal>
+    ensures { outcome result ≡ swap_dv01 swap tenors.now zeros.now receives_fixed }
 {
     match judge_any(swap, tenors, zeros) {
-        Verdict::Refused(refusal) => Number::Refused(refusal),
-        Verdict::Accepted => {
+        Err(refusal) => Err(refusal),
+        Ok(()) => {
             let both = legs_with_bump(swap, tenors, zeros);
             let base = both.base;
             let higher = both.higher;
-            Number::Given(net(higher, receives_fixed) - net(base, receives_fixed))
+            Ok(net(higher, receives_fixed) - net(base, receives_fixed))
         }
     }
 }
 
-pub fn swap_duration(swap: AnySwap, tenors: &[f64], zeros: &[f64]) -> Number
-    ensures { number_outcome result ≡ swap_duration swap tenors.now zeros.now }
+pub fn swap_duration(swap: AnySwap, tenors: &[f64], zeros: &[f64]) -> Result<f64, Refusal>
+    ensures { outcome result ≡ swap_duration swap tenors.now zeros.now }
 {
     match judge_any(swap, tenors, zeros) {
-        Verdict::Refused(refusal) => Number::Refused(refusal),
-        Verdict::Accepted => Number::Given(duration_of(
+        Err(refusal) => Err(refusal),
+        Ok(()) => Ok(duration_of(
             swap,
             tenors,
             zeros,
@@ -156,12 +150,12 @@ pub fn value_swap(
     tenors: &[f64],
     zeros: &[f64],
     receives_fixed: bool,
-) -> ValuationAnswer
-    ensures { valuation_outcome result ≡ value_swap swap tenors.now zeros.now receives_fixed }
+) -> Result<SwapValuation, Refusal>
+    ensures { outcome result ≡ value_swap swap tenors.now zeros.now receives_fixed }
 {
     match judge_any(swap, tenors, zeros) {
-        Verdict::Refused(refusal) => ValuationAnswer::Refused(refusal),
-        Verdict::Accepted => ValuationAnswer::Given(valuation_of(
+        Err(refusal) => Err(refusal),
+        Ok(()) => Ok(valuation_of(
             swap,
             tenors,
             zeros,

@@ -4,9 +4,6 @@ use mathlib.Core.List.{List}
 use lib.Ieee.{Float}
 use Rattle.numbers.proofs.Determined.{Determined, Settled}
 use Rattle.refusals.proofs.OneToOne.{same_refusal, verdict_one_to_one, number_one_to_one}
-use Rattle.yield_curve.specs.declared.fitting.FitAnswer.{FitAnswer}
-use Rattle.yield_curve.specs.declared.fitting.FitAnswer.TheVariants as fit_is
-use Rattle.yield_curve.specs.Fit.{fit_outcome}
 use Rattle.yield_curve.proofs.linear.linear_interpolate.Kinds as linear_interpolate_kinds
 use Rattle.yield_curve.proofs.linear.linear_interpolate.Reads as linear_interpolate
 use Rattle.yield_curve.proofs.linear.discount_factor.Kinds as discount_factor_kinds
@@ -33,13 +30,17 @@ use Rattle.yield_curve.proofs.each.rate_at_each.Kinds as rate_at_each_kinds
 use Rattle.yield_curve.proofs.each.rate_at_each.Reads as rate_at_each
 use Rattle.yield_curve.proofs.each.discount_factor_at_each.Kinds as discount_factor_at_each_kinds
 use Rattle.yield_curve.proofs.each.discount_factor_at_each.Reads as discount_factor_at_each
+use Rattle.std.specs.declared.result.Result.TheVariants.{Ok, Err}
+use Rattle.std.specs.declared.result.Result.{Result}
+use Rattle.refusals.specs.declared.Refusal.{Refusal}
+use Rattle.refusals.specs.Answers.{outcome}
 
 -- ---- each answer has its own outcome
-pub fit_one_to_one : (x y : FitAnswer) → fit_outcome x ≡ fit_outcome y → x ≡ y
-fit_one_to_one (fit_is.Refused r) (fit_is.Refused s) e = ap fit_is.Refused (same_refusal r s e)
-fit_one_to_one (fit_is.Refused r) (fit_is.Given n) e = cc
-fit_one_to_one (fit_is.Given m) (fit_is.Refused s) e = cc
-fit_one_to_one (fit_is.Given m) (fit_is.Given n) e = cc
+pub fit_one_to_one : (x y : Result NelsonSiegel Refusal) → outcome x ≡ outcome y → x ≡ y
+fit_one_to_one (Err r) (Err s) e = ap Err (same_refusal r s e)
+fit_one_to_one (Err r) (Ok n) e = cc
+fit_one_to_one (Ok m) (Err s) e = cc
+fit_one_to_one (Ok m) (Ok n) e = cc
 
 -- ---- so each promise leaves one result
 pub linear_interpolate_determined : Determined 2 linear_interpolate_kinds.ps linear_interpolate_kinds.r linear_interpolate.Post

@@ -9,8 +9,6 @@ use Rattle.refusals.specs.Outcome.{Outcome, refused, accepted, judged}
 use Rattle.yield_curve.specs.declared.nelson_siegel.NelsonSiegel.{NelsonSiegel}
 use Rattle.yield_curve.specs.declared.solve.System.{System}
 use Rattle.yield_curve.specs.declared.solve.Equation.{Equation}
-use Rattle.yield_curve.specs.declared.fitting.FitAnswer.{FitAnswer}
-use Rattle.yield_curve.specs.declared.fitting.FitAnswer.TheVariants as fit_is
 use Rattle.curves.specs.Segments.{knot}
 use Rattle.curves.specs.Curve.{curve_lines}
 use Rattle.yield_curve.specs.NelsonSiegel.{soon, scaled, slope_loading, hump_loading}
@@ -56,6 +54,3 @@ module _ (times rates : List Float) where
 unfoldable pub fit : List Float → List Float → Outcome NelsonSiegel
 fit times rates = judged (curve_lines times rates) (fitted times rates)
 
-abbrev pub fit_outcome : FitAnswer → Outcome NelsonSiegel
-fit_outcome (fit_is.Refused r) = refused r.number r.place
-fit_outcome (fit_is.Given m) = accepted m

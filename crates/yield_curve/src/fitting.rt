@@ -5,20 +5,15 @@ ghost use Rattle.std.specs.Float.Ieee.{add, mul};
 ghost use Rattle.numbers.specs.Literals.{one};
 ghost use Rattle.elementary.specs.Exp.{exp};
 ghost use Rattle.curves.specs.Segments.{knot};
-ghost use Rattle.yield_curve.specs.Fit.{slope_at, hump_at, least_squares, fitted, fit, fit_outcome};
+ghost use Rattle.refusals.specs.Answers.{outcome};
+ghost use Rattle.yield_curve.specs.Fit.{slope_at, hump_at, least_squares, fitted, fit};
 ghost use Rattle.yield_curve.specs.inner.Loadings.{loading_exponent};
 
 use crate::nelson_siegel::{Loadings, NelsonSiegel};
 use crate::solve::{Equation, System};
 use curves::segments::knot_at;
 use elementary::exp::exp_each;
-use refusals::Verdict;
-
-#[derive(Clone, Copy)]
-pub enum FitAnswer {
-    Refused(refusals::Refusal),
-    Given(NelsonSiegel),
-}
+use refusals::Refusal;
 
 fn exponent_at(t: f64) -> f64
     ensures { result ≡ loading_exponent t }
@@ -132,11 +127,11 @@ fn fit_points(times: &[f64], rates: &[f64]) -> NelsonSiegel
     }
 }
 
-pub fn fit(times: &[f64], rates: &[f64]) -> FitAnswer
-    ensures { fit_outcome result ≡ fit times.now rates.now }
+pub fn fit(times: &[f64], rates: &[f64]) -> Result<NelsonSiegel, Refusal>
+    ensures { outcome result ≡ fit times.now rates.now }
 {
     match curves::curve::judge_curve(times, rates) {
-        Verdict::Refused(refusal) => FitAnswer::Refused(refusal),
-        Verdict::Accepted => FitAnswer::Given(fit_points(times, rates)),
+        Err(refusal) => Err(refusal),
+        Ok(()) => Ok(fit_points(times, rates)),
     }
 }

@@ -3,7 +3,7 @@ ghost use Rattle.std.specs.Prelude.{◌≡◌, ◌||◌, ℕ, suc, ◌+◌, ◌<
 ghost use Rattle.std.specs.Float.{binary64};
 ghost use Rattle.std.specs.Float.Ieee.{mul, of_int};
 ghost use Rattle.numbers.specs.Sums.{added_up};
-ghost use Rattle.refusals.specs.Answers.{number_outcome};
+ghost use Rattle.refusals.specs.Answers.{outcome};
 ghost use Rattle.refusals.specs.Table.{bad_time, too_many_periods};
 ghost use Rattle.curves.specs.Segments.{Rising, knot};
 ghost use Rattle.yield_curve.specs.Linear.{yield_of, discount_of, forward_of, half_years, par_of, linear_interpolate, discount_factor, forward_rate, par_yield};
@@ -12,7 +12,7 @@ use curves::curve::{bad_time, judge_asked};
 use curves::kinds::Kind;
 use curves::runs::factors_after;
 use numbers::sizes::absolute_value;
-use refusals::{Number, Verdict};
+use refusals::Refusal;
 
 // The yield at a time.
 pub(crate) fn yield_of(times: &[f64], rates: &[f64], t: f64) -> f64
@@ -117,38 +117,38 @@ fn bad_maturity(t: f64) -> bool
     }
 }
 
-pub fn linear_interpolate(times: &[f64], rates: &[f64], t: f64) -> Number
-    ensures { number_outcome result ≡ linear_interpolate times.now rates.now t }
+pub fn linear_interpolate(times: &[f64], rates: &[f64], t: f64) -> Result<f64, Refusal>
+    ensures { outcome result ≡ linear_interpolate times.now rates.now t }
 {
     match judge_asked(times, rates, bad_time(t)) {
-        Verdict::Refused(refusal) => Number::Refused(refusal),
-        Verdict::Accepted => Number::Given(yield_of(times, rates, t)),
+        Err(refusal) => Err(refusal),
+        Ok(()) => Ok(yield_of(times, rates, t)),
     }
 }
 
-pub fn discount_factor(times: &[f64], rates: &[f64], t: f64) -> Number
-    ensures { number_outcome result ≡ discount_factor times.now rates.now t }
+pub fn discount_factor(times: &[f64], rates: &[f64], t: f64) -> Result<f64, Refusal>
+    ensures { outcome result ≡ discount_factor times.now rates.now t }
 {
     match judge_asked(times, rates, bad_time(t)) {
-        Verdict::Refused(refusal) => Number::Refused(refusal),
-        Verdict::Accepted => Number::Given(discount_of(times, rates, t)),
+        Err(refusal) => Err(refusal),
+        Ok(()) => Ok(discount_of(times, rates, t)),
     }
 }
 
-pub fn forward_rate(times: &[f64], rates: &[f64], t1: f64, t2: f64) -> Number
-    ensures { number_outcome result ≡ forward_rate times.now rates.now t1 t2 }
+pub fn forward_rate(times: &[f64], rates: &[f64], t1: f64, t2: f64) -> Result<f64, Refusal>
+    ensures { outcome result ≡ forward_rate times.now rates.now t1 t2 }
 {
     match judge_asked(times, rates, bad_times(t1, t2)) {
-        Verdict::Refused(refusal) => Number::Refused(refusal),
-        Verdict::Accepted => Number::Given(forward_of(times, rates, t1, t2)),
+        Err(refusal) => Err(refusal),
+        Ok(()) => Ok(forward_of(times, rates, t1, t2)),
     }
 }
 
-pub fn par_yield(times: &[f64], rates: &[f64], t: f64) -> Number
-    ensures { number_outcome result ≡ par_yield times.now rates.now t }
+pub fn par_yield(times: &[f64], rates: &[f64], t: f64) -> Result<f64, Refusal>
+    ensures { outcome result ≡ par_yield times.now rates.now t }
 {
     match judge_asked(times, rates, bad_maturity(t)) {
-        Verdict::Refused(refusal) => Number::Refused(refusal),
-        Verdict::Accepted => Number::Given(par_of(times, rates, t)),
+        Err(refusal) => Err(refusal),
+        Ok(()) => Ok(par_of(times, rates, t)),
     }
 }

@@ -1,11 +1,11 @@
 // Nelson-Siegel curves.
 ghost use Rattle.std.specs.Prelude.{◌≡◌};
-ghost use Rattle.refusals.specs.Answers.{number_outcome};
+ghost use Rattle.refusals.specs.Answers.{outcome};
 ghost use Rattle.yield_curve.specs.NelsonSiegel.{slope_loading, hump_loading, instant_forward, yield_on, forward_on, yield_at, forward_rate_at, metrics_of};
 
 use curves::curve::bad_time;
 use elementary::exp::exp;
-use refusals::Number;
+use refusals::{Cause, Refusal};
 
 #[derive(Clone, Copy)]
 pub struct NelsonSiegel {
@@ -71,22 +71,22 @@ pub(crate) fn forward_on(model: NelsonSiegel, t: f64) -> f64
     model.beta0 + model.beta1 * left + model.beta2 * x * left
 }
 
-pub fn yield_at(model: NelsonSiegel, t: f64) -> Number
-    ensures { number_outcome result ≡ yield_at model t }
+pub fn yield_at(model: NelsonSiegel, t: f64) -> Result<f64, Refusal>
+    ensures { outcome result ≡ yield_at model t }
 {
     if bad_time(t) {
-        return Number::Refused(refusals::refuse(7));
+        return Err(refusals::refuse(Cause::Time));
     }
-    Number::Given(yield_on(model, t))
+    Ok(yield_on(model, t))
 }
 
-pub fn forward_rate(model: NelsonSiegel, t: f64) -> Number
-    ensures { number_outcome result ≡ forward_rate_at model t }
+pub fn forward_rate(model: NelsonSiegel, t: f64) -> Result<f64, Refusal>
+    ensures { outcome result ≡ forward_rate_at model t }
 {
     if bad_time(t) {
-        return Number::Refused(refusals::refuse(7));
+        return Err(refusals::refuse(Cause::Time));
     }
-    Number::Given(forward_on(model, t))
+    Ok(forward_on(model, t))
 }
 
 pub fn metrics(model: NelsonSiegel) -> CurveMetrics

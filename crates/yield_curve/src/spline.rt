@@ -3,7 +3,7 @@ ghost use Rattle.std.specs.Prelude.{◌≡◌, cond, ℕ, suc, ◌<◌, ◌≤�
 ghost use Rattle.std.specs.Float.{nan, binary64};
 ghost use Rattle.std.specs.Float.Ieee.{sub, lt};
 ghost use Rattle.numbers.specs.Sizes.{absolute};
-ghost use Rattle.refusals.specs.Answers.{number_outcome};
+ghost use Rattle.refusals.specs.Answers.{outcome};
 ghost use Rattle.curves.specs.Segments.{knot, Rising};
 ghost use Rattle.yield_curve.specs.Spline.{guard, slope, bend, mu, z, c_at, cubic, spline_of, cubic_spline_interpolate};
 
@@ -12,7 +12,7 @@ use curves::curve::{bad_time, judge_asked};
 use curves::ending::segment;
 use curves::segments::{knot_after, knot_at, last_knot, no_knot};
 use numbers::sizes::absolute_value;
-use refusals::{Number, Verdict};
+use refusals::Refusal;
 
 // mu and z of one knot.
 #[derive(Clone, Copy)]
@@ -146,11 +146,11 @@ fn spline_of(times: &[f64], rates: &[f64], t: f64) -> f64
     no_knot()
 }
 
-pub fn cubic_spline_interpolate(times: &[f64], rates: &[f64], t: f64) -> Number
-    ensures { number_outcome result ≡ cubic_spline_interpolate times.now rates.now t }
+pub fn cubic_spline_interpolate(times: &[f64], rates: &[f64], t: f64) -> Result<f64, Refusal>
+    ensures { outcome result ≡ cubic_spline_interpolate times.now rates.now t }
 {
     match judge_asked(times, rates, bad_time(t)) {
-        Verdict::Refused(refusal) => Number::Refused(refusal),
-        Verdict::Accepted => Number::Given(spline_of(times, rates, t)),
+        Err(refusal) => Err(refusal),
+        Ok(()) => Ok(spline_of(times, rates, t)),
     }
 }

@@ -1,33 +1,32 @@
 -- `listing::list_loan` meets its contract: a refusal is handed on, and the lines are put from the start. Assumes nothing.
 use mathlib.Core.Path.{sym, ap, ◌∙◌}
 use native.Mathlib.Omega.{arith}
-use Rattle.records.specs.Kinds.{terms_outcome}
-use Rattle.mortgage.specs.Payment.{opening_outcome}
 use Rattle.listing.proofs.Whole.{opened_in_hand, loan_fits, refused_record, refused_loan, accepted_loan, gives_refusal, gives_lines}
 use Rattle.listing.proofs.list_loan.Goals as goal
+use Rattle.refusals.specs.Answers.{outcome}
 
 pub put_loan-requires : goal.put_loan-requires
-put_loan-requires c = (opened_in_hand _ _ (sym c.open.ensures ∙ ap opening_outcome c.in-Open.is), omega arith)
+put_loan-requires c = (opened_in_hand _ _ (sym c.open.ensures ∙ ap outcome c.in-Ok.is), omega arith)
 
 pub overflow_cast-result : goal.overflow_cast-result
 overflow_cast-result c =
-    let h = opened_in_hand _ _ (sym c.open.ensures ∙ ap opening_outcome c.in-Open.is) in
+    let h = opened_in_hand _ _ (sym c.open.ensures ∙ ap outcome c.in-Ok.is) in
     omega (arith, loan_fits _ h, c.put_loan.ensures.place)
 
-pub returns-in-Refused : goal.returns-in-Refused
-returns-in-Refused c =
-    let whole = gives_refusal _ _ _ _ (refused_record _ _ _ (sym c.read_terms.ensures ∙ ap terms_outcome c.in-Refused.is)) in
+pub returns-in-Err : goal.returns-in-Err
+returns-in-Err c =
+    let whole = gives_refusal _ _ _ _ (refused_record _ _ _ (sym c.read_terms.ensures ∙ ap outcome c.in-Err.is)) in
     record { result_value = whole.0; out_after = whole.1 }
 
-pub returns-in-Refused-open : goal.returns-in-Refused-open
-returns-in-Refused-open c =
-    let e = sym c.read_terms.ensures ∙ ap terms_outcome c.in-Given.is in
-    let whole = gives_refusal _ _ _ _ (refused_loan _ _ _ _ e (sym c.open.ensures ∙ ap opening_outcome c.in-Refused-open.is)) in
+pub returns-in-Err-open : goal.returns-in-Err-open
+returns-in-Err-open c =
+    let e = sym c.read_terms.ensures ∙ ap outcome c.in-Ok.is in
+    let whole = gives_refusal _ _ _ _ (refused_loan _ _ _ _ e (sym c.open.ensures ∙ ap outcome c.in-Err-open.is)) in
     record { result_value = whole.0; out_after = whole.1 }
 
-pub returns-in-Open : goal.returns-in-Open
-returns-in-Open c =
-    let e = sym c.read_terms.ensures ∙ ap terms_outcome c.in-Given.is in
-    let f = sym c.open.ensures ∙ ap opening_outcome c.in-Open.is in
+pub returns-in-Ok : goal.returns-in-Ok
+returns-in-Ok c =
+    let e = sym c.read_terms.ensures ∙ ap outcome c.in-Ok.is in
+    let f = sym c.open.ensures ∙ ap outcome c.in-Ok.is in
     let whole = gives_lines _ _ _ _ _ (accepted_loan _ _ _ e f) (opened_in_hand _ _ f) (omega arith) c.put_loan.ensures in
     record { result_value = whole.0; out_after = whole.1 }

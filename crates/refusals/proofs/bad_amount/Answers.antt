@@ -10,6 +10,6 @@ pub returns-then-x : goal.returns-then-x
 unfolding bad_amount
 returns-then-x c = rw c.if-x.true (sym (or_true (not (finite c.args.x))))
 
-pub returns : goal.returns
+pub returns-else-x : goal.returns-else-x
 unfolding bad_amount
-returns c = rw c.if-x.false (ap not c.is_finite.ensures ∙ sym (or_false (not (finite c.args.x))))
+returns-else-x c = rw c.if-x.false (ap not c.is_finite.ensures ∙ sym (or_false (not (finite c.args.x))))

@@ -7,6 +7,6 @@ pub returns-then-term-eq0 : goal.returns-then-term-eq0
 unfolding bad_term
 returns-then-term-eq0 c = simp (eq-eqb _ _ c.if-term-eq0.true)
 
-pub returns : goal.returns
+pub returns-else-term-eq0 : goal.returns-else-term-eq0
 unfolding bad_term
-returns c = simp (ne_eqb _ _ c.if-term-eq0.false)
+returns-else-term-eq0 c = simp (ne_eqb _ _ c.if-term-eq0.false)

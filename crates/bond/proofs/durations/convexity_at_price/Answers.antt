@@ -14,4 +14,4 @@ pub returns : goal.returns
 unfolding convexity_at_price
 returns c =
     let b = c.args.bond in
-    asked_at (λ (ytm : Float). convexity ytm b) _ _ c.yield_to_maturity-found.ensures _ _ c.in-Given.is c.convexity.ensures
+    asked_at (λ (ytm : Float). convexity ytm b) _ _ c.yield_to_maturity-found.ensures _ _ c.in-Ok.is c.convexity.ensures

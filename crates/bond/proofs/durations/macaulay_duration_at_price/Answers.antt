@@ -14,5 +14,5 @@ pub returns : goal.returns
 unfolding macaulay_at_price
 returns c =
     let b = c.args.bond in
-    asked_at (λ (ytm : Float). macaulay_duration ytm b) _ _ c.yield_to_maturity-found.ensures _ _ c.in-Given.is
+    asked_at (λ (ytm : Float). macaulay_duration ytm b) _ _ c.yield_to_maturity-found.ensures _ _ c.in-Ok.is
     c.macaulay_duration.ensures

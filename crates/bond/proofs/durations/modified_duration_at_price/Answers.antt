@@ -14,5 +14,5 @@ pub returns : goal.returns
 unfolding modified_at_price
 returns c =
     let b = c.args.bond in
-    asked_at (λ (ytm : Float). modified_duration ytm b) _ _ c.yield_to_maturity-found.ensures _ _ c.in-Given.is
+    asked_at (λ (ytm : Float). modified_duration ytm b) _ _ c.yield_to_maturity-found.ensures _ _ c.in-Ok.is
     c.modified_duration.ensures

@@ -11,11 +11,11 @@ returns-then-next_to_nothing c =
       sym c.next_to_nothing.ensures,
       c.if-next_to_nothing.true,
       sym c.worked_out.ensures.0,
-    ) (accepted_by _ _ _ c.in-Accepted.is c.judge_bond.ensures)
+    ) (accepted_by _ _ _ c.in-Ok.is c.judge_bond.ensures)
 
-pub returns-in-Refused : goal.returns-in-Refused
+pub returns-in-Err : goal.returns-in-Err
 unfolding current_yield
-returns-in-Refused c = rw (sym c.worked_out.ensures.0) (refused_by _ _ _ _ c.in-Refused.is c.judge_bond.ensures)
+returns-in-Err c = rw (sym c.worked_out.ensures.0) (refused_by _ _ _ _ c.in-Err.is c.judge_bond.ensures)
 
 pub returns-else-next_to_nothing : goal.returns-else-next_to_nothing
 unfolding current_yield
@@ -24,4 +24,4 @@ returns-else-next_to_nothing c =
       sym c.next_to_nothing.ensures,
       c.if-next_to_nothing.false,
       sym c.worked_out.ensures.0,
-    ) (accepted_by _ _ _ c.in-Accepted.is c.judge_bond.ensures)
+    ) (accepted_by _ _ _ c.in-Ok.is c.judge_bond.ensures)

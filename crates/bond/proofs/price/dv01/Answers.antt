@@ -4,15 +4,15 @@ use Rattle.refusals.proofs.Verdicts.{refused_by, accepted_by}
 use Rattle.bond.specs.Price.{dv01}
 use Rattle.bond.proofs.price.dv01.Goals as goal
 
-pub returns-in-Refused : goal.returns-in-Refused
+pub returns-in-Err : goal.returns-in-Err
 unfolding dv01
-returns-in-Refused c = rw (sym c.worked_out-worked.ensures.0) (refused_by _ _ _ _ c.in-Refused.is c.judge_bond.ensures)
+returns-in-Err c = rw (sym c.worked_out-worked.ensures.0) (refused_by _ _ _ _ c.in-Err.is c.judge_bond.ensures)
 
-pub returns-in-Accepted : goal.returns-in-Accepted
+pub returns-in-Ok : goal.returns-in-Ok
 unfolding dv01
-returns-in-Accepted c =
+returns-in-Ok c =
     rw (
       c.price_at.ensures,
-      c.price_at-in-Accepted.ensures,
+      c.price_at-in-Ok.ensures,
       sym c.worked_out-worked.ensures.0,
-    ) (accepted_by _ _ _ c.in-Accepted.is c.judge_bond.ensures)
+    ) (accepted_by _ _ _ c.in-Ok.is c.judge_bond.ensures)

@@ -4,10 +4,10 @@ use Rattle.refusals.proofs.Verdicts.{refused_by, accepted_by}
 use Rattle.bond.specs.Price.{price}
 use Rattle.bond.proofs.price.price.Goals as goal
 
-pub returns-in-Refused : goal.returns-in-Refused
+pub returns-in-Err : goal.returns-in-Err
 unfolding price
-returns-in-Refused c = rw (sym c.worked_out-worked.ensures.0) (refused_by _ _ _ _ c.in-Refused.is c.judge_bond.ensures)
+returns-in-Err c = rw (sym c.worked_out-worked.ensures.0) (refused_by _ _ _ _ c.in-Err.is c.judge_bond.ensures)
 
-pub returns-in-Accepted : goal.returns-in-Accepted
+pub returns-in-Ok : goal.returns-in-Ok
 unfolding price
-returns-in-Accepted c = rw (c.price_at.ensures, sym c.worked_out-worked.ensures.0) (accepted_by _ _ _ c.in-Accepted.is c.judge_bond.ensures)
+returns-in-Ok c = rw (c.price_at.ensures, sym c.worked_out-worked.ensures.0) (accepted_by _ _ _ c.in-Ok.is c.judge_bond.ensures)

@@ -13,18 +13,18 @@ use Rattle.bond.proofs.yields.yield_to_maturity.Goals as goal
 abbrev after : Bond → Float → List Line
 after b market = line 12 (no_bracket b market) ∷ []
 
-pub returns-in-Refused : goal.returns-in-Refused
+pub returns-in-Err : goal.returns-in-Err
 unfolding yield_to_maturity
-returns-in-Refused c =
+returns-in-Err c =
     let b = c.worked_out-worked.result.bond in
     let x = c.args.market in
     rw (sym c.worked_out-worked.ensures.0)
-    (refused_first (bond_lines b x) (after b x) _ _ c.judge_bond.ensures _ c.in-Refused.is)
+    (refused_first (bond_lines b x) (after b x) _ _ c.judge_bond.ensures _ c.in-Err.is)
 
-pub returns-in-Accepted : goal.returns-in-Accepted
+pub returns-in-Ok : goal.returns-in-Ok
 unfolding yield_to_maturity
-returns-in-Accepted c =
+returns-in-Ok c =
     let b = c.worked_out-worked.result.bond in
     let x = c.args.market in
     rw (sym c.worked_out-worked.ensures.0)
-    (c.yield_in_bracket.ensures ∙ accepted_first (bond_lines b x) (after b x) _ _ c.judge_bond.ensures c.in-Accepted.is)
+    (c.yield_in_bracket.ensures ∙ accepted_first (bond_lines b x) (after b x) _ _ c.judge_bond.ensures c.in-Ok.is)

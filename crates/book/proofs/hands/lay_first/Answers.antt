@@ -1,10 +1,10 @@
 -- `book::hands::lay_first` meets its contract: a refused loan has no rows, and any other's are laid. Assumes nothing.
 use mathlib.Core.Path.{sym, ap, ◌∙◌}
 use native.Mathlib.Omega.{arith}
-use Rattle.mortgage.specs.Payment.{opening_outcome}
 use Rattle.book.specs.Book.{loan_at}
 use Rattle.book.proofs.Taking.{no_first, refused_first, first_laid}
 use Rattle.book.proofs.hands.lay_first.Goals as goal
+use Rattle.refusals.specs.Answers.{outcome}
 
 pub returns-then-count-eq0 : goal.returns-then-count-eq0
 returns-then-count-eq0 c = let a = c.args in no_first a.room.now a.at a.count (loan_at a.records.now a.i) c.if-count-eq0.true
@@ -12,12 +12,12 @@ returns-then-count-eq0 c = let a = c.args in no_first a.room.now a.at a.count (l
 pub open_at-requires : goal.open_at-requires
 open_at-requires c = c.requires.i_bound (omega arith)
 
-pub returns-in-Refused : goal.returns-in-Refused
-returns-in-Refused c =
+pub returns-in-Err : goal.returns-in-Err
+returns-in-Err c =
     let a = c.args in
-    refused_first a.room.now a.at a.count _ _ _ (sym (ap opening_outcome c.in-Refused.is) ∙ c.open_at.ensures)
+    refused_first a.room.now a.at a.count _ _ _ (sym (ap outcome c.in-Err.is) ∙ c.open_at.ensures)
 
-pub returns-in-Open : goal.returns-in-Open
-returns-in-Open c =
+pub returns-in-Ok : goal.returns-in-Ok
+returns-in-Ok c =
     let a = c.args in
-    first_laid a.room.now a.at a.count _ _ _ (sym (ap opening_outcome c.in-Open.is) ∙ c.open_at.ensures) c.requires.width_in_bounds.0 c.requires.width_in_bounds.1 c.lay_at.ensures.room_after
+    first_laid a.room.now a.at a.count _ _ _ (sym (ap outcome c.in-Ok.is) ∙ c.open_at.ensures) c.requires.width_in_bounds.0 c.requires.width_in_bounds.1 c.lay_at.ensures.room_after

@@ -3,8 +3,8 @@ use Rattle.refusals.specs.Outcome.{refused}
 use Rattle.book.proofs.Asking.{refused_record, given_record, both_of}
 use Rattle.book.proofs.loans.asking_at.Goals as goal
 
-pub returns-in-Refused : goal.returns-in-Refused
-returns-in-Refused c = both_of _ _ (refused _ _) _ c.refused_loan.ensures (refused_record _ _ _ c.read_at.ensures _ c.in-Refused.is)
+pub returns-in-Err : goal.returns-in-Err
+returns-in-Err c = both_of _ _ (refused _ _) _ c.refused_loan.ensures (refused_record _ _ _ c.read_at.ensures _ c.in-Err.is)
 
-pub returns-in-Given : goal.returns-in-Given
-returns-in-Given c = both_of _ _ _ _ c.asking_of.ensures (given_record _ _ _ c.read_at.ensures _ c.in-Given.is)
+pub returns-in-Ok : goal.returns-in-Ok
+returns-in-Ok c = both_of _ _ _ _ c.asking_of.ensures (given_record _ _ _ c.read_at.ensures _ c.in-Ok.is)

@@ -3,8 +3,8 @@ use mathlib.Core.Path.{◌∙◌}
 use Rattle.book.proofs.Asking.{refused_record, given_record}
 use Rattle.book.proofs.loans.open_at.Goals as goal
 
-pub returns-in-Refused : goal.returns-in-Refused
-returns-in-Refused c = refused_record _ _ _ c.read_at.ensures _ c.in-Refused.is
+pub returns-in-Err : goal.returns-in-Err
+returns-in-Err c = refused_record _ _ _ c.read_at.ensures _ c.in-Err.is
 
-pub returns-in-Given : goal.returns-in-Given
-returns-in-Given c = c.open.ensures ∙ given_record _ _ _ c.read_at.ensures _ c.in-Given.is
+pub returns-in-Ok : goal.returns-in-Ok
+returns-in-Ok c = c.open.ensures ∙ given_record _ _ _ c.read_at.ensures _ c.in-Ok.is

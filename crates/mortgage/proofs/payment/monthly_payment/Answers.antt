@@ -6,10 +6,10 @@ use Rattle.mortgage.specs.Terms.{terms_lines}
 use Rattle.mortgage.specs.Payment.{payment, monthly_payment}
 use Rattle.mortgage.proofs.payment.monthly_payment.Goals as goal
 
-pub returns-in-Refused : goal.returns-in-Refused
+pub returns-in-Err : goal.returns-in-Err
 unfolding monthly_payment
-returns-in-Refused c = let t = c.args.terms in refused_by (terms_lines t) (payment t) _ _ c.in-Refused.is c.judge_terms.ensures
+returns-in-Err c = let t = c.args.terms in refused_by (terms_lines t) (payment t) _ _ c.in-Err.is c.judge_terms.ensures
 
-pub returns-in-Accepted : goal.returns-in-Accepted
+pub returns-in-Ok : goal.returns-in-Ok
 unfolding monthly_payment
-returns-in-Accepted c = let t = c.args.terms in ap accepted c.worked_out.ensures ∙ accepted_by (terms_lines t) (payment t) _ c.in-Accepted.is c.judge_terms.ensures
+returns-in-Ok c = let t = c.args.terms in ap accepted c.worked_out.ensures ∙ accepted_by (terms_lines t) (payment t) _ c.in-Ok.is c.judge_terms.ensures

@@ -5,12 +5,12 @@ use Rattle.mortgage.proofs.totals.ltv.Goals as goal
 
 pub returns-then-value : goal.returns-then-value
 unfolding loan_to_value
-returns-then-value c = rw (c.infinity.ensures, c.if-value.true) (accepted_by _ _ _ c.in-Accepted.is c.judge_terms.ensures)
+returns-then-value c = rw (c.infinity.ensures, c.if-value.true) (accepted_by _ _ _ c.in-Ok.is c.judge_terms.ensures)
 
-pub returns-in-Refused : goal.returns-in-Refused
+pub returns-in-Err : goal.returns-in-Err
 unfolding loan_to_value
-returns-in-Refused c = refused_by _ _ _ _ c.in-Refused.is c.judge_terms.ensures
+returns-in-Err c = refused_by _ _ _ _ c.in-Err.is c.judge_terms.ensures
 
 pub returns-else-value : goal.returns-else-value
 unfolding loan_to_value
-returns-else-value c = rw c.if-value.false (accepted_by _ _ _ c.in-Accepted.is c.judge_terms.ensures)
+returns-else-value c = rw c.if-value.false (accepted_by _ _ _ c.in-Ok.is c.judge_terms.ensures)

@@ -10,10 +10,10 @@ pub balance_after-requires : goal.balance_after-requires
 unfolding loan_of end_month
 balance_after-requires c = rw c.loan_of-loan.ensures (omega (arith, c.smaller.ensures))
 
-pub returns-in-Refused : goal.returns-in-Refused
+pub returns-in-Err : goal.returns-in-Err
 unfolding remaining_balance
-returns-in-Refused c = refused_by _ _ _ _ c.in-Refused.is c.judge_terms.ensures
+returns-in-Err c = refused_by _ _ _ _ c.in-Err.is c.judge_terms.ensures
 
-pub returns-in-Accepted : goal.returns-in-Accepted
+pub returns-in-Ok : goal.returns-in-Ok
 unfolding remaining_balance
-returns-in-Accepted c = rw (c.balance_after.ensures, c.smaller.ensures, c.loan_of-loan.ensures, c.worked_out-payment.ensures) (accepted_by _ _ _ c.in-Accepted.is c.judge_terms.ensures)
+returns-in-Ok c = rw (c.balance_after.ensures, c.smaller.ensures, c.loan_of-loan.ensures, c.worked_out-payment.ensures) (accepted_by _ _ _ c.in-Ok.is c.judge_terms.ensures)

@@ -3,10 +3,10 @@ use Rattle.refusals.proofs.Verdicts.{refused_by, accepted_by}
 use Rattle.mortgage.specs.Totals.{total_interest}
 use Rattle.mortgage.proofs.totals.total_interest.Goals as goal
 
-pub returns-in-Refused : goal.returns-in-Refused
+pub returns-in-Err : goal.returns-in-Err
 unfolding total_interest
-returns-in-Refused c = refused_by _ _ _ _ c.in-Refused.is c.judge_terms.ensures
+returns-in-Err c = refused_by _ _ _ _ c.in-Err.is c.judge_terms.ensures
 
-pub returns-in-Accepted : goal.returns-in-Accepted
+pub returns-in-Ok : goal.returns-in-Ok
 unfolding total_interest
-returns-in-Accepted c = rw c.interest_sum.ensures (accepted_by _ _ _ c.in-Accepted.is c.judge_terms.ensures)
+returns-in-Ok c = rw c.interest_sum.ensures (accepted_by _ _ _ c.in-Ok.is c.judge_terms.ensures)

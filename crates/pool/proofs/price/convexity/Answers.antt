@@ -8,13 +8,13 @@ use Rattle.pool.proofs.price.convexity.Goals as goal
 
 pub convexity_for-requires : goal.convexity_for-requires
 convexity_for-requires c =
-    let e = accepts _ _ c.judge_pool.ensures c.in-Accepted.is in
+    let e = accepts _ _ c.judge_pool.ensures c.in-Ok.is in
     (records_right _ _ e, principals_right _ _ e, terms_right _ _ e, at_most_1200 _ _ e)
 
-pub returns-in-Refused : goal.returns-in-Refused
+pub returns-in-Err : goal.returns-in-Err
 unfolding pool_convexity
-returns-in-Refused c = refused_by _ _ _ c.judge_pool.ensures _ c.in-Refused.is
+returns-in-Err c = refused_by _ _ _ c.judge_pool.ensures _ c.in-Err.is
 
-pub returns-in-Accepted : goal.returns-in-Accepted
+pub returns-in-Ok : goal.returns-in-Ok
 unfolding pool_convexity
-returns-in-Accepted c = ap accepted c.convexity_for.ensures ∙ accepted_by _ _ _ c.judge_pool.ensures c.in-Accepted.is
+returns-in-Ok c = ap accepted c.convexity_for.ensures ∙ accepted_by _ _ _ c.judge_pool.ensures c.in-Ok.is

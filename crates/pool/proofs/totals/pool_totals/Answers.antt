@@ -7,12 +7,12 @@ use Rattle.pool.proofs.Accepted.{records_right}
 use Rattle.pool.proofs.totals.pool_totals.Goals as goal
 
 pub totals_of-requires : goal.totals_of-requires
-totals_of-requires c = records_right _ _ (accepts _ _ c.judge_pool.ensures c.in-Accepted.is)
+totals_of-requires c = records_right _ _ (accepts _ _ c.judge_pool.ensures c.in-Ok.is)
 
-pub returns-in-Refused : goal.returns-in-Refused
+pub returns-in-Err : goal.returns-in-Err
 unfolding pool_totals
-returns-in-Refused c = refused_by _ _ _ c.judge_pool.ensures _ c.in-Refused.is
+returns-in-Err c = refused_by _ _ _ c.judge_pool.ensures _ c.in-Err.is
 
-pub returns-in-Accepted : goal.returns-in-Accepted
+pub returns-in-Ok : goal.returns-in-Ok
 unfolding pool_totals
-returns-in-Accepted c = ap accepted c.totals_of.ensures ∙ accepted_by _ _ _ c.judge_pool.ensures c.in-Accepted.is
+returns-in-Ok c = ap accepted c.totals_of.ensures ∙ accepted_by _ _ _ c.judge_pool.ensures c.in-Ok.is

@@ -1,13 +1,13 @@
 -- `senyolanda::balloon::senyolanda_open_balloon_with_payment` meets its contract. Assumes nothing.
 use mathlib.Core.Path.{sym, ap, ◌∙◌}
-use Rattle.records.specs.Kinds.{terms_outcome}
 use Rattle.senyolanda.proofs.Handed.{not_read, asked_of}
 use Rattle.senyolanda.proofs.balloon.senyolanda_open_balloon_with_payment.Goals as goal
+use Rattle.refusals.specs.Answers.{outcome}
 
-pub returns-in-Refused : goal.returns-in-Refused
-returns-in-Refused c = not_read _ _ _ _ _ _ _ (sym (ap terms_outcome c.in-Refused.is) ∙ c.read_terms.ensures) c.refusal_result.ensures
+pub returns-in-Err : goal.returns-in-Err
+returns-in-Err c = not_read _ _ _ _ _ _ _ (sym (ap outcome c.in-Err.is) ∙ c.read_terms.ensures) c.refusal_result.ensures
 
-pub returns-in-Given : goal.returns-in-Given
-returns-in-Given c =
-    asked_of _ _ _ _ _ _ _ (sym (ap terms_outcome c.in-Given.is) ∙ c.read_terms.ensures)
+pub returns-in-Ok : goal.returns-in-Ok
+returns-in-Ok c =
+    asked_of _ _ _ _ _ _ _ (sym (ap outcome c.in-Ok.is) ∙ c.read_terms.ensures)
     c.put_loan.ensures c.open_balloon_with_payment-opening.ensures

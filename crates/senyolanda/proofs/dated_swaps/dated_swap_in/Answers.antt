@@ -3,17 +3,16 @@ use mathlib.Core.Path.{◌≡◌, sym, ap, ◌∙◌}
 use mathlib.Core.List.{List}
 use lib.Ieee.{Float}
 use Rattle.refusals.specs.Outcome.{Outcome, judged}
-use Rattle.refusals.specs.Answers.{verdict_outcome}
 use Rattle.records.specs.declared.DatedSwapRecord.{DatedSwapRecord}
-use Rattle.records.specs.Kinds.{dated_swap_outcome}
 use Rattle.swaps.specs.declared.DatedSwap.{DatedSwap}
 use Rattle.swaps.specs.declared.AnySwap.TheVariants.{Dated}
 use Rattle.swaps.specs.declared.day_counts.DayCount.{DayCount}
-use Rattle.swaps.specs.Codes.{day_count_at, day_count_of, day_count_outcome}
+use Rattle.swaps.specs.Codes.{day_count_at, day_count_of}
 use Rattle.swaps.specs.DatedSwap.{span_of, too_many_dated, uncoded_dated_lines}
 use Rattle.senyolanda.specs.Swaps.{dated_by, dated_swap_of, dated_swap_read}
 use Rattle.senyolanda.proofs.Codes.{out_of_set, in_set, known, others_first, unknown, unread, read_so}
 use Rattle.senyolanda.proofs.dated_swaps.dated_swap_in.Goals as goal
+use Rattle.refusals.specs.Answers.{outcome}
 
 -- no day count changes what a dated swap is refused with before its dates
 alike : (s : DatedSwap) (d e : DayCount) (b : DatedSwapRecord) (tenors zeros : List Float) {o : Outcome Unit} → s ≡ dated_by d b → o ≡ judged (uncoded_dated_lines s tenors zeros) tt
@@ -21,33 +20,33 @@ alike : (s : DatedSwap) (d e : DayCount) (b : DatedSwapRecord) (tenors zeros : L
 unfolding too_many_dated span_of
 alike s d e b tenors zeros is o = o ∙ ap (λ (q : DatedSwap). judged (uncoded_dated_lines q tenors zeros) tt) is
 
-pub returns-in-Refused : goal.returns-in-Refused
+pub returns-in-Err : goal.returns-in-Err
 unfolding dated_swap_read
-returns-in-Refused c = unread _ _ _ _ (sym (ap dated_swap_outcome c.in-Refused.is) ∙ c.read_dated_swap_uncoded.ensures)
+returns-in-Err c = unread _ _ _ _ (sym (ap outcome c.in-Err.is) ∙ c.read_dated_swap_uncoded.ensures)
 
-pub returns-in-Given-day_count_of : goal.returns-in-Given-day_count_of
+pub returns-in-Ok-day_count_of : goal.returns-in-Ok-day_count_of
 unfolding dated_swap_read day_count_of
-returns-in-Given-day_count_of c =
-    let b = c.in-Given.fields in
+returns-in-Ok-day_count_of c =
+    let b = c.in-Ok.fields in
     let a = c.args in
-    let set = in_set _ _ _ (sym (ap day_count_outcome c.in-Given-day_count_of.is) ∙ c.day_count_of.ensures) in
-    read_so _ _ _ _ (sym (ap dated_swap_outcome c.in-Given.is) ∙ c.read_dated_swap_uncoded.ensures)
+    let set = in_set _ _ _ (sym (ap outcome c.in-Ok-day_count_of.is) ∙ c.day_count_of.ensures) in
+    read_so _ _ _ _ (sym (ap outcome c.in-Ok.is) ∙ c.read_dated_swap_uncoded.ensures)
     (known _ (judged (uncoded_dated_lines (dated_swap_of b) a.tenors.now a.zeros.now) tt) _ _ set.0 (ap Dated (c.dated_by.ensures ∙ ap (λ (d : DayCount). dated_by d b) set.1)))
 
-pub returns-in-Refused-judge_but_dates : goal.returns-in-Refused-judge_but_dates
+pub returns-in-Err-judge_but_dates : goal.returns-in-Err-judge_but_dates
 unfolding dated_swap_read day_count_of too_many_dated span_of
-returns-in-Refused-judge_but_dates c =
-    let b = c.in-Given.fields in
+returns-in-Err-judge_but_dates c =
+    let b = c.in-Ok.fields in
     let a = c.args in
-    let set = out_of_set _ _ _ _ (sym (ap day_count_outcome c.in-Refused-day_count_of.is) ∙ c.day_count_of.ensures) in
-    read_so _ _ _ _ (sym (ap dated_swap_outcome c.in-Given.is) ∙ c.read_dated_swap_uncoded.ensures)
-    (others_first _ _ _ _ _ set.0 (sym (ap verdict_outcome c.in-Refused-judge_but_dates.is) ∙ alike _ _ (day_count_at b.count) b a.tenors.now a.zeros.now c.dated_by-swap.ensures c.judge_but_dates.ensures))
+    let set = out_of_set _ _ _ _ (sym (ap outcome c.in-Err-day_count_of.is) ∙ c.day_count_of.ensures) in
+    read_so _ _ _ _ (sym (ap outcome c.in-Ok.is) ∙ c.read_dated_swap_uncoded.ensures)
+    (others_first _ _ _ _ _ set.0 (sym (ap outcome c.in-Err-judge_but_dates.is) ∙ alike _ _ (day_count_at b.count) b a.tenors.now a.zeros.now c.dated_by-swap.ensures c.judge_but_dates.ensures))
 
-pub returns-in-Accepted : goal.returns-in-Accepted
+pub returns-in-Ok : goal.returns-in-Ok
 unfolding dated_swap_read day_count_of too_many_dated span_of
-returns-in-Accepted c =
-    let b = c.in-Given.fields in
+returns-in-Ok c =
+    let b = c.in-Ok.fields in
     let a = c.args in
-    let set = out_of_set _ _ _ _ (sym (ap day_count_outcome c.in-Refused-day_count_of.is) ∙ c.day_count_of.ensures) in
-    read_so _ _ _ _ (sym (ap dated_swap_outcome c.in-Given.is) ∙ c.read_dated_swap_uncoded.ensures)
-    (unknown _ _ _ _ _ set.0 (sym (ap verdict_outcome c.in-Accepted.is) ∙ alike _ _ (day_count_at b.count) b a.tenors.now a.zeros.now c.dated_by-swap.ensures c.judge_but_dates.ensures) set.1 set.2)
+    let set = out_of_set _ _ _ _ (sym (ap outcome c.in-Err-day_count_of.is) ∙ c.day_count_of.ensures) in
+    read_so _ _ _ _ (sym (ap outcome c.in-Ok.is) ∙ c.read_dated_swap_uncoded.ensures)
+    (unknown _ _ _ _ _ set.0 (sym (ap outcome c.in-Ok.is) ∙ alike _ _ (day_count_at b.count) b a.tenors.now a.zeros.now c.dated_by-swap.ensures c.judge_but_dates.ensures) set.1 set.2)

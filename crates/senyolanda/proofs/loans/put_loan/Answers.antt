@@ -1,11 +1,11 @@
 -- `senyolanda::loans::put_loan` meets its contract. Assumes nothing.
 use mathlib.Core.Path.{sym, ap}
-use Rattle.mortgage.specs.Payment.{opening_outcome}
 use Rattle.senyolanda.proofs.Handed.{refused_so, accepted_so}
 use Rattle.senyolanda.proofs.loans.put_loan.Goals as goal
+use Rattle.refusals.specs.Answers.{outcome}
 
-pub returns-in-Refused : goal.returns-in-Refused
-returns-in-Refused c = refused_so _ _ _ _ _ _ (sym (ap opening_outcome c.in-Refused.is)) c.refusal_result.ensures
+pub returns-in-Err : goal.returns-in-Err
+returns-in-Err c = refused_so _ _ _ _ _ _ (sym (ap outcome c.in-Err.is)) c.refusal_result.ensures
 
-pub returns-in-Open : goal.returns-in-Open
-returns-in-Open c = accepted_so _ _ _ _ _ (sym (ap opening_outcome c.in-Open.is)) c.hand_back.ensures
+pub returns-in-Ok : goal.returns-in-Ok
+returns-in-Ok c = accepted_so _ _ _ _ _ (sym (ap outcome c.in-Ok.is)) c.hand_back.ensures

@@ -12,8 +12,8 @@ handed_on : (n : ℕ) {k j : List ℕ × List Float} {r bytes : List ℕ} {m owe
     → ◌≡◌ {A = List ℕ × List Float × List ℕ × ℕ × ℕ} (k.0, k.1, r, n, m) (j.0, j.1, bytes, n, owed)
 handed_on n l e h = cc
 
-pub returns-in-Refused : goal.returns-in-Refused
-returns-in-Refused c index = refused_so _ _ _ _ _ _ (sym (ap next_outcome c.in-Refused.is)) c.refusal_result.ensures
+pub returns-in-Err : goal.returns-in-Err
+returns-in-Err c index = refused_so _ _ _ _ _ _ (sym (ap next_outcome c.in-Err.is)) c.refusal_result.ensures
 
 pub returns-in-Finished : goal.returns-in-Finished
 returns-in-Finished c index = accepted_so _ _ _ _ _ (sym (ap next_outcome c.in-Finished.is)) refl

@@ -1,11 +1,11 @@
 -- `senyolanda::pools::senyolanda_pool_totals` meets its contract. Assumes nothing.
 use mathlib.Core.Path.{refl, sym, ap, ◌∙◌}
-use Rattle.pool.specs.Totals.{totals_outcome}
 use Rattle.senyolanda.proofs.Handed.{refused_so, accepted_so}
 use Rattle.senyolanda.proofs.pools.senyolanda_pool_totals.Goals as goal
+use Rattle.refusals.specs.Answers.{outcome}
 
-pub returns-in-Refused : goal.returns-in-Refused
-returns-in-Refused c = refused_so _ _ _ _ _ _ (sym (ap totals_outcome c.in-Refused.is) ∙ c.pool_totals.ensures) c.refusal_result.ensures
+pub returns-in-Err : goal.returns-in-Err
+returns-in-Err c = refused_so _ _ _ _ _ _ (sym (ap outcome c.in-Err.is) ∙ c.pool_totals.ensures) c.refusal_result.ensures
 
-pub returns-in-Given : goal.returns-in-Given
-returns-in-Given c = accepted_so _ _ _ _ _ (sym (ap totals_outcome c.in-Given.is) ∙ c.pool_totals.ensures) refl
+pub returns-in-Ok : goal.returns-in-Ok
+returns-in-Ok c = accepted_so _ _ _ _ _ (sym (ap outcome c.in-Ok.is) ∙ c.pool_totals.ensures) refl

@@ -1,34 +1,34 @@
 -- `senyolanda::pools::speed_for` meets its contract. Assumes nothing.
 use mathlib.Core.Path.{sym, ap, ◌∙◌}
 use mathlib.Core.Bool.{◌&&◌}
-use Rattle.refusals.specs.Answers.{verdict_outcome}
 use Rattle.pool.specs.Flows.{too_little}
-use Rattle.senyolanda.specs.Pools.{speed_of, speed_in_outcome}
+use Rattle.senyolanda.specs.Pools.{speed_of}
 use Rattle.senyolanda.proofs.Codes.{out_of_set, in_set}
 use Rattle.senyolanda.proofs.SpeedCodes.{known_speed, lower_first, before_records, nothing_else}
 use Rattle.senyolanda.proofs.pools.speed_for.Goals as goal
+use Rattle.refusals.specs.Answers.{outcome}
 
 pub returns-then-refusal-eq11 : goal.returns-then-refusal-eq11
 unfolding speed_of
 returns-then-refusal-eq11 c =
-    let set = out_of_set _ _ _ _ (sym (ap speed_in_outcome c.in-Refused.is) ∙ c.speed_of.ensures) in
-    before_records _ _ _ _ set.0 _ _ set.1 set.2 _ _ (sym (ap verdict_outcome c.in-Refused-judge_pool.is) ∙ c.judge_pool.ensures) c.if-refusal-eq11.true
+    let set = out_of_set _ _ _ _ (sym (ap outcome c.in-Err.is) ∙ c.speed_of.ensures) in
+    before_records _ _ _ _ set.0 _ _ set.1 set.2 _ _ (sym (ap outcome c.in-Err-judge_pool.is) ∙ c.judge_pool.ensures) c.if-refusal-eq11.true
 
-pub returns-in-Given : goal.returns-in-Given
+pub returns-in-Ok : goal.returns-in-Ok
 unfolding speed_of
-returns-in-Given c =
-    let set = in_set _ _ _ (sym (ap speed_in_outcome c.in-Given.is) ∙ c.speed_of.ensures) in
+returns-in-Ok c =
+    let set = in_set _ _ _ (sym (ap outcome c.in-Ok.is) ∙ c.speed_of.ensures) in
     let a = c.args in
     known_speed a.records.now (a.asked && too_little a.records.now a.room) _ _ _ set.0 set.1
 
 pub returns-else-refusal-eq11 : goal.returns-else-refusal-eq11
 unfolding speed_of
 returns-else-refusal-eq11 c =
-    let set = out_of_set _ _ _ _ (sym (ap speed_in_outcome c.in-Refused.is) ∙ c.speed_of.ensures) in
-    lower_first _ _ _ _ set.0 _ _ (sym (ap verdict_outcome c.in-Refused-judge_pool.is) ∙ c.judge_pool.ensures) c.if-refusal-eq11.false
+    let set = out_of_set _ _ _ _ (sym (ap outcome c.in-Err.is) ∙ c.speed_of.ensures) in
+    lower_first _ _ _ _ set.0 _ _ (sym (ap outcome c.in-Err-judge_pool.is) ∙ c.judge_pool.ensures) c.if-refusal-eq11.false
 
-pub returns-in-Accepted : goal.returns-in-Accepted
+pub returns-in-Ok : goal.returns-in-Ok
 unfolding speed_of
-returns-in-Accepted c =
-    let set = out_of_set _ _ _ _ (sym (ap speed_in_outcome c.in-Refused.is) ∙ c.speed_of.ensures) in
-    nothing_else _ _ _ _ set.0 _ _ set.1 set.2 (sym (ap verdict_outcome c.in-Accepted.is) ∙ c.judge_pool.ensures)
+returns-in-Ok c =
+    let set = out_of_set _ _ _ _ (sym (ap outcome c.in-Err.is) ∙ c.speed_of.ensures) in
+    nothing_else _ _ _ _ set.0 _ _ set.1 set.2 (sym (ap outcome c.in-Ok.is) ∙ c.judge_pool.ensures)

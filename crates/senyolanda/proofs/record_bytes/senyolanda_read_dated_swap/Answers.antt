@@ -1,11 +1,11 @@
 -- `senyolanda::record_bytes::senyolanda_read_dated_swap` meets its contract. Assumes nothing.
 use mathlib.Core.Path.{sym, ap, ◌∙◌, refl}
-use Rattle.records.specs.Kinds.{dated_swap_outcome}
 use Rattle.senyolanda.proofs.Handed.{refused_so, accepted_so}
 use Rattle.senyolanda.proofs.record_bytes.senyolanda_read_dated_swap.Goals as goal
+use Rattle.refusals.specs.Answers.{outcome}
 
-pub returns-in-Refused : goal.returns-in-Refused
-returns-in-Refused c = refused_so _ _ _ _ _ _ (sym (ap dated_swap_outcome c.in-Refused.is) ∙ c.read_dated_swap.ensures) c.refusal_result.ensures
+pub returns-in-Err : goal.returns-in-Err
+returns-in-Err c = refused_so _ _ _ _ _ _ (sym (ap outcome c.in-Err.is) ∙ c.read_dated_swap.ensures) c.refusal_result.ensures
 
-pub returns-in-Given : goal.returns-in-Given
-returns-in-Given c = accepted_so _ _ _ _ _ (sym (ap dated_swap_outcome c.in-Given.is) ∙ c.read_dated_swap.ensures) refl
+pub returns-in-Ok : goal.returns-in-Ok
+returns-in-Ok c = accepted_so _ _ _ _ _ (sym (ap outcome c.in-Ok.is) ∙ c.read_dated_swap.ensures) refl

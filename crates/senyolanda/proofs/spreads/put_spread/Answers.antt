@@ -4,8 +4,8 @@ use Rattle.spread_analytics.specs.Spread.{spread_outcome}
 use Rattle.senyolanda.proofs.Handed.{refused_so, accepted_so}
 use Rattle.senyolanda.proofs.spreads.put_spread.Goals as goal
 
-pub returns-in-Refused : goal.returns-in-Refused
-returns-in-Refused c = refused_so _ _ _ _ _ _ (sym (ap spread_outcome c.in-Refused.is)) c.refusal_result.ensures
+pub returns-in-Err : goal.returns-in-Err
+returns-in-Err c = refused_so _ _ _ _ _ _ (sym (ap spread_outcome c.in-Err.is)) c.refusal_result.ensures
 
 pub returns-in-Found : goal.returns-in-Found
 returns-in-Found c = accepted_so _ _ _ _ _ (sym (ap spread_outcome c.in-Found.is)) refl

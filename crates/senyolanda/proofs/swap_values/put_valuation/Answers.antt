@@ -1,11 +1,11 @@
 -- `senyolanda::swap_values::put_valuation` meets its contract. Assumes nothing.
 use mathlib.Core.Path.{refl, sym, ap}
-use Rattle.swaps.specs.Valuation.{valuation_outcome}
 use Rattle.senyolanda.proofs.Handed.{refused_so, accepted_so}
 use Rattle.senyolanda.proofs.swap_values.put_valuation.Goals as goal
+use Rattle.refusals.specs.Answers.{outcome}
 
-pub returns-in-Refused : goal.returns-in-Refused
-returns-in-Refused c = refused_so _ _ _ _ _ _ (sym (ap valuation_outcome c.in-Refused.is)) c.refusal_result.ensures
+pub returns-in-Err : goal.returns-in-Err
+returns-in-Err c = refused_so _ _ _ _ _ _ (sym (ap outcome c.in-Err.is)) c.refusal_result.ensures
 
-pub returns-in-Given : goal.returns-in-Given
-returns-in-Given c = accepted_so _ _ _ _ _ (sym (ap valuation_outcome c.in-Given.is)) refl
+pub returns-in-Ok : goal.returns-in-Ok
+returns-in-Ok c = accepted_so _ _ _ _ _ (sym (ap outcome c.in-Ok.is)) refl

@@ -3,17 +3,16 @@ use mathlib.Core.Path.{◌≡◌, sym, ap, ◌∙◌}
 use mathlib.Core.List.{List}
 use lib.Ieee.{Float}
 use Rattle.refusals.specs.Outcome.{Outcome, judged}
-use Rattle.refusals.specs.Answers.{verdict_outcome}
 use Rattle.records.specs.declared.SwapRecord.{SwapRecord}
-use Rattle.records.specs.Kinds.{swap_outcome}
 use Rattle.swaps.specs.declared.Swap.{Swap}
 use Rattle.swaps.specs.declared.AnySwap.TheVariants.{Undated}
 use Rattle.swaps.specs.declared.day_counts.DayCount.{DayCount}
-use Rattle.swaps.specs.Codes.{day_count_at, day_count_of, day_count_outcome}
+use Rattle.swaps.specs.Codes.{day_count_at, day_count_of}
 use Rattle.swaps.specs.Swap.{payments, swap_lines}
 use Rattle.senyolanda.specs.Swaps.{counted_by, swap_of, swap_read}
 use Rattle.senyolanda.proofs.Codes.{out_of_set, in_set, known, others_first, unknown, unread, read_so}
 use Rattle.senyolanda.proofs.swap_values.swap_in.Goals as goal
+use Rattle.refusals.specs.Answers.{outcome}
 
 -- no day count changes what a swap is refused with
 alike : (s : Swap) (d e : DayCount) (b : SwapRecord) (tenors zeros : List Float) {o : Outcome Unit} → s ≡ counted_by d b → o ≡ judged (swap_lines s tenors zeros) tt
@@ -21,33 +20,33 @@ alike : (s : Swap) (d e : DayCount) (b : SwapRecord) (tenors zeros : List Float)
 unfolding payments
 alike s d e b tenors zeros is o = o ∙ ap (λ (q : Swap). judged (swap_lines q tenors zeros) tt) is
 
-pub returns-in-Refused : goal.returns-in-Refused
+pub returns-in-Err : goal.returns-in-Err
 unfolding swap_read
-returns-in-Refused c = unread _ _ _ _ (sym (ap swap_outcome c.in-Refused.is) ∙ c.read_swap_uncoded.ensures)
+returns-in-Err c = unread _ _ _ _ (sym (ap outcome c.in-Err.is) ∙ c.read_swap_uncoded.ensures)
 
-pub returns-in-Given-day_count_of : goal.returns-in-Given-day_count_of
+pub returns-in-Ok-day_count_of : goal.returns-in-Ok-day_count_of
 unfolding swap_read day_count_of
-returns-in-Given-day_count_of c =
-    let b = c.in-Given.fields in
+returns-in-Ok-day_count_of c =
+    let b = c.in-Ok.fields in
     let a = c.args in
-    let set = in_set _ _ _ (sym (ap day_count_outcome c.in-Given-day_count_of.is) ∙ c.day_count_of.ensures) in
-    read_so _ _ _ _ (sym (ap swap_outcome c.in-Given.is) ∙ c.read_swap_uncoded.ensures)
+    let set = in_set _ _ _ (sym (ap outcome c.in-Ok-day_count_of.is) ∙ c.day_count_of.ensures) in
+    read_so _ _ _ _ (sym (ap outcome c.in-Ok.is) ∙ c.read_swap_uncoded.ensures)
     (known _ (judged (swap_lines (swap_of b) a.tenors.now a.zeros.now) tt) _ _ set.0 (ap Undated (c.counted_by.ensures ∙ ap (λ (d : DayCount). counted_by d b) set.1)))
 
-pub returns-in-Refused-judge_swap : goal.returns-in-Refused-judge_swap
+pub returns-in-Err-judge_swap : goal.returns-in-Err-judge_swap
 unfolding swap_read day_count_of payments
-returns-in-Refused-judge_swap c =
-    let b = c.in-Given.fields in
+returns-in-Err-judge_swap c =
+    let b = c.in-Ok.fields in
     let a = c.args in
-    let set = out_of_set _ _ _ _ (sym (ap day_count_outcome c.in-Refused-day_count_of.is) ∙ c.day_count_of.ensures) in
-    read_so _ _ _ _ (sym (ap swap_outcome c.in-Given.is) ∙ c.read_swap_uncoded.ensures)
-    (others_first _ _ _ _ _ set.0 (sym (ap verdict_outcome c.in-Refused-judge_swap.is) ∙ alike _ _ (day_count_at b.count) b a.tenors.now a.zeros.now c.counted_by-swap.ensures c.judge_swap.ensures))
+    let set = out_of_set _ _ _ _ (sym (ap outcome c.in-Err-day_count_of.is) ∙ c.day_count_of.ensures) in
+    read_so _ _ _ _ (sym (ap outcome c.in-Ok.is) ∙ c.read_swap_uncoded.ensures)
+    (others_first _ _ _ _ _ set.0 (sym (ap outcome c.in-Err-judge_swap.is) ∙ alike _ _ (day_count_at b.count) b a.tenors.now a.zeros.now c.counted_by-swap.ensures c.judge_swap.ensures))
 
-pub returns-in-Accepted : goal.returns-in-Accepted
+pub returns-in-Ok : goal.returns-in-Ok
 unfolding swap_read day_count_of payments
-returns-in-Accepted c =
-    let b = c.in-Given.fields in
+returns-in-Ok c =
+    let b = c.in-Ok.fields in
     let a = c.args in
-    let set = out_of_set _ _ _ _ (sym (ap day_count_outcome c.in-Refused-day_count_of.is) ∙ c.day_count_of.ensures) in
-    read_so _ _ _ _ (sym (ap swap_outcome c.in-Given.is) ∙ c.read_swap_uncoded.ensures)
-    (unknown _ _ _ _ _ set.0 (sym (ap verdict_outcome c.in-Accepted.is) ∙ alike _ _ (day_count_at b.count) b a.tenors.now a.zeros.now c.counted_by-swap.ensures c.judge_swap.ensures) set.1 set.2)
+    let set = out_of_set _ _ _ _ (sym (ap outcome c.in-Err-day_count_of.is) ∙ c.day_count_of.ensures) in
+    read_so _ _ _ _ (sym (ap outcome c.in-Ok.is) ∙ c.read_swap_uncoded.ensures)
+    (unknown _ _ _ _ _ set.0 (sym (ap outcome c.in-Ok.is) ∙ alike _ _ (day_count_at b.count) b a.tenors.now a.zeros.now c.counted_by-swap.ensures c.judge_swap.ensures) set.1 set.2)

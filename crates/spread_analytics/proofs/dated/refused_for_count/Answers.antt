@@ -10,17 +10,17 @@ use Rattle.spread_analytics.proofs.dated.refused_for_count.Goals as goal
 abbrev else_7 : Outcome Unit → Outcome Unit
 else_7 o = followed o (refused 7 0)
 
-pub returns-in-Refused : goal.returns-in-Refused
-returns-in-Refused c =
+pub returns-in-Err : goal.returns-in-Err
+returns-in-Err c =
     let a = c.args in
     λ times amounts bad same many.
-    ap else_7 (refused_by (curve_lines a.tenors.now a.rates.now) tt _ _ c.in-Refused.is c.judge_curve.ensures)
+    ap else_7 (refused_by (curve_lines a.tenors.now a.rates.now) tt _ _ c.in-Err.is c.judge_curve.ensures)
     ∙ sym (too_many times amounts a.tenors.now a.rates.now bad tt same many)
 
-pub returns-in-Accepted : goal.returns-in-Accepted
-returns-in-Accepted c =
+pub returns-in-Ok : goal.returns-in-Ok
+returns-in-Ok c =
     let a = c.args in
     λ times amounts bad same many.
     refused_as 7 _ _ c.refuse.ensures
-    (ap else_7 (accepted_by (curve_lines a.tenors.now a.rates.now) tt _ c.in-Accepted.is c.judge_curve.ensures)
+    (ap else_7 (accepted_by (curve_lines a.tenors.now a.rates.now) tt _ c.in-Ok.is c.judge_curve.ensures)
     ∙ sym (too_many times amounts a.tenors.now a.rates.now bad tt same many))

@@ -15,15 +15,15 @@ returns-then-times-amounts c =
 pub judge_flows-requires : goal.judge_flows-requires
 judge_flows-requires c = c.if-times-amounts.false
 
-pub returns-in-Refused : goal.returns-in-Refused
-returns-in-Refused c =
+pub returns-in-Err : goal.returns-in-Err
+returns-in-Err c =
     let a = c.args in
-    refused_first (curve_lines a.tenors.now a.rates.now) (times_line a.times.now ∷ amounts_line a.bad a.amounts.now ∷ []) tt _ c.judge_curve.ensures _ c.in-Refused.is
+    refused_first (curve_lines a.tenors.now a.rates.now) (times_line a.times.now ∷ amounts_line a.bad a.amounts.now ∷ []) tt _ c.judge_curve.ensures _ c.in-Err.is
     ∙ in_parts a.times.now a.amounts.now a.tenors.now a.rates.now a.bad c.if-times-amounts.false
 
-pub returns-in-Accepted : goal.returns-in-Accepted
-returns-in-Accepted c =
+pub returns-in-Ok : goal.returns-in-Ok
+returns-in-Ok c =
     let a = c.args in
     c.judge_flows.ensures
-    ∙ accepted_first (curve_lines a.tenors.now a.rates.now) (times_line a.times.now ∷ amounts_line a.bad a.amounts.now ∷ []) tt _ c.judge_curve.ensures c.in-Accepted.is
+    ∙ accepted_first (curve_lines a.tenors.now a.rates.now) (times_line a.times.now ∷ amounts_line a.bad a.amounts.now ∷ []) tt _ c.judge_curve.ensures c.in-Ok.is
     ∙ in_parts a.times.now a.amounts.now a.tenors.now a.rates.now a.bad c.if-times-amounts.false

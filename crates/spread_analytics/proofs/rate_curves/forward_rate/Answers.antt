@@ -10,16 +10,16 @@ use Rattle.spread_analytics.proofs.rate_curves.forward_rate.Goals as goal
 pub forward_of-requires : goal.forward_of-requires
 forward_of-requires c =
     let a = c.args in
-    accepted_rises a.tenors.now a.rates.now _ _ c.judge_asked.ensures c.in-Accepted.is
+    accepted_rises a.tenors.now a.rates.now _ _ c.judge_asked.ensures c.in-Ok.is
 
-pub returns-in-Refused : goal.returns-in-Refused
+pub returns-in-Err : goal.returns-in-Err
 unfolding forward_rate
-returns-in-Refused c =
+returns-in-Err c =
     let a = c.args in
-    refused_by _ _ _ _ c.in-Refused.is (by_cause a.tenors.now a.rates.now c.bad_times.ensures c.judge_asked.ensures)
+    refused_by _ _ _ _ c.in-Err.is (by_cause a.tenors.now a.rates.now c.bad_times.ensures c.judge_asked.ensures)
 
-pub returns-in-Accepted : goal.returns-in-Accepted
+pub returns-in-Ok : goal.returns-in-Ok
 unfolding forward_rate
-returns-in-Accepted c =
+returns-in-Ok c =
     let a = c.args in
-    ap accepted c.forward_of.ensures ∙ accepted_by _ _ _ c.in-Accepted.is (by_cause a.tenors.now a.rates.now c.bad_times.ensures c.judge_asked.ensures)
+    ap accepted c.forward_of.ensures ∙ accepted_by _ _ _ c.in-Ok.is (by_cause a.tenors.now a.rates.now c.bad_times.ensures c.judge_asked.ensures)

@@ -10,13 +10,13 @@ use Rattle.spread_analytics.proofs.spread.pv_cash_flows.Goals as goal
 pub worth_of-requires : goal.worth_of-requires
 worth_of-requires c =
     let a = c.args in
-    let known = flows_listed a.times.now a.amounts.now a.tenors.now a.rates.now false _ c.in-Accepted.is c.judge_spread.ensures in
+    let known = flows_listed a.times.now a.amounts.now a.tenors.now a.rates.now false _ c.in-Ok.is c.judge_spread.ensures in
     (known.0, known.2)
 
-pub returns-in-Refused : goal.returns-in-Refused
+pub returns-in-Err : goal.returns-in-Err
 unfolding pv_cash_flows
-returns-in-Refused c = refused_by _ _ _ _ c.in-Refused.is c.judge_spread.ensures
+returns-in-Err c = refused_by _ _ _ _ c.in-Err.is c.judge_spread.ensures
 
-pub returns-in-Accepted : goal.returns-in-Accepted
+pub returns-in-Ok : goal.returns-in-Ok
 unfolding pv_cash_flows
-returns-in-Accepted c = ap accepted c.worth_of.ensures ∙ accepted_by _ _ _ c.in-Accepted.is c.judge_spread.ensures
+returns-in-Ok c = ap accepted c.worth_of.ensures ∙ accepted_by _ _ _ c.in-Ok.is c.judge_spread.ensures

@@ -8,16 +8,16 @@ use Rattle.spread_analytics.proofs.spread.z_spread.Goals as goal
 pub spread_of-requires : goal.spread_of-requires
 spread_of-requires c =
     let a = c.args in
-    flows_listed a.times.now a.amounts.now a.tenors.now a.rates.now _ _ c.in-Accepted.is c.judge_spread.ensures
+    flows_listed a.times.now a.amounts.now a.tenors.now a.rates.now _ _ c.in-Ok.is c.judge_spread.ensures
 
-pub returns-in-Refused : goal.returns-in-Refused
+pub returns-in-Err : goal.returns-in-Err
 unfolding z_spread
-returns-in-Refused c =
+returns-in-Err c =
     let a = c.args in
-    refused_by _ _ _ _ c.in-Refused.is (by_price a.times.now a.amounts.now a.tenors.now a.rates.now c.bad_number.ensures c.judge_spread.ensures)
+    refused_by _ _ _ _ c.in-Err.is (by_price a.times.now a.amounts.now a.tenors.now a.rates.now c.bad_number.ensures c.judge_spread.ensures)
 
-pub returns-in-Accepted : goal.returns-in-Accepted
+pub returns-in-Ok : goal.returns-in-Ok
 unfolding z_spread
-returns-in-Accepted c =
+returns-in-Ok c =
     let a = c.args in
-    c.spread_of.ensures ∙ accepted_by _ _ _ c.in-Accepted.is (by_price a.times.now a.amounts.now a.tenors.now a.rates.now c.bad_number.ensures c.judge_spread.ensures)
+    c.spread_of.ensures ∙ accepted_by _ _ _ c.in-Ok.is (by_price a.times.now a.amounts.now a.tenors.now a.rates.now c.bad_number.ensures c.judge_spread.ensures)

@@ -10,26 +10,26 @@ use Rattle.swaps.proofs.bootstrap.from_par_rates.Goals as goal
 pub solved_curve-requires : goal.solved_curve-requires
 solved_curve-requires c =
     let a = c.args in
-    let accepted = accepted_by _ _ _ c.in-Accepted.is c.judge_pars.ensures in
+    let accepted = accepted_by _ _ _ c.in-Ok.is c.judge_pars.ensures in
     let counts = accepted_counts a.tenors.now a.pars.now accepted in
     (counts.0, counts.1, accepted_tenors_rise a.tenors.now a.pars.now accepted)
 
-pub returns-in-Refused : goal.returns-in-Refused
+pub returns-in-Err : goal.returns-in-Err
 unfolding curve_of bootstrapped from_par_rates
-returns-in-Refused c =
+returns-in-Err c =
     let a = c.args in
     let tenors = a.tenors.now in
     let pars = a.pars.now in (
-      refused_by (par_lines tenors pars) tt _ _ c.in-Refused.is c.judge_pars.ensures,
-      c.no_curve.ensures ∙ ap (curve_of tenors) (refused_by (par_lines tenors pars) (zeros_up_to tenors pars (length tenors)) _ _ c.in-Refused.is c.judge_pars.ensures),
+      refused_by (par_lines tenors pars) tt _ _ c.in-Err.is c.judge_pars.ensures,
+      c.no_curve.ensures ∙ ap (curve_of tenors) (refused_by (par_lines tenors pars) (zeros_up_to tenors pars (length tenors)) _ _ c.in-Err.is c.judge_pars.ensures),
     )
 
-pub returns-in-Accepted : goal.returns-in-Accepted
+pub returns-in-Ok : goal.returns-in-Ok
 unfolding curve_of bootstrapped from_par_rates
-returns-in-Accepted c =
+returns-in-Ok c =
     let a = c.args in
     let tenors = a.tenors.now in
     let pars = a.pars.now in (
-      accepted_by (par_lines tenors pars) tt _ c.in-Accepted.is c.judge_pars.ensures,
-      c.solved_curve.ensures ∙ ap (curve_of tenors) (accepted_by (par_lines tenors pars) (zeros_up_to tenors pars (length tenors)) _ c.in-Accepted.is c.judge_pars.ensures),
+      accepted_by (par_lines tenors pars) tt _ c.in-Ok.is c.judge_pars.ensures,
+      c.solved_curve.ensures ∙ ap (curve_of tenors) (accepted_by (par_lines tenors pars) (zeros_up_to tenors pars (length tenors)) _ c.in-Ok.is c.judge_pars.ensures),
     )

@@ -7,16 +7,16 @@ use Rattle.swaps.proofs.discount.rate_at.Goals as goal
 pub zero_rate_of-requires : goal.zero_rate_of-requires
 zero_rate_of-requires c =
     let a = c.args in
-    accepted_rises a.tenors.now a.zeros.now _ _ c.judge_asked.ensures c.in-Accepted.is
+    accepted_rises a.tenors.now a.zeros.now _ _ c.judge_asked.ensures c.in-Ok.is
 
-pub returns-in-Refused : goal.returns-in-Refused
+pub returns-in-Err : goal.returns-in-Err
 unfolding rate_at
-returns-in-Refused c =
+returns-in-Err c =
     let a = c.args in
-    answer_refused a.tenors.now a.zeros.now _ _ _ _ c.bad_time.ensures c.judge_asked.ensures _ c.in-Refused.is
+    answer_refused a.tenors.now a.zeros.now _ _ _ _ c.bad_time.ensures c.judge_asked.ensures _ c.in-Err.is
 
-pub returns-in-Accepted : goal.returns-in-Accepted
+pub returns-in-Ok : goal.returns-in-Ok
 unfolding rate_at
-returns-in-Accepted c =
+returns-in-Ok c =
     let a = c.args in
-    answer_given a.tenors.now a.zeros.now _ _ _ _ c.bad_time.ensures c.judge_asked.ensures _ c.zero_rate_of.ensures c.in-Accepted.is
+    answer_given a.tenors.now a.zeros.now _ _ _ _ c.bad_time.ensures c.judge_asked.ensures _ c.zero_rate_of.ensures c.in-Ok.is

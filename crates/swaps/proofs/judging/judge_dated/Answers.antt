@@ -3,8 +3,8 @@ use mathlib.Core.Path.{◌∙◌}
 use Rattle.refusals.proofs.LaterLines.{refused_first, accepted_first}
 use Rattle.swaps.proofs.judging.judge_dated.Goals as goal
 
-pub returns-in-Refused : goal.returns-in-Refused
-returns-in-Refused c = refused_first _ _ tt _ c.judge_but_dates.ensures _ c.in-Refused.is
+pub returns-in-Err : goal.returns-in-Err
+returns-in-Err c = refused_first _ _ tt _ c.judge_but_dates.ensures _ c.in-Err.is
 
-pub returns-in-Accepted : goal.returns-in-Accepted
-returns-in-Accepted c = c.judge_dates.ensures ∙ accepted_first _ _ tt _ c.judge_but_dates.ensures c.in-Accepted.is
+pub returns-in-Ok : goal.returns-in-Ok
+returns-in-Ok c = c.judge_dates.ensures ∙ accepted_first _ _ tt _ c.judge_but_dates.ensures c.in-Ok.is

@@ -8,13 +8,13 @@ use Rattle.swaps.proofs.judging.judge_priced.Goals as goal
 pub returns-then-bad_amount : goal.returns-then-bad_amount
 returns-then-bad_amount c = refused_as 1 _ _ c.refuse.ensures (caused tt 1 _ _ (sym c.bad_amount.ensures ∙ c.if-bad_amount.true))
 
-pub returns-in-Refused : goal.returns-in-Refused
-returns-in-Refused c =
-    refused_first _ _ tt _ c.judge_curve.ensures _ c.in-Refused.is
+pub returns-in-Err : goal.returns-in-Err
+returns-in-Err c =
+    refused_first _ _ tt _ c.judge_curve.ensures _ c.in-Err.is
     ∙ clear tt 1 _ _ (sym c.bad_amount.ensures ∙ c.if-bad_amount.false)
 
-pub returns-in-Accepted : goal.returns-in-Accepted
-returns-in-Accepted c =
+pub returns-in-Ok : goal.returns-in-Ok
+returns-in-Ok c =
     c.judge_terms.ensures
-    ∙ accepted_first _ _ tt _ c.judge_curve.ensures c.in-Accepted.is
+    ∙ accepted_first _ _ tt _ c.judge_curve.ensures c.in-Ok.is
     ∙ clear tt 1 _ _ (sym c.bad_amount.ensures ∙ c.if-bad_amount.false)

@@ -13,7 +13,7 @@ legs_of-requires c =
     let sound : Rising c.args.tenors.now × HasPeriods c.args.swap = let a = c.args in
     let tenors = a.tenors.now in
     let zeros = a.zeros.now in
-    let is = c.in-Accepted.is in
+    let is = c.in-Ok.is in
     (swap_rises tenors zeros a.swap _ c.judge_any.ensures is, has_periods tenors zeros a.swap _ c.judge_any.ensures is) in
     sound
 
@@ -22,16 +22,16 @@ duration_of-requires c =
     let sound : Rising c.args.tenors.now × HasPeriods c.args.swap = let a = c.args in
     let tenors = a.tenors.now in
     let zeros = a.zeros.now in
-    let is = c.in-Accepted.is in
+    let is = c.in-Ok.is in
     (swap_rises tenors zeros a.swap _ c.judge_any.ensures is, has_periods tenors zeros a.swap _ c.judge_any.ensures is) in
     sound
 
-pub returns-in-Refused : goal.returns-in-Refused
+pub returns-in-Err : goal.returns-in-Err
 unfolding swap_duration
-returns-in-Refused c = refused_by _ _ _ _ c.in-Refused.is c.judge_any.ensures
+returns-in-Err c = refused_by _ _ _ _ c.in-Err.is c.judge_any.ensures
 
-pub returns-in-Accepted : goal.returns-in-Accepted
+pub returns-in-Ok : goal.returns-in-Ok
 unfolding swap_duration
-returns-in-Accepted c =
+returns-in-Ok c =
     ap accepted (c.duration_of.ensures ∙ duration_is _ _ _ _ c.legs_of.ensures)
-    ∙ accepted_by _ _ _ c.in-Accepted.is c.judge_any.ensures
+    ∙ accepted_by _ _ _ c.in-Ok.is c.judge_any.ensures

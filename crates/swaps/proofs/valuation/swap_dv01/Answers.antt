@@ -11,17 +11,17 @@ legs_with_bump-both-requires c =
     let a = c.args in
     let tenors = a.tenors.now in
     let zeros = a.zeros.now in
-    let is = c.in-Accepted.is in
+    let is = c.in-Ok.is in
     (few_knots tenors zeros a.swap _ c.judge_any.ensures is, swap_rises tenors zeros a.swap _ c.judge_any.ensures is, has_periods tenors zeros a.swap _ c.judge_any.ensures is)
 
-pub returns-in-Refused : goal.returns-in-Refused
+pub returns-in-Err : goal.returns-in-Err
 unfolding swap_dv01
-returns-in-Refused c = refused_by _ _ _ _ c.in-Refused.is c.judge_any.ensures
+returns-in-Err c = refused_by _ _ _ _ c.in-Err.is c.judge_any.ensures
 
-pub returns-in-Accepted : goal.returns-in-Accepted
+pub returns-in-Ok : goal.returns-in-Ok
 unfolding swap_dv01
-returns-in-Accepted c =
+returns-in-Ok c =
     let legs = c.legs_with_bump-both.ensures in
     let higher = c.net.ensures ∙ net_is _ _ _ _ legs.1 _ in
-    let worth = c.net-in-Accepted.ensures ∙ net_is _ _ _ _ legs.0 _ in
-    ap accepted (point_is _ _ _ _ worth higher) ∙ accepted_by _ _ _ c.in-Accepted.is c.judge_any.ensures
+    let worth = c.net-in-Ok.ensures ∙ net_is _ _ _ _ legs.0 _ in
+    ap accepted (point_is _ _ _ _ worth higher) ∙ accepted_by _ _ _ c.in-Ok.is c.judge_any.ensures

@@ -7,16 +7,16 @@ use Rattle.yield_curve.proofs.linear.discount_factor.Goals as goal
 pub discount_of-requires : goal.discount_of-requires
 discount_of-requires c =
     let a = c.args in
-    accepted_rises a.times.now a.rates.now _ _ c.judge_asked.ensures c.in-Accepted.is
+    accepted_rises a.times.now a.rates.now _ _ c.judge_asked.ensures c.in-Ok.is
 
-pub returns-in-Refused : goal.returns-in-Refused
+pub returns-in-Err : goal.returns-in-Err
 unfolding discount_factor
-returns-in-Refused c =
+returns-in-Err c =
     let a = c.args in
-    answer_refused a.times.now a.rates.now _ _ _ _ c.bad_time.ensures c.judge_asked.ensures _ c.in-Refused.is
+    answer_refused a.times.now a.rates.now _ _ _ _ c.bad_time.ensures c.judge_asked.ensures _ c.in-Err.is
 
-pub returns-in-Accepted : goal.returns-in-Accepted
+pub returns-in-Ok : goal.returns-in-Ok
 unfolding discount_factor
-returns-in-Accepted c =
+returns-in-Ok c =
     let a = c.args in
-    answer_given a.times.now a.rates.now _ _ _ _ c.bad_time.ensures c.judge_asked.ensures _ c.discount_of.ensures c.in-Accepted.is
+    answer_given a.times.now a.rates.now _ _ _ _ c.bad_time.ensures c.judge_asked.ensures _ c.discount_of.ensures c.in-Ok.is
