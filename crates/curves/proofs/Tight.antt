@@ -9,7 +9,7 @@ use borrow.Fn.Kinds.{Out, ParamKind, ResultKind, Dens, res_t, ended_of}
 use contract.Lifetimes.{Lfts}
 use denote.Triple.Clauses.{AtExit, Lasts, at_exit}
 use Rattle.numbers.proofs.Determined.{Determined, Settled}
-use Rattle.refusals.proofs.OneToOne.{verdict_one_to_one}
+use Rattle.refusals.proofs.OneToOne.{one_to_one}
 use Rattle.curves.specs.declared.segments.Ends.{Ends}
 use Rattle.curves.specs.Segments.{Rising}
 use Rattle.curves.proofs.curve.bad_knot_count.Kinds as bad_knot_count_kinds
@@ -89,10 +89,10 @@ pub bad_time_determined : Determined 0 bad_time_kinds.ps bad_time_kinds.r bad_ti
 bad_time_determined κs a x y e e' p q = p ∙ sym q
 
 pub judge_curve_determined : Determined 2 judge_curve_kinds.ps judge_curve_kinds.r judge_curve.Post
-judge_curve_determined κs a x y e e' p q = verdict_one_to_one x y (p ∙ sym q)
+judge_curve_determined κs a x y e e' p q = one_to_one x y (p ∙ sym q)
 
 pub judge_asked_determined : Determined 2 judge_asked_kinds.ps judge_asked_kinds.r judge_asked.Post
-judge_asked_determined κs a x y e e' p q = verdict_one_to_one x y (p ∙ sym q)
+judge_asked_determined κs a x y e e' p q = one_to_one x y (p ∙ sym q)
 
 pub knot_at_determined : Determined 1 knot_at_kinds.ps knot_at_kinds.r knot_at.Post
 knot_at_determined κs a x y e e' p q = p ∙ sym q
@@ -116,7 +116,7 @@ pub all_finite_determined : Determined 1 all_finite_kinds.ps all_finite_kinds.r 
 all_finite_determined κs a x y e e' p q = same_answer x y (λ t. q.1 (p.0 t)) (λ t. p.1 (q.0 t))
 
 pub judge_each_determined : Determined 3 judge_each_kinds.ps judge_each_kinds.r judge_each.Post
-judge_each_determined κs a x y e e' p q = verdict_one_to_one x y (p ∙ sym q)
+judge_each_determined κs a x y e e' p q = one_to_one x y (p ∙ sym q)
 
 pub no_knot_determined : Determined 0 no_knot_kinds.ps no_knot_kinds.r no_knot.Post
 no_knot_determined κs a x y e e' p q = p ∙ sym q
@@ -129,13 +129,13 @@ exponent_at_determined κs a x y e e' p q = p ∙ sym q
 
 -- ---- lists of lookups: one verdict, and one list after the call
 pub rate_at_each_determined : Determined 3 rate_at_each_kinds.ps rate_at_each_kinds.r rate_at_each.Post
-rate_at_each_determined κs a x y e e' p q = verdict_one_to_one x y (p.0 ∙ sym q.0)
+rate_at_each_determined κs a x y e e' p q = one_to_one x y (p.0 ∙ sym q.0)
 
 pub rate_at_each_settled : Settled 3 rate_at_each_kinds.ps rate_at_each_kinds.r rate_at_each.Post
 rate_at_each_settled κs a x y w w' p q = ap (λ (l : List Float). (tt, (tt, (tt, (l, tt))))) (p.1 ∙ sym q.1)
 
 pub discount_factor_at_each_determined : Determined 3 discount_factor_at_each_kinds.ps discount_factor_at_each_kinds.r discount_factor_at_each.Post
-discount_factor_at_each_determined κs a x y e e' p q = verdict_one_to_one x y (p.0 ∙ sym q.0)
+discount_factor_at_each_determined κs a x y e e' p q = one_to_one x y (p.0 ∙ sym q.0)
 
 pub discount_factor_at_each_settled : Settled 3 discount_factor_at_each_kinds.ps discount_factor_at_each_kinds.r discount_factor_at_each.Post
 discount_factor_at_each_settled κs a x y w w' p q = ap (λ (l : List Float). (tt, (tt, (tt, (l, tt))))) (p.1 ∙ sym q.1)

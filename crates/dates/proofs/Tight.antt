@@ -8,7 +8,7 @@ use borrow.Fn.Kinds.{Out, ParamKind, ResultKind, Dens, res_t, ended_of}
 use contract.Lifetimes.{Lfts}
 use denote.Triple.Clauses.{AtExit, Lasts, at_exit}
 use Rattle.numbers.proofs.Determined.{Determined}
-use Rattle.refusals.proofs.OneToOne.{same_refusal, count_one_to_one}
+use Rattle.refusals.proofs.OneToOne.{one_to_one}
 use Rattle.dates.specs.declared.periods.Span.{Span}
 use Rattle.dates.specs.Calendar.{is_date}
 use Rattle.dates.specs.Periods.{is_span, period_count}
@@ -48,13 +48,6 @@ abbrev DeterminedOn : (n : ℕ) (ps : List (ParamKind n)) (r : ResultKind n) →
 DeterminedOn n ps r holds promise =
     (κs : Lfts n) (a : Dens κs ps) → holds κs a → (x y : (res_t r κs).Denot) (e e' : AtExit (ended_of n ps r) κs) → promise κs a x e → promise κs a y e' → x ≡ y
 
--- ---- an answer's number, place and date tell the answer
-pub date_told : (x y : Result Date Refusal) → outcome x ≡ outcome y → x ≡ y
-date_told (Err r) (Err s) e = ap Err (same_refusal r s e)
-date_told (Err r) (Ok d) e = cc
-date_told (Ok c) (Err s) e = cc
-date_told (Ok c) (Ok d) e = cc
-
 pub is_date_determined : Determined 0 is_date_kinds.ps is_date_kinds.r is_date_reads.Post
 is_date_determined κs a x y e e' p q = p ∙ sym q
 
@@ -68,19 +61,19 @@ pub thirty_days_determined : Determined 0 thirty_days_kinds.ps thirty_days_kinds
 thirty_days_determined κs a x y e e' p q = p ∙ sym q
 
 pub actual_days_between_determined : Determined 0 actual_days_between_kinds.ps actual_days_between_kinds.r actual_days_between.Post
-actual_days_between_determined κs a x y e e' p q = count_one_to_one x y (p ∙ sym q)
+actual_days_between_determined κs a x y e e' p q = one_to_one x y (p ∙ sym q)
 
 pub thirty_days_between_determined : Determined 0 thirty_days_between_kinds.ps thirty_days_between_kinds.r thirty_days_between.Post
-thirty_days_between_determined κs a x y e e' p q = count_one_to_one x y (p ∙ sym q)
+thirty_days_between_determined κs a x y e e' p q = one_to_one x y (p ∙ sym q)
 
 pub day_number_determined : Determined 0 day_number_kinds.ps day_number_kinds.r day_number.Post
-day_number_determined κs a x y e e' p q = count_one_to_one x y (p ∙ sym q)
+day_number_determined κs a x y e e' p q = one_to_one x y (p ∙ sym q)
 
 pub date_of_determined : Determined 0 date_of_kinds.ps date_of_kinds.r date_of.Post
-date_of_determined κs a x y e e' p q = date_told x y (p ∙ sym q)
+date_of_determined κs a x y e e' p q = one_to_one x y (p ∙ sym q)
 
 pub months_later_determined : Determined 0 months_later_kinds.ps months_later_kinds.r months_later.Post
-months_later_determined κs a x y e e' p q = date_told x y (p ∙ sym q)
+months_later_determined κs a x y e e' p q = one_to_one x y (p ∙ sym q)
 
 pub actual_days_determined : DeterminedOn 0 actual_days_kinds.ps actual_days_kinds.r (λ κs a. (is_date a.0 ≡ true) × (is_date a.1.0 ≡ true)) actual_days.Post
 actual_days_determined κs a dates x y e e' p q = p dates.0 dates.1 ∙ sym (q dates.0 dates.1)

@@ -4,7 +4,7 @@ use mathlib.Core.List.{List, ◌++◌}
 use Prim.Native.Nat.{ℕ}
 use lib.ListN.{drop}
 use Rattle.numbers.proofs.Determined.{Determined, Settled}
-use Rattle.refusals.proofs.OneToOne.{count_one_to_one}
+use Rattle.refusals.proofs.OneToOne.{one_to_one}
 use Rattle.listing.specs.Listing.{listing}
 use Rattle.listing.proofs.list_loan.Kinds as list_loan_kinds
 use Rattle.listing.proofs.list_loan.Reads as list_loan
@@ -12,7 +12,7 @@ use Rattle.listing.proofs.list.Kinds as list_kinds
 use Rattle.listing.proofs.list.Reads as list
 
 pub list_loan_determined : Determined 2 list_loan_kinds.ps list_loan_kinds.r list_loan.Post
-list_loan_determined κs a x y e e' p q = count_one_to_one x y (p.0 ∙ sym q.0)
+list_loan_determined κs a x y e e' p q = one_to_one x y (p.0 ∙ sym q.0)
 
 pub list_loan_settled : Settled 2 list_loan_kinds.ps list_loan_kinds.r list_loan.Post
 list_loan_settled κs a x y w w' p q = ap (λ (l : List ℕ). (tt, (l, tt))) (p.1 ∙ sym q.1)

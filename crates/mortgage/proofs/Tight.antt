@@ -4,10 +4,11 @@ use mathlib.Core.Path.{◌≡◌, refl, sym, ap, ◌∙◌}
 use mathlib.Core.List.{List, []}
 use lib.Ieee.{Float}
 use Rattle.numbers.proofs.Determined.{Determined, Settled}
-use Rattle.refusals.proofs.OneToOne.{same_refusal, verdict_one_to_one, number_one_to_one}
+use Rattle.refusals.proofs.OneToOne.{one_to_one, same_refusal}
 use Rattle.mortgage.specs.declared.Loan.{Loan}
-use Rattle.mortgage.specs.declared.rows.Next.{Next}
-use Rattle.mortgage.specs.declared.rows.Next.TheVariants as next_is
+use Rattle.mortgage.specs.declared.rows.Month.{Month}
+use Rattle.std.specs.declared.option.Option.{Option}
+use Rattle.std.specs.declared.option.Option.TheVariants.{None, Some}
 use Rattle.mortgage.specs.Rows.{next_outcome}
 use Rattle.mortgage.proofs.payment.monthly_rate.Kinds as monthly_rate_kinds
 use Rattle.mortgage.proofs.payment.monthly_rate.Reads as monthly_rate
@@ -56,61 +57,42 @@ use Rattle.std.specs.declared.result.Result.{Result}
 use Rattle.refusals.specs.declared.Refusal.{Refusal}
 use Rattle.refusals.specs.Answers.{outcome}
 
--- ---- each answer has its own outcome
-pub opening_one_to_one : (x y : Result Loan Refusal) → outcome x ≡ outcome y → x ≡ y
-opening_one_to_one (Err r) (Err s) e = ap Err (same_refusal r s e)
-opening_one_to_one (Err r) (Ok m) e = cc
-opening_one_to_one (Ok l) (Err s) e = cc
-opening_one_to_one (Ok l) (Ok m) e = cc
-
-pub next_one_to_one : (x y : Next) → next_outcome x ≡ next_outcome y → x ≡ y
-next_one_to_one (next_is.Refused r) (next_is.Refused s) e = ap next_is.Refused (same_refusal r s e)
-next_one_to_one (next_is.Refused r) next_is.Finished e = cc
-next_one_to_one (next_is.Refused r) (next_is.Due row l) e = cc
-next_one_to_one next_is.Finished (next_is.Refused s) e = cc
-next_one_to_one next_is.Finished next_is.Finished e = refl
-next_one_to_one next_is.Finished (next_is.Due row l) e = cc
-next_one_to_one (next_is.Due row l) (next_is.Refused s) e = cc
-next_one_to_one (next_is.Due row l) next_is.Finished e = cc
-next_one_to_one (next_is.Due row l) (next_is.Due other m) e = cc
-
-pub drawing_one_to_one : (x y : Result Portion Refusal) → outcome x ≡ outcome y → x ≡ y
-drawing_one_to_one (Err r) (Err s) e = ap Err (same_refusal r s e)
-drawing_one_to_one (Err r) (Ok d) e = cc
-drawing_one_to_one (Ok d) (Err s) e = cc
-drawing_one_to_one (Ok d) (Ok g) e = cc
-
-pub year_one_to_one : (x y : Result Year Refusal) → outcome x ≡ outcome y → x ≡ y
-year_one_to_one (Err r) (Err s) e = ap Err (same_refusal r s e)
-year_one_to_one (Err r) (Ok n) e = cc
-year_one_to_one (Ok m) (Err s) e = cc
-year_one_to_one (Ok m) (Ok n) e = cc
+pub next_one_to_one : (x y : Result (Option Month) Refusal) → next_outcome x ≡ next_outcome y → x ≡ y
+next_one_to_one (Err r) (Err s) e = ap Err (same_refusal r s e)
+next_one_to_one (Err r) (Ok None) e = cc
+next_one_to_one (Err r) (Ok (Some m)) e = cc
+next_one_to_one (Ok None) (Err s) e = cc
+next_one_to_one (Ok None) (Ok None) e = refl
+next_one_to_one (Ok None) (Ok (Some m)) e = cc
+next_one_to_one (Ok (Some m)) (Err s) e = cc
+next_one_to_one (Ok (Some m)) (Ok None) e = cc
+next_one_to_one (Ok (Some m)) (Ok (Some n)) e = ap (λ (a : Month). Ok (Some a)) (same_month m n e)
 
 -- ---- so each promise leaves one result
 pub monthly_rate_determined : Determined 0 monthly_rate_kinds.ps monthly_rate_kinds.r monthly_rate.Post
 monthly_rate_determined κs a x y e e' p q = p ∙ sym q
 
 pub monthly_payment_determined : Determined 0 monthly_payment_kinds.ps monthly_payment_kinds.r monthly_payment.Post
-monthly_payment_determined κs a x y e e' p q = number_one_to_one x y (p ∙ sym q)
+monthly_payment_determined κs a x y e e' p q = one_to_one x y (p ∙ sym q)
 
 pub open_with_payment_determined : Determined 0 open_with_payment_kinds.ps open_with_payment_kinds.r open_with_payment.Post
-open_with_payment_determined κs a x y e e' p q = opening_one_to_one x y (p ∙ sym q)
+open_with_payment_determined κs a x y e e' p q = one_to_one x y (p ∙ sym q)
 
 pub open_determined : Determined 0 open_kinds.ps open_kinds.r opens.Post
-open_determined κs a x y e e' p q = opening_one_to_one x y (p ∙ sym q)
+open_determined κs a x y e e' p q = one_to_one x y (p ∙ sym q)
 
 pub next_row_determined : Determined 0 next_row_kinds.ps next_row_kinds.r next_row.Post
 next_row_determined κs a x y e e' p q = next_one_to_one x y (p ∙ sym q)
 
 pub draw_determined : Determined 1 draw_kinds.ps draw_kinds.r draw.Post
-draw_determined κs a x y e e' p q = drawing_one_to_one x y (p.0 ∙ sym q.0)
+draw_determined κs a x y e e' p q = one_to_one x y (p.0 ∙ sym q.0)
 
 -- and a draw's promise one room, the second parameter
 pub draw_room_settled : Settled 1 draw_kinds.ps draw_kinds.r draw.Post
 draw_room_settled κs a x y w w' p q = ap (λ (l : List Float). (tt, (l, tt))) (p.1 ∙ sym q.1)
 
 pub draw_with_years_determined : Determined 2 draw_with_years_kinds.ps draw_with_years_kinds.r draw_with_years.Post
-draw_with_years_determined κs a x y e e' p q = drawing_one_to_one x y (p.0 ∙ sym q.0)
+draw_with_years_determined κs a x y e e' p q = one_to_one x y (p.0 ∙ sym q.0)
 
 -- with year-end lines one room and one last state of the lines, the second parameter and the third
 pub draw_with_years_room_and_years_settled : Settled 2 draw_with_years_kinds.ps draw_with_years_kinds.r draw_with_years.Post
@@ -118,26 +100,26 @@ draw_with_years_room_and_years_settled κs a x y w w' p q =
     ap (λ (l : List Float). (tt, (l, (w.1.1.0, tt)))) (p.1.0 ∙ sym q.1.0) ∙ ap (λ (l : List Float). (tt, (w'.1.0, (l, tt)))) (p.1.1 ∙ sym q.1.1)
 
 pub look_up_year_determined : Determined 1 look_up_year_kinds.ps look_up_year_kinds.r look_up_year.Post
-look_up_year_determined κs a x y e e' p q = year_one_to_one x y (p ∙ sym q)
+look_up_year_determined κs a x y e e' p q = one_to_one x y (p ∙ sym q)
 
 pub rows_due_determined : Determined 0 rows_due_kinds.ps rows_due_kinds.r rows_due.Post
 rows_due_determined κs a x y e e' p q = p ∙ sym q
 
 pub judge_terms_determined : Determined 0 judge_terms_kinds.ps judge_terms_kinds.r judge_terms.Post
-judge_terms_determined κs a x y e e' p q = verdict_one_to_one x y (p ∙ sym q)
+judge_terms_determined κs a x y e e' p q = one_to_one x y (p ∙ sym q)
 
 -- ---- of loans of any kind: where no list is lent the promise is made for every list, the empty one too
 pub judge_kind_determined : Determined 1 judge_kind_kinds.ps judge_kind_kinds.r judge_kind.Post
-judge_kind_determined κs a x y e e' p q = verdict_one_to_one x y (p ∙ sym q)
+judge_kind_determined κs a x y e e' p q = one_to_one x y (p ∙ sym q)
 
 pub open_kind_determined : Determined 1 open_kind_kinds.ps open_kind_kinds.r open_kind.Post
-open_kind_determined κs a x y e e' p q = opening_one_to_one x y (p ∙ sym q)
+open_kind_determined κs a x y e e' p q = one_to_one x y (p ∙ sym q)
 
 pub open_interest_only_with_payment_determined : Determined 0 open_interest_only_with_payment_kinds.ps open_interest_only_with_payment_kinds.r open_interest_only_with_payment.Post
-open_interest_only_with_payment_determined κs a x y e e' p q = opening_one_to_one x y (p ∙ sym q)
+open_interest_only_with_payment_determined κs a x y e e' p q = one_to_one x y (p ∙ sym q)
 
 pub open_balloon_with_payment_determined : Determined 0 open_balloon_with_payment_kinds.ps open_balloon_with_payment_kinds.r open_balloon_with_payment.Post
-open_balloon_with_payment_determined κs a x y e e' p q = opening_one_to_one x y (p ∙ sym q)
+open_balloon_with_payment_determined κs a x y e e' p q = one_to_one x y (p ∙ sym q)
 
 pub kind_rows_due_determined : Determined 0 kind_rows_due_kinds.ps kind_rows_due_kinds.r kind_rows_due.Post
 kind_rows_due_determined κs a x y e e' p q = p [] ∙ sym (q [])
@@ -146,14 +128,14 @@ pub next_kind_row_determined : Determined 1 next_kind_row_kinds.ps next_kind_row
 next_kind_row_determined κs a x y e e' p q = next_one_to_one x y (p ∙ sym q)
 
 pub draw_kind_determined : Determined 2 draw_kind_kinds.ps draw_kind_kinds.r draw_kind.Post
-draw_kind_determined κs a x y e e' p q = drawing_one_to_one x y (p.0 ∙ sym q.0)
+draw_kind_determined κs a x y e e' p q = one_to_one x y (p.0 ∙ sym q.0)
 
 -- and a draw's promise one room, the fourth parameter
 pub draw_kind_room_settled : Settled 2 draw_kind_kinds.ps draw_kind_kinds.r draw_kind.Post
 draw_kind_room_settled κs a x y w w' p q = ap (λ (l : List Float). (tt, (tt, (tt, (l, tt))))) (p.1 ∙ sym q.1)
 
 pub draw_kind_with_years_determined : Determined 3 draw_kind_with_years_kinds.ps draw_kind_with_years_kinds.r draw_kind_with_years.Post
-draw_kind_with_years_determined κs a x y e e' p q = drawing_one_to_one x y (p.0 ∙ sym q.0)
+draw_kind_with_years_determined κs a x y e e' p q = one_to_one x y (p.0 ∙ sym q.0)
 
 -- with year-end lines one room and one last state of the lines, the fourth parameter and the fifth
 pub draw_kind_with_years_room_and_years_settled : Settled 3 draw_kind_with_years_kinds.ps draw_kind_with_years_kinds.r draw_kind_with_years.Post
@@ -162,7 +144,7 @@ draw_kind_with_years_room_and_years_settled κs a x y w w' p q =
     ∙ ap (λ (l : List Float). (tt, (tt, (tt, (w'.1.1.1.0, (l, tt)))))) (p.1.1 ∙ sym q.1.1)
 
 pub look_up_kind_year_determined : Determined 1 look_up_kind_year_kinds.ps look_up_kind_year_kinds.r look_up_kind_year.Post
-look_up_kind_year_determined κs a x y e e' p q = year_one_to_one x y (p [] ∙ sym (q []))
+look_up_kind_year_determined κs a x y e e' p q = one_to_one x y (p [] ∙ sym (q []))
 
 -- ---- rows at places of a room, the second parameter of one loan's and the third of two loans'
 pub lay_at_determined : Determined 1 lay_at_kinds.ps lay_at_kinds.r lay_at_reads.Post

@@ -1,7 +1,7 @@
 -- How tight the promises of totals, savings and break-even are: whatever a function is given, any two results that its contract allows are equal. Assumes nothing.
 use mathlib.Core.Path.{◌≡◌, sym, ap, ◌∙◌}
 use Rattle.numbers.proofs.Determined.{Determined}
-use Rattle.refusals.proofs.OneToOne.{same_refusal, number_one_to_one, count_one_to_one}
+use Rattle.refusals.proofs.OneToOne.{one_to_one}
 use Rattle.mortgage.proofs.totals.total_interest.Kinds as total_interest_kinds
 use Rattle.mortgage.proofs.totals.total_interest.Reads as total_interest
 use Rattle.mortgage.proofs.totals.remaining_balance.Kinds as remaining_balance_kinds
@@ -18,23 +18,16 @@ use Rattle.refusals.specs.declared.Refusal.{Refusal}
 use Rattle.refusals.specs.Answers.{outcome}
 
 pub total_interest_determined : Determined 0 total_interest_kinds.ps total_interest_kinds.r total_interest.Post
-total_interest_determined κs a x y e e' p q = number_one_to_one x y (p ∙ sym q)
+total_interest_determined κs a x y e e' p q = one_to_one x y (p ∙ sym q)
 
 pub remaining_balance_determined : Determined 0 remaining_balance_kinds.ps remaining_balance_kinds.r remaining_balance.Post
-remaining_balance_determined κs a x y e e' p q = number_one_to_one x y (p ∙ sym q)
+remaining_balance_determined κs a x y e e' p q = one_to_one x y (p ∙ sym q)
 
 pub ltv_determined : Determined 0 ltv_kinds.ps ltv_kinds.r ltv.Post
-ltv_determined κs a x y e e' p q = number_one_to_one x y (p ∙ sym q)
-
--- each answer about savings has its own outcome
-savings_one_to_one : (x y : Result Savings Refusal) → outcome x ≡ outcome y → x ≡ y
-savings_one_to_one (Err r) (Err s) e = ap Err (same_refusal r s e)
-savings_one_to_one (Err r) (Ok w) e = cc
-savings_one_to_one (Ok v) (Err s) e = cc
-savings_one_to_one (Ok v) (Ok w) e = cc
+ltv_determined κs a x y e e' p q = one_to_one x y (p ∙ sym q)
 
 pub prepayment_savings_determined : Determined 0 prepayment_savings_kinds.ps prepayment_savings_kinds.r prepayment_savings.Post
-prepayment_savings_determined κs a x y e e' p q = savings_one_to_one x y (p ∙ sym q)
+prepayment_savings_determined κs a x y e e' p q = one_to_one x y (p ∙ sym q)
 
 pub refinance_breakeven_determined : Determined 0 refinance_breakeven_kinds.ps refinance_breakeven_kinds.r refinance_breakeven.Post
-refinance_breakeven_determined κs a x y e e' p q = count_one_to_one x y (p ∙ sym q)
+refinance_breakeven_determined κs a x y e e' p q = one_to_one x y (p ∙ sym q)

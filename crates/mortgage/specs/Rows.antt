@@ -5,13 +5,17 @@ use Rattle.refusals.specs.Table.{bad_term, past_end}
 use Rattle.records.specs.declared.Row.{Row}
 use Rattle.mortgage.specs.declared.Loan.{Loan}
 use Rattle.mortgage.specs.declared.kinds.Course.{Course}
-use Rattle.mortgage.specs.declared.rows.Next.{Next}
-use Rattle.mortgage.specs.declared.rows.Next.TheVariants as next_is
+use Rattle.mortgage.specs.declared.rows.Month.{Month}
 use Rattle.mortgage.specs.Kinds.{Way, kind_lines}
 use Rattle.mortgage.specs.Row.{places}
 use Rattle.mortgage.specs.Month.{row_on, next_on, end_month, due, row_of, next_of}
 use Rattle.steps.specs.Steps.{stepped, written}
 use Rattle.refusals.specs.Answers.{number}
+use Rattle.refusals.specs.declared.Refusal.{Refusal}
+use Rattle.std.specs.declared.result.Result.{Result}
+use Rattle.std.specs.declared.result.Result.TheVariants.{Ok, Err}
+use Rattle.std.specs.declared.option.Option.{Option}
+use Rattle.std.specs.declared.option.Option.TheVariants.{None, Some}
 
 -- ---- on a course
 module _ (c : Course) where
@@ -41,7 +45,7 @@ module _ (way : Way) where
   unfoldable pub next_row : Loan → Outcome NextRow
   next_row l = judged (state_lines l) (cond (eqb (due way l) 0) finished (next (row_of way l) (next_of way l)))
 
-abbrev pub next_outcome : Next → Outcome NextRow
-next_outcome (next_is.Refused r) = refused (number r.cause) r.place
-next_outcome next_is.Finished = accepted finished
-next_outcome (next_is.Due row loan) = accepted (next row loan)
+abbrev pub next_outcome : Result (Option Month) Refusal → Outcome NextRow
+next_outcome (Err r) = refused (number r.cause) r.place
+next_outcome (Ok None) = accepted finished
+next_outcome (Ok (Some m)) = accepted (next m.row m.next)

@@ -18,19 +18,11 @@ use crate::kinds::{Course, Kind};
 use records::Row;
 use refusals::{Cause, Refusal};
 
-// The next row of a loan in hand, and the loan after it; a finished loan has none.
-#[derive(Clone, Copy)]
-pub enum Next {
-    Refused(refusals::Refusal),
-    Finished,
-    Due(Row, Loan),
-}
-
 // A row, and the loan in hand after it.
 #[derive(Clone, Copy)]
-pub(crate) struct Month {
-    pub(crate) row: Row,
-    pub(crate) next: Loan,
+pub struct Month {
+    pub row: Row,
+    pub next: Loan,
 }
 
 // The rows that are still due: none where more months are done than the loan has.
@@ -146,26 +138,19 @@ fn month_due(kind: Kind, loan: Loan, index: &[f64]) -> Month
     any_month(crate::rates::in_force(kind, loan, index), course)
 }
 
-// The next row alone of a loan of any kind, from a state that may be made up; the list is read by an adjustable loan alone.
-pub fn next_kind_row(kind: Kind, loan: Loan, index: &[f64]) -> Next
+// The next row alone of a loan of any kind, from a state that may be made up, or none of a finished loan; the list is read by an adjustable loan alone.
+pub fn next_kind_row(kind: Kind, loan: Loan, index: &[f64]) -> Result<Option<Month>, Refusal>
     ensures { next_outcome result ≡ next_row (way_of kind index.now) loan }
 {
-    match judge_state(kind, loan, index) {
-        Err(refusal) => Next::Refused(refusal),
-        Ok(()) => {
-            if kind_rows_due(kind, loan) == 0 {
-                return Next::Finished;
-            }
-            let month = month_due(kind, loan, index);
-            let row = month.row;
-            let next = month.next;
-            Next::Due(row, next)
-        }
+    judge_state(kind, loan, index)?;
+    if kind_rows_due(kind, loan) == 0 {
+        return Ok(None);
     }
+    Ok(Some(month_due(kind, loan, index)))
 }
 
 // The next row alone of a level loan.
-pub fn next_row(loan: Loan) -> Next
+pub fn next_row(loan: Loan) -> Result<Option<Month>, Refusal>
     ensures { next_outcome result ≡ next_level_row loan }
 {
     next_kind_row(Kind::Level, loan, &[0.0; 1])

@@ -11,7 +11,7 @@ ghost use Rattle.mortgage.specs.Level.{drawn_with_years as level_drawn_with_year
 ghost use Rattle.mortgage.specs.inner.RoomRows.{rows_from, with_rows};
 
 use crate::Loan;
-use crate::draws::{WIDTH, fewer};
+use crate::draws::{Portion, WIDTH, fewer};
 use crate::kinds::Kind;
 use refusals::{Cause, Refusal};
 

@@ -3,7 +3,7 @@ use mathlib.Core.Path.{◌≡◌, sym, ap, ◌∙◌}
 use mathlib.Core.List.{List}
 use lib.Ieee.{Float}
 use Rattle.numbers.proofs.Determined.{Determined, Settled}
-use Rattle.refusals.proofs.OneToOne.{same_refusal, number_one_to_one, count_one_to_one, verdict_one_to_one}
+use Rattle.refusals.proofs.OneToOne.{one_to_one}
 use Rattle.pool.proofs.loans.judge_pool.Kinds as judge_pool_kinds
 use Rattle.pool.proofs.loans.judge_pool.Reads as judge_pool
 use Rattle.pool.proofs.speed.monthly_smm.Kinds as monthly_smm_kinds
@@ -23,35 +23,28 @@ use Rattle.std.specs.declared.result.Result.{Result}
 use Rattle.refusals.specs.declared.Refusal.{Refusal}
 use Rattle.refusals.specs.Answers.{outcome}
 
--- ---- each answer has its own outcome
-pub totals_one_to_one : (x y : Result Totals Refusal) → outcome x ≡ outcome y → x ≡ y
-totals_one_to_one (Err r) (Err s) e = ap Err (same_refusal r s e)
-totals_one_to_one (Err r) (Ok t) e = cc
-totals_one_to_one (Ok t) (Err s) e = cc
-totals_one_to_one (Ok t) (Ok u) e = cc
-
 -- ---- so each promise leaves one result
 pub monthly_smm_determined : Determined 1 monthly_smm_kinds.ps monthly_smm_kinds.r monthly_smm.Post
 monthly_smm_determined κs a x y e e' p q = p ∙ sym q
 
 pub pool_totals_determined : Determined 1 pool_totals_kinds.ps pool_totals_kinds.r pool_totals.Post
-pool_totals_determined κs a x y e e' p q = totals_one_to_one x y (p ∙ sym q)
+pool_totals_determined κs a x y e e' p q = one_to_one x y (p ∙ sym q)
 
 pub price_determined : Determined 2 price_kinds.ps price_kinds.r price.Post
-price_determined κs a x y e e' p q = number_one_to_one x y (p ∙ sym q)
+price_determined κs a x y e e' p q = one_to_one x y (p ∙ sym q)
 
 pub duration_determined : Determined 2 duration_kinds.ps duration_kinds.r duration.Post
-duration_determined κs a x y e e' p q = number_one_to_one x y (p ∙ sym q)
+duration_determined κs a x y e e' p q = one_to_one x y (p ∙ sym q)
 
 pub convexity_determined : Determined 2 convexity_kinds.ps convexity_kinds.r convexity.Post
-convexity_determined κs a x y e e' p q = number_one_to_one x y (p ∙ sym q)
+convexity_determined κs a x y e e' p q = one_to_one x y (p ∙ sym q)
 
 pub cash_flows_determined : Determined 3 cash_flows_kinds.ps cash_flows_kinds.r cash_flows.Post
-cash_flows_determined κs a x y e e' p q = count_one_to_one x y (p.0 ∙ sym q.0)
+cash_flows_determined κs a x y e e' p q = one_to_one x y (p.0 ∙ sym q.0)
 
 -- and the flows' promise one room, the fourth parameter
 pub cash_flows_room_settled : Settled 3 cash_flows_kinds.ps cash_flows_kinds.r cash_flows.Post
 cash_flows_room_settled κs a x y w w' p q = ap (λ (l : List Float). (tt, (tt, (tt, (l, tt))))) (p.1 ∙ sym q.1)
 
 pub judge_pool_determined : Determined 1 judge_pool_kinds.ps judge_pool_kinds.r judge_pool.Post
-judge_pool_determined κs a x y e e' p q = verdict_one_to_one x y (p ∙ sym q)
+judge_pool_determined κs a x y e e' p q = one_to_one x y (p ∙ sym q)

@@ -1,7 +1,7 @@
 -- The records of document 01, kinds 1 to 4, and of document 02, kind 5: "Little-endian, one byte of kind, then a fixed body." A layout says a kind's number, its fields, and how a value is held by them; its size, its bytes and
 -- what its readers answer follow. Definitions only. Assumes nothing.
 use Rattle.std.specs.Prelude.{ℕ, suc, ◌||◌, List, [], ◌∷◌}
-use Rattle.refusals.specs.Outcome.{Outcome, refused, accepted, line, judged}
+use Rattle.refusals.specs.Outcome.{Outcome, line, judged}
 use Rattle.refusals.specs.Table.{bad_record}
 use Rattle.dates.specs.declared.Date.{Date}
 use Rattle.records.specs.declared.Terms.{Terms}

@@ -41,7 +41,7 @@ same_cause c d e = sym (numbered c) ∙ ap cause_of e ∙ numbered d
 pub same_parts : (r s : Refusal) → number r.cause ≡ number s.cause → r.place ≡ s.place → r ≡ s
 same_parts r s n p = ap (λ (c : Cause). record { cause = c; place = r.place }) (same_cause r.cause s.cause n) ∙ ap (λ (q : ℕ). record { cause = s.cause; place = q }) p
 
-same_refusal : {Value : Type 0} (r s : Refusal) → ◌≡◌ {A = Outcome Value} (refused (number r.cause) r.place) (refused (number s.cause) s.place) → r ≡ s
+pub same_refusal : {Value : Type 0} (r s : Refusal) → ◌≡◌ {A = Outcome Value} (refused (number r.cause) r.place) (refused (number s.cause) s.place) → r ≡ s
 same_refusal r s e = same_parts r s (cc) (cc)
 
 -- what any answer needs, for values of any kind

@@ -8,6 +8,7 @@ use Rattle.refusals.specs.declared.Refusal.{Refusal}
 use Rattle.refusals.specs.Outcome.{Outcome, refused, accepted, Line, first_or, judged}
 use Rattle.std.specs.declared.result.Result.TheVariants.{Ok, Err}
 use Rattle.std.specs.declared.result.Result.{Result}
+use Rattle.std.specs.Result.{IsErrAnd}
 use Rattle.refusals.specs.Answers.{number, outcome}
 
 -- the lines, judging no value
@@ -46,6 +47,15 @@ refused_by ls v x r h e = refused_alike ls v (number r.cause) r.place (sym (ap o
 pub accepted_by : {Value : Type 0} (ls : List Line) (v : Value) (x : Result Unit Refusal) → x ≡ Ok tt → outcome x ≡ verdict ls
     → accepted v ≡ judged ls v
 accepted_by ls v x h e = accepted_alike ls v (sym (ap outcome h) ∙ e)
+
+-- ---- as a `?` has it, which hands the refusal on: the answer is that refusal, and so, where it is a verdict's, what the lines refuse
+pub handed_on : {Value : Type 0} {r : Refusal} (y : Result Value Refusal) → IsErrAnd y (λ (s : Refusal). s ≡ r) → y ≡ Err r
+handed_on (Err s) e = ap Err e
+handed_on (Ok v) e = absurd e
+
+pub refused_on : {Value : Type 0} (ls : List Line) (v : Value) {x : Result Unit Refusal} {r : Refusal} (y : Result Value Refusal) → IsErrAnd y (λ (s : Refusal). s ≡ r) → x ≡ Err r
+    → outcome x ≡ verdict ls → outcome y ≡ judged ls v
+refused_on ls v {x} {r} y i h e = ap outcome (handed_on y i) ∙ refused_by ls v x r h e
 
 -- a refusal of a line that names no list
 pub refused_as : {Value : Type 0} (k : ℕ) (r : Refusal) (o : Outcome Value) → (number r.cause ≡ k) × (r.place ≡ 0) → refused k 0 ≡ o → refused (number r.cause) r.place ≡ o

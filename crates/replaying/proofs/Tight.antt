@@ -2,7 +2,7 @@
 -- Assumes nothing.
 use Rattle.std.proofs.Common.{sym, ◌∙◌}
 use Rattle.numbers.proofs.Determined.{Determined}
-use Rattle.refusals.proofs.OneToOne.{number_one_to_one, count_one_to_one}
+use Rattle.refusals.proofs.OneToOne.{one_to_one}
 use Rattle.replaying.proofs.word_at.Kinds as word_at_kinds
 use Rattle.replaying.proofs.word_at.Reads as word_at
 use Rattle.replaying.proofs.float_at.Kinds as float_at_kinds
@@ -27,13 +27,13 @@ pub float_at_determined : Determined 1 float_at_kinds.ps float_at_kinds.r float_
 float_at_determined κs a x y e e' p q = p ∙ sym q
 
 pub whole_at_determined : Determined 1 whole_at_kinds.ps whole_at_kinds.r whole_at.Post
-whole_at_determined κs a x y e e' p q = count_one_to_one x y (p ∙ sym q)
+whole_at_determined κs a x y e e' p q = one_to_one x y (p ∙ sym q)
 
 pub first_case_determined : Determined 1 first_case_kinds.ps first_case_kinds.r first_case.Post
 first_case_determined κs a x y e e' p q = p.0 ∙ sym q.0
 
 pub no_answer_determined : Determined 0 no_answer_kinds.ps no_answer_kinds.r no_answer.Post
-no_answer_determined κs a x y e e' p q = number_one_to_one x y (p ∙ sym q)
+no_answer_determined κs a x y e e' p q = one_to_one x y (p ∙ sym q)
 
 pub agrees_determined : Determined 0 agrees_kinds.ps agrees_kinds.r agrees.Post
 agrees_determined κs a x y e e' p q = p ∙ sym q

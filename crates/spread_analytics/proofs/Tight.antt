@@ -4,7 +4,7 @@ use mathlib.Core.Path.{◌≡◌, sym, ap, ◌∙◌}
 use mathlib.Core.List.{List}
 use lib.Ieee.{Float}
 use Rattle.numbers.proofs.Determined.{Determined, Settled}
-use Rattle.refusals.proofs.OneToOne.{same_refusal, verdict_one_to_one, number_one_to_one, count_one_to_one}
+use Rattle.refusals.proofs.OneToOne.{one_to_one}
 use Rattle.spread_analytics.specs.declared.units.BasisPoints.{BasisPoints}
 use Rattle.spread_analytics.specs.declared.units.DecimalRate.{DecimalRate}
 use Rattle.spread_analytics.specs.declared.spread.SpreadAnswer.{SpreadAnswer}
@@ -57,39 +57,33 @@ spread_one_to_one (spread_is.NoSignChange s) (spread_is.Refused r) e = cc
 spread_one_to_one (spread_is.NoSignChange s) (spread_is.Found t) e = cc
 spread_one_to_one (spread_is.NoSignChange s) (spread_is.NoSignChange t) e = ap spread_is.NoSignChange (same_points s t (cc))
 
-pub sensitivity_one_to_one : (x y : Result Sensitivity Refusal) → outcome x ≡ outcome y → x ≡ y
-sensitivity_one_to_one (Err r) (Err s) e = ap Err (same_refusal r s e)
-sensitivity_one_to_one (Err r) (Ok t) e = cc
-sensitivity_one_to_one (Ok s) (Err r) e = cc
-sensitivity_one_to_one (Ok s) (Ok t) e = cc
-
 -- ---- so each promise leaves one result
 pub to_decimal_determined : Determined 0 to_decimal_kinds.ps to_decimal_kinds.r to_decimal.Post
 to_decimal_determined κs a x y e e' p q = same_rate x y (p ∙ sym q)
 
 pub rate_at_determined : Determined 2 rate_at_kinds.ps rate_at_kinds.r rate_at_lem.Post
-rate_at_determined κs a x y e e' p q = number_one_to_one x y (p ∙ sym q)
+rate_at_determined κs a x y e e' p q = one_to_one x y (p ∙ sym q)
 
 pub swap_rate_at_determined : Determined 2 swap_rate_at_kinds.ps swap_rate_at_kinds.r swap_rate_at.Post
-swap_rate_at_determined κs a x y e e' p q = number_one_to_one x y (p ∙ sym q)
+swap_rate_at_determined κs a x y e e' p q = one_to_one x y (p ∙ sym q)
 
 pub discount_factor_determined : Determined 2 discount_factor_kinds.ps discount_factor_kinds.r discount_factor.Post
-discount_factor_determined κs a x y e e' p q = number_one_to_one x y (p ∙ sym q)
+discount_factor_determined κs a x y e e' p q = one_to_one x y (p ∙ sym q)
 
 pub forward_rate_determined : Determined 2 forward_rate_kinds.ps forward_rate_kinds.r forward_rate.Post
-forward_rate_determined κs a x y e e' p q = number_one_to_one x y (p ∙ sym q)
+forward_rate_determined κs a x y e e' p q = one_to_one x y (p ∙ sym q)
 
 pub pv_cash_flows_determined : Determined 4 pv_cash_flows_kinds.ps pv_cash_flows_kinds.r pv_cash_flows_reads.Post
-pv_cash_flows_determined κs a x y e e' p q = number_one_to_one x y (p ∙ sym q)
+pv_cash_flows_determined κs a x y e e' p q = one_to_one x y (p ∙ sym q)
 
 pub z_spread_determined : Determined 4 z_spread_kinds.ps z_spread_kinds.r z_spread_reads.Post
 z_spread_determined κs a x y e e' p q = spread_one_to_one x y (p ∙ sym q)
 
 pub duration_convexity_determined : Determined 4 duration_convexity_kinds.ps duration_convexity_kinds.r duration_convexity_reads.Post
-duration_convexity_determined κs a x y e e' p q = sensitivity_one_to_one x y (p ∙ sym q)
+duration_convexity_determined κs a x y e e' p q = one_to_one x y (p ∙ sym q)
 
 pub bond_cash_flows_determined : Determined 2 bond_cash_flows_kinds.ps bond_cash_flows_kinds.r bond_cash_flows.Post
-bond_cash_flows_determined κs a x y e e' p q = count_one_to_one x y (p.0 ∙ sym q.0)
+bond_cash_flows_determined κs a x y e e' p q = one_to_one x y (p.0 ∙ sym q.0)
 
 -- and a bond's cash flows leave one state of the times and one of the amounts, the last two parameters
 pub bond_cash_flows_settled : Settled 2 bond_cash_flows_kinds.ps bond_cash_flows_kinds.r bond_cash_flows.Post
@@ -101,7 +95,7 @@ bond_cash_flows_settled κs a x y w w' p q =
 module _ (flows : List CashFlow) (tenors rates : List Float) (s : Float) where
   pub pv_of_determined : (x y : Result Float Refusal) → outcome x ≡ pv_cash_flows (times_of flows) (amounts_of flows) tenors rates s
       → outcome y ≡ pv_cash_flows (times_of flows) (amounts_of flows) tenors rates s → x ≡ y
-  pv_of_determined x y p q = number_one_to_one x y (p ∙ sym q)
+  pv_of_determined x y p q = one_to_one x y (p ∙ sym q)
 
   pub z_spread_of_determined : (x y : SpreadAnswer) → spread_outcome x ≡ z_spread (times_of flows) (amounts_of flows) tenors rates s
       → spread_outcome y ≡ z_spread (times_of flows) (amounts_of flows) tenors rates s → x ≡ y
@@ -109,17 +103,17 @@ module _ (flows : List CashFlow) (tenors rates : List Float) (s : Float) where
 
   pub duration_convexity_of_determined : (x y : Result Sensitivity Refusal) → outcome x ≡ duration_convexity (times_of flows) (amounts_of flows) tenors rates s
       → outcome y ≡ duration_convexity (times_of flows) (amounts_of flows) tenors rates s → x ≡ y
-  duration_convexity_of_determined x y p q = sensitivity_one_to_one x y (p ∙ sym q)
+  duration_convexity_of_determined x y p q = one_to_one x y (p ∙ sym q)
 
 -- ---- lists of lookups: one verdict, and one list after the call
 pub rate_at_each_determined : Determined 3 rate_at_each_kinds.ps rate_at_each_kinds.r rate_at_each.Post
-rate_at_each_determined κs a x y e e' p q = verdict_one_to_one x y (p.0 ∙ sym q.0)
+rate_at_each_determined κs a x y e e' p q = one_to_one x y (p.0 ∙ sym q.0)
 
 pub rate_at_each_settled : Settled 3 rate_at_each_kinds.ps rate_at_each_kinds.r rate_at_each.Post
 rate_at_each_settled κs a x y w w' p q = ap (λ (l : List Float). (tt, (tt, (l, tt)))) (p.1 ∙ sym q.1)
 
 pub discount_factor_at_each_determined : Determined 3 discount_factor_at_each_kinds.ps discount_factor_at_each_kinds.r discount_factor_at_each.Post
-discount_factor_at_each_determined κs a x y e e' p q = verdict_one_to_one x y (p.0 ∙ sym q.0)
+discount_factor_at_each_determined κs a x y e e' p q = one_to_one x y (p.0 ∙ sym q.0)
 
 pub discount_factor_at_each_settled : Settled 3 discount_factor_at_each_kinds.ps discount_factor_at_each_kinds.r discount_factor_at_each.Post
 discount_factor_at_each_settled κs a x y w w' p q = ap (λ (l : List Float). (tt, (tt, (l, tt)))) (p.1 ∙ sym q.1)

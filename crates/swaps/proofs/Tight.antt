@@ -3,7 +3,7 @@ use mathlib.Core.Path.{◌≡◌, sym, ap, ◌∙◌}
 use mathlib.Core.List.{List}
 use lib.Ieee.{Float}
 use Rattle.numbers.proofs.Determined.{Determined, Settled}
-use Rattle.refusals.proofs.OneToOne.{same_refusal, verdict_one_to_one, number_one_to_one}
+use Rattle.refusals.proofs.OneToOne.{one_to_one}
 use Rattle.swaps.specs.declared.bootstrap.Bootstrap.{Bootstrap}
 use Rattle.swaps.specs.declared.bootstrap.DiscountCurve.{DiscountCurve}
 use Rattle.swaps.proofs.judging.judge_swap.Kinds as judge_swap_kinds
@@ -49,19 +49,6 @@ use Rattle.std.specs.declared.result.Result.{Result}
 use Rattle.refusals.specs.declared.Refusal.{Refusal}
 use Rattle.refusals.specs.Answers.{outcome}
 
--- ---- an answer's number, place and values tell the answer
-pub day_count_told : (x y : Result DayCount Refusal) → outcome x ≡ outcome y → x ≡ y
-day_count_told (Err r) (Err s) e = ap Err (same_refusal r s e)
-day_count_told (Err r) (Ok d) e = cc
-day_count_told (Ok c) (Err s) e = cc
-day_count_told (Ok c) (Ok d) e = cc
-
-pub valuation_told : (x y : Result SwapValuation Refusal) → outcome x ≡ outcome y → x ≡ y
-valuation_told (Err r) (Err s) e = ap Err (same_refusal r s e)
-valuation_told (Err r) (Ok w) e = cc
-valuation_told (Ok v) (Err s) e = cc
-valuation_told (Ok v) (Ok w) e = cc
-
 pub bootstrap_told : (x y : Bootstrap) → x.verdict ≡ y.verdict → x.curve ≡ y.curve → x ≡ y
 bootstrap_told x y v c =
     ap (λ (w : Result Unit Refusal). record { verdict = w; curve = x.curve }) v ∙ ap (λ (d : DiscountCurve). record { verdict = y.verdict; curve = d }) c
@@ -70,62 +57,62 @@ pub day_count_fraction_determined : Determined 0 day_count_fraction_kinds.ps day
 day_count_fraction_determined κs a x y e e' p q = p ∙ sym q
 
 pub dated_fraction_determined : Determined 0 dated_fraction_kinds.ps dated_fraction_kinds.r dated_fraction.Post
-dated_fraction_determined κs a x y e e' p q = number_one_to_one x y (p ∙ sym q)
+dated_fraction_determined κs a x y e e' p q = one_to_one x y (p ∙ sym q)
 
 pub day_count_of_determined : Determined 0 day_count_of_kinds.ps day_count_of_kinds.r day_count_of.Post
-day_count_of_determined κs a x y e e' p q = day_count_told x y (p ∙ sym q)
+day_count_of_determined κs a x y e e' p q = one_to_one x y (p ∙ sym q)
 
 pub code_of_determined : Determined 0 code_of_kinds.ps code_of_kinds.r code_of_lem.Post
 code_of_determined κs a x y e e' p q = p ∙ sym q
 
 pub rate_at_determined : Determined 2 rate_at_kinds.ps rate_at_kinds.r rate_at_lem.Post
-rate_at_determined κs a x y e e' p q = number_one_to_one x y (p ∙ sym q)
+rate_at_determined κs a x y e e' p q = one_to_one x y (p ∙ sym q)
 
 pub discount_factor_determined : Determined 2 discount_factor_kinds.ps discount_factor_kinds.r discount_factor.Post
-discount_factor_determined κs a x y e e' p q = number_one_to_one x y (p ∙ sym q)
+discount_factor_determined κs a x y e e' p q = one_to_one x y (p ∙ sym q)
 
 pub from_par_rates_determined : Determined 2 from_par_rates_kinds.ps from_par_rates_kinds.r from_par_rates.Post
-from_par_rates_determined κs a x y e e' p q = bootstrap_told x y (verdict_one_to_one _ _ (p.0 ∙ sym q.0)) (p.1 ∙ sym q.1)
+from_par_rates_determined κs a x y e e' p q = bootstrap_told x y (one_to_one _ _ (p.0 ∙ sym q.0)) (p.1 ∙ sym q.1)
 
 pub fixed_leg_pv_determined : Determined 2 fixed_leg_pv_kinds.ps fixed_leg_pv_kinds.r fixed_leg_pv.Post
-fixed_leg_pv_determined κs a x y e e' p q = number_one_to_one x y (p ∙ sym q)
+fixed_leg_pv_determined κs a x y e e' p q = one_to_one x y (p ∙ sym q)
 
 pub floating_leg_pv_determined : Determined 2 floating_leg_pv_kinds.ps floating_leg_pv_kinds.r floating_leg_pv.Post
-floating_leg_pv_determined κs a x y e e' p q = number_one_to_one x y (p ∙ sym q)
+floating_leg_pv_determined κs a x y e e' p q = one_to_one x y (p ∙ sym q)
 
 pub swap_npv_determined : Determined 2 swap_npv_kinds.ps swap_npv_kinds.r swap_npv.Post
-swap_npv_determined κs a x y e e' p q = number_one_to_one x y (p ∙ sym q)
+swap_npv_determined κs a x y e e' p q = one_to_one x y (p ∙ sym q)
 
 pub par_swap_rate_determined : Determined 2 par_swap_rate_kinds.ps par_swap_rate_kinds.r par_swap_rate.Post
-par_swap_rate_determined κs a x y e e' p q = number_one_to_one x y (p ∙ sym q)
+par_swap_rate_determined κs a x y e e' p q = one_to_one x y (p ∙ sym q)
 
 pub swap_dv01_determined : Determined 2 swap_dv01_kinds.ps swap_dv01_kinds.r swap_dv01.Post
-swap_dv01_determined κs a x y e e' p q = number_one_to_one x y (p ∙ sym q)
+swap_dv01_determined κs a x y e e' p q = one_to_one x y (p ∙ sym q)
 
 pub swap_duration_determined : Determined 2 swap_duration_kinds.ps swap_duration_kinds.r swap_duration.Post
-swap_duration_determined κs a x y e e' p q = number_one_to_one x y (p ∙ sym q)
+swap_duration_determined κs a x y e e' p q = one_to_one x y (p ∙ sym q)
 
 pub value_swap_determined : Determined 2 value_swap_kinds.ps value_swap_kinds.r value_swap.Post
-value_swap_determined κs a x y e e' p q = valuation_told x y (p ∙ sym q)
+value_swap_determined κs a x y e e' p q = one_to_one x y (p ∙ sym q)
 
 pub judge_swap_determined : Determined 2 judge_swap_kinds.ps judge_swap_kinds.r judge_swap.Post
-judge_swap_determined κs a x y e e' p q = verdict_one_to_one x y (p ∙ sym q)
+judge_swap_determined κs a x y e e' p q = one_to_one x y (p ∙ sym q)
 
 pub judge_but_dates_determined : Determined 2 judge_but_dates_kinds.ps judge_but_dates_kinds.r judge_but_dates.Post
-judge_but_dates_determined κs a x y e e' p q = verdict_one_to_one x y (p ∙ sym q)
+judge_but_dates_determined κs a x y e e' p q = one_to_one x y (p ∙ sym q)
 
 pub judge_any_determined : Determined 2 judge_any_kinds.ps judge_any_kinds.r judge_any.Post
-judge_any_determined κs a x y e e' p q = verdict_one_to_one x y (p ∙ sym q)
+judge_any_determined κs a x y e e' p q = one_to_one x y (p ∙ sym q)
 
 -- ---- lists of lookups: one verdict, and one list after the call
 pub rate_at_each_determined : Determined 3 rate_at_each_kinds.ps rate_at_each_kinds.r rate_at_each.Post
-rate_at_each_determined κs a x y e e' p q = verdict_one_to_one x y (p.0 ∙ sym q.0)
+rate_at_each_determined κs a x y e e' p q = one_to_one x y (p.0 ∙ sym q.0)
 
 pub rate_at_each_settled : Settled 3 rate_at_each_kinds.ps rate_at_each_kinds.r rate_at_each.Post
 rate_at_each_settled κs a x y w w' p q = ap (λ (l : List Float). (tt, (tt, (l, tt)))) (p.1 ∙ sym q.1)
 
 pub discount_factor_at_each_determined : Determined 3 discount_factor_at_each_kinds.ps discount_factor_at_each_kinds.r discount_factor_at_each.Post
-discount_factor_at_each_determined κs a x y e e' p q = verdict_one_to_one x y (p.0 ∙ sym q.0)
+discount_factor_at_each_determined κs a x y e e' p q = one_to_one x y (p.0 ∙ sym q.0)
 
 pub discount_factor_at_each_settled : Settled 3 discount_factor_at_each_kinds.ps discount_factor_at_each_kinds.r discount_factor_at_each.Post
 discount_factor_at_each_settled κs a x y w w' p q = ap (λ (l : List Float). (tt, (tt, (l, tt)))) (p.1 ∙ sym q.1)

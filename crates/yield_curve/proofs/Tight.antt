@@ -3,7 +3,7 @@ use mathlib.Core.Path.{◌≡◌, sym, ap, ◌∙◌}
 use mathlib.Core.List.{List}
 use lib.Ieee.{Float}
 use Rattle.numbers.proofs.Determined.{Determined, Settled}
-use Rattle.refusals.proofs.OneToOne.{same_refusal, verdict_one_to_one, number_one_to_one}
+use Rattle.refusals.proofs.OneToOne.{one_to_one}
 use Rattle.yield_curve.proofs.linear.linear_interpolate.Kinds as linear_interpolate_kinds
 use Rattle.yield_curve.proofs.linear.linear_interpolate.Reads as linear_interpolate
 use Rattle.yield_curve.proofs.linear.discount_factor.Kinds as discount_factor_kinds
@@ -35,37 +35,30 @@ use Rattle.std.specs.declared.result.Result.{Result}
 use Rattle.refusals.specs.declared.Refusal.{Refusal}
 use Rattle.refusals.specs.Answers.{outcome}
 
--- ---- each answer has its own outcome
-pub fit_one_to_one : (x y : Result NelsonSiegel Refusal) → outcome x ≡ outcome y → x ≡ y
-fit_one_to_one (Err r) (Err s) e = ap Err (same_refusal r s e)
-fit_one_to_one (Err r) (Ok n) e = cc
-fit_one_to_one (Ok m) (Err s) e = cc
-fit_one_to_one (Ok m) (Ok n) e = cc
-
 -- ---- so each promise leaves one result
 pub linear_interpolate_determined : Determined 2 linear_interpolate_kinds.ps linear_interpolate_kinds.r linear_interpolate.Post
-linear_interpolate_determined κs a x y e e' p q = number_one_to_one x y (p ∙ sym q)
+linear_interpolate_determined κs a x y e e' p q = one_to_one x y (p ∙ sym q)
 
 pub discount_factor_determined : Determined 2 discount_factor_kinds.ps discount_factor_kinds.r discount_factor.Post
-discount_factor_determined κs a x y e e' p q = number_one_to_one x y (p ∙ sym q)
+discount_factor_determined κs a x y e e' p q = one_to_one x y (p ∙ sym q)
 
 pub forward_rate_determined : Determined 2 forward_rate_kinds.ps forward_rate_kinds.r forward_rate.Post
-forward_rate_determined κs a x y e e' p q = number_one_to_one x y (p ∙ sym q)
+forward_rate_determined κs a x y e e' p q = one_to_one x y (p ∙ sym q)
 
 pub par_yield_determined : Determined 2 par_yield_kinds.ps par_yield_kinds.r par_yield.Post
-par_yield_determined κs a x y e e' p q = number_one_to_one x y (p ∙ sym q)
+par_yield_determined κs a x y e e' p q = one_to_one x y (p ∙ sym q)
 
 pub cubic_spline_interpolate_determined : Determined 2 cubic_spline_interpolate_kinds.ps cubic_spline_interpolate_kinds.r cubic_spline_interpolate.Post
-cubic_spline_interpolate_determined κs a x y e e' p q = number_one_to_one x y (p ∙ sym q)
+cubic_spline_interpolate_determined κs a x y e e' p q = one_to_one x y (p ∙ sym q)
 
 pub instantaneous_forward_determined : Determined 0 instantaneous_forward_kinds.ps instantaneous_forward_kinds.r instantaneous_forward.Post
 instantaneous_forward_determined κs a x y e e' p q = p ∙ sym q
 
 pub yield_at_determined : Determined 0 yield_at_kinds.ps yield_at_kinds.r yield_at.Post
-yield_at_determined κs a x y e e' p q = number_one_to_one x y (p ∙ sym q)
+yield_at_determined κs a x y e e' p q = one_to_one x y (p ∙ sym q)
 
 pub model_forward_rate_determined : Determined 0 model_forward_rate_kinds.ps model_forward_rate_kinds.r model_forward_rate.Post
-model_forward_rate_determined κs a x y e e' p q = number_one_to_one x y (p ∙ sym q)
+model_forward_rate_determined κs a x y e e' p q = one_to_one x y (p ∙ sym q)
 
 pub metrics_determined : Determined 0 metrics_kinds.ps metrics_kinds.r metrics.Post
 metrics_determined κs a x y e e' p q = p ∙ sym q
@@ -74,17 +67,17 @@ pub solve_system_determined : Determined 0 solve_system_kinds.ps solve_system_ki
 solve_system_determined κs a x y e e' p q = p ∙ sym q
 
 pub fit_determined : Determined 2 fit_kinds.ps fit_kinds.r fit.Post
-fit_determined κs a x y e e' p q = fit_one_to_one x y (p ∙ sym q)
+fit_determined κs a x y e e' p q = one_to_one x y (p ∙ sym q)
 
 -- ---- lists of lookups: one verdict, and one list after the call
 pub rate_at_each_determined : Determined 3 rate_at_each_kinds.ps rate_at_each_kinds.r rate_at_each.Post
-rate_at_each_determined κs a x y e e' p q = verdict_one_to_one x y (p.0 ∙ sym q.0)
+rate_at_each_determined κs a x y e e' p q = one_to_one x y (p.0 ∙ sym q.0)
 
 pub rate_at_each_settled : Settled 3 rate_at_each_kinds.ps rate_at_each_kinds.r rate_at_each.Post
 rate_at_each_settled κs a x y w w' p q = ap (λ (l : List Float). (tt, (tt, (l, tt)))) (p.1 ∙ sym q.1)
 
 pub discount_factor_at_each_determined : Determined 3 discount_factor_at_each_kinds.ps discount_factor_at_each_kinds.r discount_factor_at_each.Post
-discount_factor_at_each_determined κs a x y e e' p q = verdict_one_to_one x y (p.0 ∙ sym q.0)
+discount_factor_at_each_determined κs a x y e e' p q = one_to_one x y (p.0 ∙ sym q.0)
 
 pub discount_factor_at_each_settled : Settled 3 discount_factor_at_each_kinds.ps discount_factor_at_each_kinds.r discount_factor_at_each.Post
 discount_factor_at_each_settled κs a x y w w' p q = ap (λ (l : List Float). (tt, (tt, (l, tt)))) (p.1 ∙ sym q.1)
