@@ -5,7 +5,7 @@ use mathlib.Core.List.{List}
 use Prim.Native.Nat.{ℕ}
 use lib.Ieee.{Float}
 use Rattle.numbers.proofs.Determined.{Determined, Settled}
-use Rattle.refusals.proofs.OneToOne.{one_to_one}
+use Rattle.refusals.proofs.OneToOne.{same_refusal}
 use Rattle.book.specs.declared.BookProgress.{BookProgress}
 use Rattle.book.specs.Book.{Progress, book_outcome}
 use Rattle.book.proofs.draw_book.Kinds as draw_book_kinds
@@ -21,15 +21,15 @@ same_progress d g e =
     let made : Progress → BookProgress = λ (q : Progress). record { finished = q.finished; cut = q.cut; waiting = q.waiting } in
     ap made p
 
-pub one_to_one : (x y : Result BookProgress Refusal) → book_outcome x ≡ book_outcome y → x ≡ y
-one_to_one (Err r) (Err s) e = ap Err (same_refusal r s e)
-one_to_one (Err r) (Ok d) e = cc
-one_to_one (Ok d) (Err s) e = cc
-one_to_one (Ok d) (Ok g) e = ap Ok (same_progress d g e)
+pub book_one_to_one : (x y : Result BookProgress Refusal) → book_outcome x ≡ book_outcome y → x ≡ y
+book_one_to_one (Err r) (Err s) e = ap Err (same_refusal r s e)
+book_one_to_one (Err r) (Ok d) e = cc
+book_one_to_one (Ok d) (Err s) e = cc
+book_one_to_one (Ok d) (Ok g) e = ap Ok (same_progress d g e)
 
 -- ---- so the promise leaves one answer
 pub draw_book_determined : Determined 3 draw_book_kinds.ps draw_book_kinds.r draw_book.Post
-draw_book_determined κs a x y e e' p q = one_to_one x y (p.0 ∙ sym q.0)
+draw_book_determined κs a x y e e' p q = book_one_to_one x y (p.0 ∙ sym q.0)
 
 -- and one list of answers and one room, the second and third parameters
 pub draw_book_settled : Settled 3 draw_book_kinds.ps draw_book_kinds.r draw_book.Post

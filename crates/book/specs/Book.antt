@@ -13,6 +13,7 @@ use Rattle.mortgage.specs.Level.{due, rows}
 use Rattle.std.specs.declared.result.Result.TheVariants.{Ok, Err}
 use Rattle.std.specs.declared.result.Result.{Result}
 use Rattle.refusals.specs.declared.Refusal.{Refusal}
+use Rattle.book.specs.declared.BookProgress.{BookProgress}
 use Rattle.refusals.specs.Answers.{number}
 
 -- ---- the loans

@@ -1,11 +1,12 @@
 // The loans of a book, where they lie in its bytes.
 ghost use Rattle.std.specs.Prelude.{◌≡◌, ◌<◌};
-ghost use Rattle.refusals.specs.Answers.{outcome};
+ghost use Rattle.refusals.specs.Answers.{number, outcome};
 ghost use Rattle.records.specs.Kinds.{terms_size, read_terms};
 ghost use Rattle.records.specs.EndToEnd.{record_at};
 ghost use Rattle.mortgage.specs.Payment.{opened};
 ghost use Rattle.book.specs.Book.{loan_count, loan_at, answer, asked};
 
+use mortgage::Loan;
 use records::terms_record::TERMS_SIZE;
 use records::Terms;
 use refusals::Refusal;
@@ -36,10 +37,10 @@ fn read_at(records: &[u8], i: usize) -> Result<Terms, Refusal>
 
 // A refused loan answers the refusal's number and asks for nothing.
 fn refused_loan(refusal: Refusal) -> Asking
-    ensures { (result.answer ≡ refusal.number) × (result.rows ≡ 0) }
+    ensures { (result.answer ≡ number refusal.cause) × (result.rows ≡ 0) }
 {
     Asking {
-        answer: refusal.number,
+        answer: refusal.number(),
         rows: 0,
     }
 }

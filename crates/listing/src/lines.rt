@@ -3,6 +3,7 @@ ghost use Rattle.std.specs.Prelude.{◌+◌, ◌≤◌, ◌++◌, length};
 ghost use Rattle.listing.specs.Digits.{decimal};
 ghost use Rattle.listing.specs.Listing.{line_end, row_line, footer, refused_line};
 ghost use Rattle.listing.specs.inner.Putting.{Put};
+ghost use Rattle.refusals.specs.Answers.{number};
 
 use crate::text::{put_decimal, put_spaced, put_text};
 use records::Row;
@@ -39,8 +40,8 @@ pub(crate) fn put_footer(out: &mut [u8], at: usize, rows: u32, left: u32) -> usi
 }
 
 pub(crate) fn put_refused(out: &mut [u8], at: usize, refusal: refusals::Refusal) -> usize
-    requires { at + length (refused_line refusal.number refusal.place) ≤ length out.old }
-    ensures { Put (refused_line refusal.number refusal.place) at out.old result out.new }
+    requires { at + length (refused_line (number refusal.cause) refusal.place) ≤ length out.old }
+    ensures { Put (refused_line (number refusal.cause) refusal.place) at out.old result out.new }
 {
-    put_numbers(out, at, b"refused ", refusal.number, b" at ", refusal.place)
+    put_numbers(out, at, b"refused ", refusal.number(), b" at ", refusal.place)
 }

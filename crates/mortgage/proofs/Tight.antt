@@ -5,11 +5,12 @@ use mathlib.Core.List.{List, []}
 use lib.Ieee.{Float}
 use Rattle.numbers.proofs.Determined.{Determined, Settled}
 use Rattle.refusals.proofs.OneToOne.{one_to_one, same_refusal}
+use Rattle.records.specs.declared.Row.{Row}
 use Rattle.mortgage.specs.declared.Loan.{Loan}
 use Rattle.mortgage.specs.declared.rows.Month.{Month}
 use Rattle.std.specs.declared.option.Option.{Option}
 use Rattle.std.specs.declared.option.Option.TheVariants.{None, Some}
-use Rattle.mortgage.specs.Rows.{next_outcome}
+use Rattle.mortgage.specs.Rows.{NextRow, finished, next, next_outcome}
 use Rattle.mortgage.proofs.payment.monthly_rate.Kinds as monthly_rate_kinds
 use Rattle.mortgage.proofs.payment.monthly_rate.Reads as monthly_rate
 use Rattle.mortgage.proofs.payment.monthly_payment.Kinds as monthly_payment_kinds
@@ -57,6 +58,12 @@ use Rattle.std.specs.declared.result.Result.{Result}
 use Rattle.refusals.specs.declared.Refusal.{Refusal}
 use Rattle.refusals.specs.Answers.{outcome}
 
+same_month : (m n : Month) → next m.row m.next ≡ next n.row n.next → m ≡ n
+same_month m n e =
+    let a : m.row ≡ n.row = cc in
+    let b : m.next ≡ n.next = cc in
+    ap (λ (r : Row). record { row = r; next = m.next }) a ∙ ap (λ (l : Loan). record { row = n.row; next = l }) b
+
 pub next_one_to_one : (x y : Result (Option Month) Refusal) → next_outcome x ≡ next_outcome y → x ≡ y
 next_one_to_one (Err r) (Err s) e = ap Err (same_refusal r s e)
 next_one_to_one (Err r) (Ok None) e = cc
@@ -66,7 +73,7 @@ next_one_to_one (Ok None) (Ok None) e = refl
 next_one_to_one (Ok None) (Ok (Some m)) e = cc
 next_one_to_one (Ok (Some m)) (Err s) e = cc
 next_one_to_one (Ok (Some m)) (Ok None) e = cc
-next_one_to_one (Ok (Some m)) (Ok (Some n)) e = ap (λ (a : Month). Ok (Some a)) (same_month m n e)
+next_one_to_one (Ok (Some m)) (Ok (Some n)) e = ap (λ (a : Month). Ok (Some a)) (same_month m n (cc))
 
 -- ---- so each promise leaves one result
 pub monthly_rate_determined : Determined 0 monthly_rate_kinds.ps monthly_rate_kinds.r monthly_rate.Post

@@ -54,7 +54,7 @@ not_short false true short coupon e = let z : ◌≡◌ {A = ℕ} 0 1 = cc in ab
 not_short false false true coupon e = let z : ◌≡◌ {A = ℕ} 0 1 = cc in absurd (omega arith)
 not_short false false false coupon e = refl
 
-pub room_for_all : (face many coupon : Bool) (times amounts count : ℕ) (x : Result Unit Refusal) → x ≡ (Ok tt)
+pub room_for_all : (face many coupon : Bool) (times amounts count : ℕ) (x : Result Unit Refusal) → x ≡ Ok tt
     → outcome x ≡ verdict (flow_lines_by face many (no_room_in_either count times amounts) coupon) → (count ≤ times) × (count ≤ amounts)
 unfolding no_room_in_either
 room_for_all face many coupon times amounts count x h e =
@@ -84,8 +84,8 @@ module _ (face coupon tenor : Float) (frequency count : ℕ) where
 -- ---- the two lists after it
 module _ (face coupon tenor : Float) (frequency count : ℕ) (times amounts : List Float) (x : Result Unit Refusal) (n : count ≡ nearest_whole (mul binary64 tenor (per_year frequency)))
     (e : outcome x ≡ verdict (flow_lines_by (bad_amount face) (bad_time tenor || too_many_periods count) (no_room_in_either count (length times) (length amounts)) (bad_number coupon))) where
-  abbrev outcome : Outcome ℕ
-  outcome = bond_cash_flows face coupon tenor frequency times amounts
+  abbrev answered : Outcome ℕ
+  answered = bond_cash_flows face coupon tenor frequency times amounts
 
   as_lines : {Value : Type 0} (o : Outcome Value) (v : Value)
       → o ≡ judged (flow_lines_by (bad_amount face) (bad_time tenor || too_many_periods count) (no_room_in_either count (length times) (length amounts)) (bad_number coupon)) v
@@ -93,11 +93,11 @@ module _ (face coupon tenor : Float) (frequency count : ℕ) (times amounts : Li
   unfolding bad_flows flow_count
   as_lines o v h = h ∙ rw n
 
-  refused_is : (r : Refusal) → x ≡ Err r → refused (number r.cause) r.place ≡ outcome
+  refused_is : (r : Refusal) → x ≡ Err r → refused (number r.cause) r.place ≡ answered
   unfolding bond_cash_flows no_flow_room
   refused_is r h = as_lines _ _ (refused_by _ (flow_count face coupon tenor frequency) x r h e)
 
-  accepted_is : x ≡ (Ok tt) → accepted count ≡ outcome
+  accepted_is : x ≡ Ok tt → accepted count ≡ answered
   unfolding bond_cash_flows no_flow_room
   accepted_is h = ap accepted to_count ∙ as_lines _ _ (accepted_by _ (flow_count face coupon tenor frequency) x h e)
     where
@@ -105,20 +105,20 @@ module _ (face coupon tenor : Float) (frequency count : ℕ) (times amounts : Li
       to_count = count_is face coupon tenor frequency count n
 
   pub refused_untouched : (r : Refusal) → x ≡ Err r
-      → (refused (number r.cause) r.place ≡ outcome)
-      × ((times ≡ column_in outcome (flow_time face coupon tenor frequency) times)
-      × (amounts ≡ column_in outcome (flow_amount face coupon tenor frequency) amounts))
+      → (refused (number r.cause) r.place ≡ answered)
+      × ((times ≡ column_in answered (flow_time face coupon tenor frequency) times)
+      × (amounts ≡ column_in answered (flow_amount face coupon tenor frequency) amounts))
   refused_untouched r h =
       let o = refused_is r h in
       (o, (ap (λ (y : Outcome ℕ). column_in y (flow_time face coupon tenor frequency) times) o, ap (λ (y : Outcome ℕ). column_in y (flow_amount face coupon tenor frequency) amounts) o))
 
-  pub accepted_put : x ≡ (Ok tt) → (period paid : Float) → period ≡ div binary64 one (per_year frequency) → paid ≡ div binary64 (mul binary64 face coupon) (per_year frequency)
+  pub accepted_put : x ≡ Ok tt → (period paid : Float) → period ≡ div binary64 one (per_year frequency) → paid ≡ div binary64 (mul binary64 face coupon) (per_year frequency)
       → (times' amounts' : List Float)
       → times' ≡ first_of (λ (i : ℕ). mul binary64 (of_int binary64 (pos i)) period) count ++ drop count times
       → amounts' ≡ first_of (λ (i : ℕ). cond (eqb i count) (add binary64 paid face) paid) count ++ drop count amounts
-      → (accepted count ≡ outcome)
-      × ((times' ≡ column_in outcome (flow_time face coupon tenor frequency) times)
-      × (amounts' ≡ column_in outcome (flow_amount face coupon tenor frequency) amounts))
+      → (accepted count ≡ answered)
+      × ((times' ≡ column_in answered (flow_time face coupon tenor frequency) times)
+      × (amounts' ≡ column_in answered (flow_amount face coupon tenor frequency) amounts))
   accepted_put h period paid p q times' amounts' ts bs =
       let o = accepted_is h in (
         o,

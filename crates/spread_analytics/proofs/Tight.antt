@@ -4,11 +4,9 @@ use mathlib.Core.Path.{◌≡◌, sym, ap, ◌∙◌}
 use mathlib.Core.List.{List}
 use lib.Ieee.{Float}
 use Rattle.numbers.proofs.Determined.{Determined, Settled}
-use Rattle.refusals.proofs.OneToOne.{one_to_one}
+use Rattle.refusals.proofs.OneToOne.{one_to_one, same_refusal}
 use Rattle.spread_analytics.specs.declared.units.BasisPoints.{BasisPoints}
 use Rattle.spread_analytics.specs.declared.units.DecimalRate.{DecimalRate}
-use Rattle.spread_analytics.specs.declared.spread.SpreadAnswer.{SpreadAnswer}
-use Rattle.spread_analytics.specs.declared.spread.SpreadAnswer.TheVariants as spread_is
 use Rattle.spread_analytics.specs.declared.dated.CashFlow.{CashFlow}
 use Rattle.spread_analytics.specs.Spread.{pv_cash_flows, z_spread, duration_convexity, spread_outcome}
 use Rattle.spread_analytics.specs.Dated.{times_of, amounts_of}
@@ -38,6 +36,9 @@ use Rattle.std.specs.declared.result.Result.TheVariants.{Ok, Err}
 use Rattle.std.specs.declared.result.Result.{Result}
 use Rattle.refusals.specs.declared.Refusal.{Refusal}
 use Rattle.refusals.specs.Answers.{outcome}
+use Rattle.spread_analytics.specs.declared.spread.Spread.{Spread}
+use Rattle.spread_analytics.specs.declared.spread.Sensitivity.{Sensitivity}
+use Rattle.spread_analytics.specs.declared.spread.Spread.TheVariants.{Found as Within, NoSignChange}
 
 -- ---- each answer has its own outcome
 same_points : (s t : BasisPoints) → s.0 ≡ t.0 → s ≡ t
@@ -46,16 +47,16 @@ same_points s t e = ap (λ (x : Float). record { 0 = x }) e
 same_rate : (s t : DecimalRate) → s.0 ≡ t.0 → s ≡ t
 same_rate s t e = ap (λ (x : Float). record { 0 = x }) e
 
-pub spread_one_to_one : (x y : SpreadAnswer) → spread_outcome x ≡ spread_outcome y → x ≡ y
-spread_one_to_one (spread_is.Refused r) (spread_is.Refused s) e = ap spread_is.Refused (same_refusal r s e)
-spread_one_to_one (spread_is.Refused r) (spread_is.Found t) e = cc
-spread_one_to_one (spread_is.Refused r) (spread_is.NoSignChange t) e = cc
-spread_one_to_one (spread_is.Found s) (spread_is.Refused r) e = cc
-spread_one_to_one (spread_is.Found s) (spread_is.Found t) e = ap spread_is.Found (same_points s t (cc))
-spread_one_to_one (spread_is.Found s) (spread_is.NoSignChange t) e = cc
-spread_one_to_one (spread_is.NoSignChange s) (spread_is.Refused r) e = cc
-spread_one_to_one (spread_is.NoSignChange s) (spread_is.Found t) e = cc
-spread_one_to_one (spread_is.NoSignChange s) (spread_is.NoSignChange t) e = ap spread_is.NoSignChange (same_points s t (cc))
+pub spread_one_to_one : (x y : Result Spread Refusal) → spread_outcome x ≡ spread_outcome y → x ≡ y
+spread_one_to_one (Err r) (Err s) e = ap Err (same_refusal r s e)
+spread_one_to_one (Err r) (Ok (Within t)) e = cc
+spread_one_to_one (Err r) (Ok (NoSignChange t)) e = cc
+spread_one_to_one (Ok (Within s)) (Err r) e = cc
+spread_one_to_one (Ok (Within s)) (Ok (Within t)) e = ap (λ (p : BasisPoints). Ok (Within p)) (same_points s t (cc))
+spread_one_to_one (Ok (Within s)) (Ok (NoSignChange t)) e = cc
+spread_one_to_one (Ok (NoSignChange s)) (Err r) e = cc
+spread_one_to_one (Ok (NoSignChange s)) (Ok (Within t)) e = cc
+spread_one_to_one (Ok (NoSignChange s)) (Ok (NoSignChange t)) e = ap (λ (p : BasisPoints). Ok (NoSignChange p)) (same_points s t (cc))
 
 -- ---- so each promise leaves one result
 pub to_decimal_determined : Determined 0 to_decimal_kinds.ps to_decimal_kinds.r to_decimal.Post
@@ -97,7 +98,7 @@ module _ (flows : List CashFlow) (tenors rates : List Float) (s : Float) where
       → outcome y ≡ pv_cash_flows (times_of flows) (amounts_of flows) tenors rates s → x ≡ y
   pv_of_determined x y p q = one_to_one x y (p ∙ sym q)
 
-  pub z_spread_of_determined : (x y : SpreadAnswer) → spread_outcome x ≡ z_spread (times_of flows) (amounts_of flows) tenors rates s
+  pub z_spread_of_determined : (x y : Result Spread Refusal) → spread_outcome x ≡ z_spread (times_of flows) (amounts_of flows) tenors rates s
       → spread_outcome y ≡ z_spread (times_of flows) (amounts_of flows) tenors rates s → x ≡ y
   z_spread_of_determined x y p q = spread_one_to_one x y (p ∙ sym q)
 

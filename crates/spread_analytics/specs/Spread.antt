@@ -11,8 +11,11 @@ use Rattle.refusals.specs.Table.{unequal, bad_knot_count, bad_knots, bad_time, t
 use Rattle.elementary.specs.Exp.{exp}
 use Rattle.curves.specs.Segments.{knot}
 use Rattle.spread_analytics.specs.declared.spread.Sensitivity.{Sensitivity}
-use Rattle.spread_analytics.specs.declared.spread.SpreadAnswer.{SpreadAnswer}
-use Rattle.spread_analytics.specs.declared.spread.SpreadAnswer.TheVariants as spread_is
+use Rattle.std.specs.declared.result.Result.{Result}
+use Rattle.std.specs.declared.result.Result.TheVariants.{Ok, Err}
+use Rattle.refusals.specs.declared.Refusal.{Refusal}
+use Rattle.spread_analytics.specs.declared.spread.Spread.{Spread}
+use Rattle.spread_analytics.specs.declared.spread.Spread.TheVariants.{Found as Within, NoSignChange}
 use Rattle.spread_analytics.specs.Units.{as_decimal}
 use Rattle.spread_analytics.specs.Curves.{rate_of}
 use Rattle.refusals.specs.Answers.{number}
@@ -95,8 +98,8 @@ module _ (times amounts tenors rates : List Float) where
   unfoldable pub duration_convexity : Float → Outcome Sensitivity
   duration_convexity points = judged (spread_lines times amounts tenors rates false) (sensitivity_of points)
 
-abbrev pub spread_outcome : SpreadAnswer → Outcome Found
-spread_outcome (spread_is.Refused r) = refused (number r.cause) r.place
-spread_outcome (spread_is.Found s) = accepted (found s.0)
-spread_outcome (spread_is.NoSignChange s) = accepted (at_end s.0)
+abbrev pub spread_outcome : Result Spread Refusal → Outcome Found
+spread_outcome (Err r) = refused (number r.cause) r.place
+spread_outcome (Ok (Within s)) = accepted (found s.0)
+spread_outcome (Ok (NoSignChange s)) = accepted (at_end s.0)
 

@@ -2,12 +2,12 @@
 ghost use Rattle.std.specs.Prelude.{◌≡◌, Bool, cond, List, ◌<◌, ◌≤◌, ltb, length, take, replicate, Float};
 ghost use Rattle.numbers.specs.Clamps.{plus_zero};
 ghost use Rattle.refusals.specs.Outcome.{Outcome, refused, judged};
-ghost use Rattle.refusals.specs.Answers.{outcome};
+ghost use Rattle.refusals.specs.Answers.{number, outcome};
 ghost use Rattle.spread_analytics.specs.Spread.{spread_lines, pv_cash_flows, z_spread, duration_convexity, spread_outcome};
 ghost use Rattle.spread_analytics.specs.Dated.{times_of, amounts_of};
 ghost use Rattle.spread_analytics.specs.declared.dated.CashFlow.{CashFlow};
 
-use crate::spread::SpreadAnswer;
+use crate::spread::{Sensitivity, Spread};
 use crate::units::BasisPoints;
 use refusals::{Cause, Refusal};
 
@@ -46,7 +46,7 @@ fn taken(count: usize) -> usize
 // What more than 1,200 flows are refused with: the curve's own refusal, and else line 7.
 fn refused_for_count(tenors: &[f64], rates: &[f64]) -> Refusal
     ensures { (times amounts : List Float) (bad : Bool) → length times ≡ length amounts → 1200 < length times
-        → ◌≡◌ {A = Outcome Unit} (refused result.number result.place) (judged (spread_lines times amounts tenors.now rates.now bad) tt) }
+        → ◌≡◌ {A = Outcome Unit} (refused (number result.cause) result.place) (judged (spread_lines times amounts tenors.now rates.now bad) tt) }
 {
     match curves::curve::judge_curve(tenors, rates) {
         Err(refusal) => refusal,
@@ -80,13 +80,13 @@ fn z_spread_of_lists(
     tenors: &[f64],
     rates: &[f64],
     market: f64,
-) -> SpreadAnswer
+) -> Result<Spread, Refusal>
     requires { (length lists.times ≡ 1200) × (length lists.amounts ≡ 1200) }
     ensures { (flows : List CashFlow) → length flows ≡ count → (length flows ≤ 1200 → (take (length flows) lists.times ≡ times_of flows) × (take (length flows) lists.amounts ≡ amounts_of flows))
         → spread_outcome result ≡ z_spread (times_of flows) (amounts_of flows) tenors.now rates.now market }
 {
     if count > 1200 {
-        return SpreadAnswer::Refused(refused_for_count(tenors, rates));
+        return Err(refused_for_count(tenors, rates));
     }
     let times = lists.times;
     let amounts = lists.amounts;
@@ -138,7 +138,7 @@ pub fn pv_of(flows: &[CashFlow], tenors: &[f64], rates: &[f64], spread: BasisPoi
 }
 
 // The spread at which flows are worth the market price.
-pub fn z_spread_of(flows: &[CashFlow], tenors: &[f64], rates: &[f64], market: f64) -> SpreadAnswer
+pub fn z_spread_of(flows: &[CashFlow], tenors: &[f64], rates: &[f64], market: f64) -> Result<Spread, Refusal>
     ensures { spread_outcome result ≡ z_spread (times_of flows.now) (amounts_of flows.now) tenors.now rates.now market }
 {
     let lists = gathered(flows);

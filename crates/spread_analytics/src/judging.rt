@@ -1,7 +1,7 @@
 // The lines of the table that every function over cash flows and a curve asks first.
 ghost use Rattle.std.specs.Prelude.{◌≡◌, false, [], ◌∷◌, map, ◌≤◌, length};
 ghost use Rattle.refusals.specs.Outcome.{alone, judged};
-ghost use Rattle.refusals.specs.Answers.{outcome};
+ghost use Rattle.refusals.specs.Answers.{number, outcome};
 ghost use Rattle.refusals.specs.Table.{too_many_flows, bad_time, bad_number};
 ghost use Rattle.spread_analytics.specs.Spread.{spread_lines};
 
@@ -9,12 +9,12 @@ use curves::each::all_finite;
 use refusals::{Cause, Refusal, refuse};
 
 // One line of a list: a single cause, and then each item that is not finite, at its index.
-fn judge_items(number: u32, single: bool, items: &[f64]) -> Result<(), Refusal>
+fn judge_items(cause: Cause, single: bool, items: &[f64]) -> Result<(), Refusal>
     requires { single ≡ false → length items.now ≤ 1200 }
-    ensures { outcome result ≡ judged ((record { number = number; causes = alone single (map bad_number items.now) }) ∷ []) tt }
+    ensures { outcome result ≡ judged ((record { number = number cause; causes = alone single (map bad_number items.now) }) ∷ []) tt }
 {
     if single {
-        return Err(refuse(number));
+        return Err(refuse(cause));
     }
     if all_finite(items) {
         return Ok(());
@@ -23,7 +23,7 @@ fn judge_items(number: u32, single: bool, items: &[f64]) -> Result<(), Refusal>
     while i < items.len() {
         if refusals::bad_number(items[i]) {
             return Err(Refusal {
-                number,
+                cause,
                 place: i as u32,
             });
         }
@@ -37,9 +37,9 @@ fn judge_flows(times: &[f64], amounts: &[f64], bad: bool) -> Result<(), Refusal>
     requires { length times.now ≡ length amounts.now }
     ensures { outcome result ≡ judged ((record { number = 7; causes = alone (too_many_flows (length times.now)) (map bad_time times.now) }) ∷ (record { number = 9; causes = alone bad (map bad_number amounts.now) }) ∷ []) tt }
 {
-    match judge_items(7, times.len() > 1200, times) {
+    match judge_items(Cause::Time, times.len() > 1200, times) {
         Err(refusal) => Err(refusal),
-        Ok(()) => judge_items(9, bad, amounts),
+        Ok(()) => judge_items(Cause::Number, bad, amounts),
     }
 }
 

@@ -24,8 +24,7 @@ const LOWEST: f64 = -500.0;
 const HIGHEST: f64 = 2000.0;
 
 #[derive(Clone, Copy)]
-pub enum SpreadAnswer {
-    Refused(refusals::Refusal),
+pub enum Spread {
     Found(BasisPoints),
     NoSignChange(BasisPoints),
 }
@@ -151,7 +150,7 @@ fn spread_of(
     tenors: &[f64],
     rates: &[f64],
     market: f64,
-) -> SpreadAnswer
+) -> Result<Spread, Refusal>
     requires { (length times.now ≡ length amounts.now) × (length times.now ≤ 1200) × Rising tenors.now }
     ensures { spread_outcome result ≡ accepted (spread_of times.now amounts.now tenors.now rates.now market) }
 {
@@ -175,9 +174,9 @@ fn spread_of(
         BasisPoints(HIGHEST),
     );
     if low * high > 0.0 {
-        return SpreadAnswer::NoSignChange(nearer_end(low, high));
+        return Ok(Spread::NoSignChange(nearer_end(low, high)));
     }
-    SpreadAnswer::Found(spread_within(times, amounts, &kept, &mut room, market, low))
+    Ok(Spread::Found(spread_within(times, amounts, &kept, &mut room, market, low)))
 }
 
 // The spread at which the flows are worth the market price.
@@ -187,11 +186,11 @@ pub fn z_spread(
     tenors: &[f64],
     rates: &[f64],
     market: f64,
-) -> SpreadAnswer
+) -> Result<Spread, Refusal>
     ensures { spread_outcome result ≡ z_spread times.now amounts.now tenors.now rates.now market }
 {
     match judge_spread(times, amounts, tenors, rates, refusals::bad_number(market)) {
-        Err(refusal) => SpreadAnswer::Refused(refusal),
+        Err(refusal) => Err(refusal),
         Ok(()) => spread_of(times, amounts, tenors, rates, market),
     }
 }

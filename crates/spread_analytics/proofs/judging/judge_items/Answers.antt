@@ -7,6 +7,7 @@ use Rattle.refusals.proofs.Placing.{none_bad}
 use Rattle.refusals.proofs.Verdicts.{refused_as}
 use Rattle.spread_analytics.proofs.ItemLine.{at_single, at_start, stops, goes_on, ended}
 use native.Mathlib.Omega.{arith}
+use Rattle.refusals.specs.Answers.{number}
 use Rattle.spread_analytics.proofs.judging.judge_items.Goals as goal
 
 pub returns-then-single : goal.returns-then-single
@@ -16,7 +17,7 @@ pub returns-then-all_finite : goal.returns-then-all_finite
 unfolding bad_number
 returns-then-all_finite c =
     let a = c.args in
-    none_bad a.number 0 bad_number a.items.now nan (λ i h. ap not (c.all_finite.ensures.0 c.if-all_finite.true i h)) ∙ sym (at_start _ _ a.items.now c.if-single.false)
+    none_bad (number a.cause) 0 bad_number a.items.now nan (λ i h. ap not (c.all_finite.ensures.0 c.if-all_finite.true i h)) ∙ sym (at_start _ _ a.items.now c.if-single.false)
 
 pub loop-i-init : goal.loop-i-init
 loop-i-init c = (omega arith, at_start _ _ c.args.items.now c.if-single.false)
