@@ -1,5 +1,5 @@
 -- Knots in order: times that rise from zero or above to a finite one, with finite rates, give line 6 no cause. Assumes nothing.
-use mathlib.Core.Path.{◌≡◌, refl, sym, ap, ◌∙◌, subst}
+use mathlib.Core.Path.{◌≡◌, refl, sym, ap, ◌∙◌}
 use mathlib.Core.Bool.{Bool, true, false}
 use mathlib.Core.List.{List, [], ◌∷◌}
 use Prim.Native.Nat.{ℕ, zero, suc, ◌+◌, ◌-◌, ◌<◌, ◌≤◌}
@@ -17,17 +17,6 @@ use Rattle.refusals.specs.Outcome.{Outcome, accepted, judged}
 use Rattle.refusals.specs.Table.{bad_knot, bad_knots}
 use Rattle.curves.specs.Segments.{knot, last_of}
 use Rattle.curves.proofs.KnotLine.{From, bad_at, at_start, goes_on, ended}
-
--- what holds of each knot before the one in hand, where no fault was counted, with one knot more
-pub one_knot_more : (P : ℕ → Type 0) (i f g : ℕ) → 1 ≤ i → (f ≡ 0 → (k : ℕ) → suc k < i → P k) → (g ≡ 0 → P (i - 1)) → f + g ≡ 0 → (k : ℕ) → suc k < i + 1 → P k
-one_knot_more P i f g l before here e k h = go (ltb (suc k) i) (ltb-true (suc k) i) (ltb-false (suc k) i)
-  where
-    go : (b : Bool) → (b ≡ true → suc k < i) → (b ≡ false → i ≤ suc k) → P k
-    go true inner end = before (omega arith) k (inner refl)
-    go false inner end =
-        let u : i ≤ suc k = end refl in
-        let d : i - 1 ≡ k = omega arith in
-        subst P d (here (omega arith))
 
 module _ (times rates : List Float) (same : length times ≡ length rates)
     (first : lt (knot times 0) plus_zero ≡ false) (first_rate : finite (knot rates 0) ≡ true) (last : lt (last_of times) (inf false) ≡ true)

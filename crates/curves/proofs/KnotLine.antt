@@ -1,5 +1,5 @@
 -- Line 6 of the table, asked knot by knot: what it says from a knot on, and that it may be asked of the first knot as if -infinity stood before it. Assumes nothing.
-use mathlib.Core.Path.{◌≡◌, refl, sym, ap, ◌∙◌}
+use mathlib.Core.Path.{◌≡◌, refl, ap, ◌∙◌}
 use mathlib.Core.Bool.{Bool, true, false, cond, not, ◌||◌}
 use mathlib.Core.List.{List, [], ◌∷◌}
 use Prim.Native.Nat.{ℕ, ◌+◌, ◌<◌, ◌≤◌}
@@ -8,44 +8,13 @@ use native.Mathlib.Omega.{arith}
 use lib.ListN.{length, get_or, drop, drop_of_length-le}
 use lib.Seq.{drop-cons}
 use lib.Ieee.{Float, nan, inf, fin, lt}
-use lib.Ieee.Scale.{finite}
-use Rattle.numbers.specs.Clamps.{plus_zero}
 use Rattle.refusals.specs.Outcome.{Outcome, refused, accepted, first_or, judged}
 use Rattle.refusals.specs.Table.{bad_knot, bad_knots_after, bad_knots}
 
--- ---- one knot by itself: a time below zero, then one that is not finite, then the rate
-module _ (time rate : Float) where
-  pub bad_below_zero : lt time plus_zero ≡ true → true ≡ bad_knot time rate
-  unfolding bad_knot
-  bad_below_zero e = go (finite time) (finite rate) (lt time plus_zero) e
-    where
-      go : (t r below : Bool) → below ≡ true → true ≡ (not t || not r || below)
-      go true true below e = sym e
-      go true false below e = refl
-      go false r below e = refl
-
-  pub bad_by_time : finite time ≡ false → true ≡ bad_knot time rate
-  unfolding bad_knot
-  bad_by_time e = sym (ap (λ (b : Bool). not b || not (finite rate) || lt time plus_zero) e)
-
-  pub bad_by_rate : lt time plus_zero ≡ false → finite time ≡ true → not (finite rate) ≡ bad_knot time rate
-  unfolding bad_knot
-  bad_by_rate e f = go (finite time) (finite rate) (lt time plus_zero) e f
-    where
-      go : (t r below : Bool) → below ≡ false → t ≡ true → not r ≡ (not t || not r || below)
-      go true true below e f = sym e
-      go true false below e f = refl
-      go false r below e f = cc
-
-pub later : (bad after : Bool) → after ≡ true → bad ≡ (bad || not after)
+later : (bad after : Bool) → after ≡ true → bad ≡ (bad || not after)
 later true after e = refl
 later false true e = refl
 later false false e = cc
-
-pub not_later : (bad after : Bool) → after ≡ false → true ≡ (bad || not after)
-not_later true after e = refl
-not_later false true e = cc
-not_later false false e = refl
 
 -- ---- the list
 -- line 6 from the knot i on
@@ -86,3 +55,6 @@ module _ (times rates : List Float) (before : Float) (i : ℕ) (h : i < length t
 pub ended : (times rates : List Float) (before : Float) (i : ℕ) → length times ≤ i → From times rates before i ≡ accepted tt
 unfolding first_or bad_knots_after
 ended times rates before i h = rw (drop_of_length-le times h)
+
+-- line 6 asked knot by knot
+pub ruleset knot_by_knot = (stops, goes_on, ended)

@@ -12,101 +12,69 @@ use numbers::sizes::{infinity, is_finite};
 use refusals::{Cause, Refusal, refuse};
 
 // Line 5: no knot, or more than 120.
+#[tactic(auto, unfolding(refusals::specs::Table::bad_knot_count))]
 pub fn bad_knot_count(count: usize) -> bool
     ensures { result ≡ bad_knot_count count }
 {
-    if count == 0 {
-        return true;
-    }
-    count > 120
+    count == 0 || count > 120
 }
 
 // Line 6, of one knot by itself.
+#[tactic(auto, unfolding(refusals::specs::Table::bad_knot))]
 pub fn bad_knot(time: f64, rate: f64) -> bool
     ensures { result ≡ bad_knot time rate }
 {
-    if time < 0.0 {
-        return true;
-    }
-    if is_finite(time) {
-        !is_finite(rate)
-    } else {
-        true
-    }
+    !is_finite(time) || !is_finite(rate) || time < 0.0
 }
 
 // Line 6, of a knot and the time before it.
 pub fn bad_knot_after(before: f64, time: f64, rate: f64) -> bool
     ensures { result ≡ (bad_knot time rate || not (lt before time)) }
 {
-    if before < time {
-        bad_knot(time, rate)
-    } else {
-        true
-    }
+    bad_knot(time, rate) || !(before < time)
 }
 
 // Line 7, of one time.
+#[tactic(auto, unfolding(refusals::specs::Table::bad_time))]
 pub fn bad_time(t: f64) -> bool
     ensures { result ≡ bad_time t }
 {
     !is_finite(t)
 }
 
-pub(crate) fn one_unless(good: bool) -> u64
-    ensures { (result ≤ 1) × (result ≡ 0 → good ≡ true) × (good ≡ true → result ≡ 0) }
-{
-    if good { 0 } else { 1 }
-}
-
-// How many of two faults a knot has: a time that is not later than the one before, a rate that is not finite.
-fn faults(before: f64, time: f64, rate: f64) -> u64
-    ensures { (result ≤ 2) × (result ≡ 0 → (lt before time ≡ true) × (finite rate ≡ true)) }
-{
-    one_unless(before < time) + one_unless(is_finite(rate))
-}
-
-// Whether no knot after the first has a fault; all are asked alike, so that several are asked at once.
+// Whether each knot after the first is later than the one before and has a finite rate; all are asked alike, so that several are asked at once.
 fn no_faults(times: &[f64], rates: &[f64]) -> bool
     requires { (length times.now ≡ length rates.now) × (length times.now ≤ 120) × (0 < length times.now) }
     ensures { result ≡ true → (k : ℕ) → suc k < length times.now → (lt (knot times.now k) (knot times.now (suc k)) ≡ true) × (finite (knot rates.now (suc k)) ≡ true) }
 {
-    let mut found: u64 = 0;
-    let mut i: usize = 1;
-    while i < times.len() {
-        found = found + faults(times[i - 1], times[i], rates[i]);
-        i += 1;
+    let mut faults = 0;
+    for i in 1..times.len() {
+        let is_later = times[i - 1] < times[i];
+        faults += u64::from(!is_later) + u64::from(!is_finite(rates[i]));
     }
-    found == 0
+    faults == 0
 }
 
 // Whether times rise from zero or above to a finite one, with finite rates: then line 6 has no cause.
+#[tactic(auto, using(crate::proofs::InOrder::in_order))]
 fn all_in_order(times: &[f64], rates: &[f64]) -> bool
     requires { (length times.now ≡ length rates.now) × (length times.now ≤ 120) × (0 < length times.now) }
     ensures { result ≡ true → ◌≡◌ {A = Outcome Unit} (judged ((record { number = 6; causes = bad_knots times.now rates.now }) ∷ []) tt) (accepted tt) }
 {
-    if times[0] < 0.0 {
-        return false;
-    }
-    if !is_finite(rates[0]) {
-        return false;
-    }
-    if times[times.len() - 1] < infinity() {
-        no_faults(times, rates)
-    } else {
-        false
-    }
+    !(times[0] < 0.0)
+        && is_finite(rates[0])
+        && times[times.len() - 1] < infinity()
+        && no_faults(times, rates)
 }
 
 // Line 6, at the first bad knot; -infinity stands before the first of all.
+#[tactic(auto, using(crate::proofs::KnotLine::knot_by_knot))]
 pub(crate) fn judge_knots(times: &[f64], rates: &[f64]) -> Result<(), Refusal>
     requires { (length times.now ≡ length rates.now) × (length times.now ≤ 120) }
     ensures { outcome result ≡ judged ((record { number = 6; causes = bad_knots times.now rates.now }) ∷ []) tt }
 {
     let mut before = -infinity();
-    let mut i: usize = 0;
-    while i < times.len() {
-        let time = times[i];
+    for (i, &time) in times.iter().enumerate() {
         if bad_knot_after(before, time, rates[i]) {
             return Err(Refusal {
                 cause: Cause::Knot,
@@ -114,7 +82,6 @@ pub(crate) fn judge_knots(times: &[f64], rates: &[f64]) -> Result<(), Refusal>
             });
         }
         before = time;
-        i += 1;
     }
     Ok(())
 }

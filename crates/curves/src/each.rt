@@ -1,5 +1,5 @@
 // A list of lookups on one curve: the curve and the times are judged once, and each time gives way to its answer.
-ghost use Rattle.std.specs.Prelude.{◌≡◌, true, [], ◌∷◌, map, ℕ, ◌<◌, ◌≤◌, length, get_or};
+ghost use Rattle.std.specs.Prelude.{◌≡◌, true, [], ◌∷◌, map, ℕ, ◌<◌, ◌≤◌, length, get_or, position};
 ghost use Rattle.std.specs.Float.{nan};
 ghost use Rattle.std.specs.Float.Ieee.Scale.{finite};
 ghost use Rattle.refusals.specs.Outcome.{judged};
@@ -12,7 +12,7 @@ ghost use Rattle.curves.specs.Lists.{each_outcome, each_after};
 ghost use Rattle.curves.specs.inner.Kinds.{PastOn, EndsAre};
 ghost use Rattle.curves.specs.inner.Exponents.{rate_or_exponent, answer_on};
 
-use crate::curve::{bad_time, judge_curve, one_unless};
+use crate::curve::{bad_time, judge_curve};
 use crate::formulas::along;
 use crate::kinds::{Kind, eight_on, onward_on, passes_on, segment_on};
 use crate::lookups::{exponent_at, rate_of};
@@ -25,30 +25,31 @@ use refusals::{Cause, Refusal, refuse_at};
 pub fn all_finite(asked: &[f64]) -> bool
     ensures { (result ≡ true → (k : ℕ) → k < length asked.now → finite (get_or asked.now k nan) ≡ true) × (((k : ℕ) → k < length asked.now → finite (get_or asked.now k nan) ≡ true) → result ≡ true) }
 {
-    let mut found: u64 = 0;
-    let mut i: usize = 0;
-    while i < asked.len() {
-        found = found + one_unless(is_finite(asked[i]));
-        i += 1;
+    let mut faults = 0;
+    for t in asked {
+        faults += u64::from(!is_finite(*t));
     }
-    found == 0
+    faults == 0
+}
+
+fn first_bad_time(asked: &[f64]) -> Option<usize>
+    ensures { result ≡ position bad_time asked.now }
+{
+    asked.iter().position(|t| bad_time(*t))
 }
 
 // Line 7, at the first time that is not finite.
+#[tactic(auto, using(refusals::proofs::Placing::placed_by_position, crate::proofs::Listing::all_finite_accepted))]
 fn judge_times(asked: &[f64]) -> Result<(), Refusal>
     ensures { outcome result ≡ placed (judged ((record { number = 7; causes = map bad_time asked.now }) ∷ []) tt) }
 {
     if all_finite(asked) {
         return Ok(());
     }
-    let mut i: usize = 0;
-    while i < asked.len() {
-        if bad_time(asked[i]) {
-            return Err(refuse_at(Cause::Time, i));
-        }
-        i += 1;
+    match first_bad_time(asked) {
+        Some(i) => Err(refuse_at(Cause::Time, i)),
+        None => Ok(()),
     }
-    Ok(())
 }
 
 // Lines 4, 5 and 6 of the curve, and then 7 of each time.

@@ -1,14 +1,15 @@
 -- Refusals whose place a u32 holds: what the first lines refuse is refused so by all of them, and a place that a u32 holds stays as it is. Assumes nothing.
 use mathlib.Core.Path.{◌≡◌, refl, sym, ap, ◌∙◌}
-use mathlib.Core.Bool.{Bool, true, false, cond}
+use mathlib.Core.Bool.{Bool, true, false, not, cond}
 use mathlib.Core.List.{List, [], ◌∷◌, ◌++◌, map}
 use Prim.Native.Nat.{ℕ, suc, ◌+◌, ◌<◌, ◌≤◌, min}
 use native.Mathlib.Numerals.{add-one}
 use native.Mathlib.Omega.{arith}
 use lib.ListN.{length, get_or, drop, drop_of_length-le}
 use lib.Seq.{drop-cons}
+use Rattle.std.specs.Prelude.{nat_lt, position, Option, Some, None}
+use Rattle.std.specs.List.{position_or_len}
 use Rattle.numbers.specs.Whole.{largest}
-use Rattle.refusals.specs.declared.Refusal.{Refusal}
 use Rattle.refusals.specs.Outcome.{Outcome, refused, accepted, Line, first_or, judged}
 use Rattle.refusals.specs.Places.{placed}
 use Rattle.refusals.proofs.Judging.{followed, judged_in_parts}
@@ -40,17 +41,44 @@ module _ {Item : Type 0} (k : ℕ) (bad : Item → Bool) (items : List Item) (d 
   unfolding judged
   begun = refl
 
-  pub found : (o : Outcome Unit) (i : ℕ) → o ≡ Rest i → i < length items → bad (get_or items i d) ≡ true
-      → (r : Refusal) → (number r.cause ≡ k) × (r.place ≡ min i largest) → refused (number r.cause) r.place ≡ placed o
-  unfolding placed
-  found o i e h b r is = rw (e, turn i h, b, is.0, is.1)
-
   pub goes_on : (o : Outcome Unit) (i : ℕ) → o ≡ Rest i → i < length items → bad (get_or items i d) ≡ false → o ≡ Rest (i + 1)
   goes_on o i e h b = e ∙ turn i h ∙ ap (λ (t : Bool). cond t (refused k i) (Rest (i + 1))) b
 
   pub ended : (o : Outcome Unit) (i : ℕ) → o ≡ Rest i → length items ≤ i → accepted tt ≡ placed o
   unfolding first_or placed
   ended o i e h = rw (e, drop_of_length-le items h)
+
+-- ---- the same line by the first place at which an item is bad
+module _ {Item : Type 0} (k : ℕ) (bad : Item → Bool) where
+  abbrev at_place : ℕ → ℕ → ℕ → Outcome Unit
+  at_place p n m = cond (nat_lt n m) (refused k (p + n)) (accepted tt)
+
+  one_before : (p n m : ℕ) → at_place (suc p) n m ≡ at_place p (1 + n) (suc m)
+  one_before p n m = grind arith
+
+  here : (p m : ℕ) → refused k p ≡ at_place p 0 (suc m)
+  here p m = grind arith
+
+  turn_by_place : (p n m : ℕ) (b : Bool) (o : Outcome Unit) → o ≡ at_place (suc p) n m → cond b (refused k p) o ≡ at_place p (cond (not b) (1 + n) 0) (suc m)
+  turn_by_place p n m true o e = here p m
+  turn_by_place p n m false o e = e ∙ one_before p n m
+
+  from_place : (p : ℕ) (items : List Item) → ◌≡◌ {A = Outcome Unit} (first_or k p (map bad items) (accepted tt)) (at_place p (position_or_len bad items) (length items))
+  unfolding first_or
+  from_place p [] = refl
+  from_place p (x ∷ items) = turn_by_place p _ _ (bad x) _ (from_place (suc p) items)
+
+  -- what `position` finds
+  abbrev pub refused_at : Option ℕ → Outcome Unit
+  refused_at None = accepted tt
+  refused_at (Some i) = refused k (min i largest)
+
+  pub placed_by_position : (items : List Item) → placed (verdict ((record { number = k; causes = map bad items }) ∷ [])) ≡ refused_at (position bad items)
+  unfolding judged placed
+  placed_by_position items = rw (from_place 0 items) (go (position_or_len bad items) (length items))
+    where
+      go : (n m : ℕ) → placed (at_place 0 n m) ≡ refused_at (cond (nat_lt n m) (Some n) None)
+      go n m = grind arith
 
 -- a line over a list whose items have no cause
 pub none_bad : {Item : Type 0} (k p : ℕ) (bad : Item → Bool) (items : List Item) (d : Item) → ((i : ℕ) → i < length items → bad (get_or items i d) ≡ false)

@@ -1,19 +1,10 @@
 -- `curves::curve::no_faults` meets its contract: no knot before the one in hand has a fault, where none was counted. Assumes nothing.
-use mathlib.Core.Path.{◌≡◌}
-use mathlib.Core.Bool.{true}
-use mathlib.Core.List.{List}
-use Prim.Native.Nat.{ℕ, suc, ◌*◌, ◌-◌, ◌<◌, ◌≤◌}
-use lib.ListN.{length}
-use lib.Ieee.{Float, lt}
-use lib.Ieee.Scale.{finite}
+use Rattle.std.proofs.Common.{◌≡◌, true, ℕ, suc, ◌*◌, ◌<◌, ◌≤◌}
+use Rattle.std.specs.Float.Ieee.{lt}
+use Rattle.std.specs.Float.Ieee.Scale.{finite}
 use Rattle.curves.specs.Segments.{knot}
 use Rattle.curves.proofs.curve.no_faults.Given as goal
 
-abbrev pub Later : List Float → List Float → ℕ → Type 0
-Later times rates k = (lt (knot times k) (knot times (suc k)) ≡ true) × (finite (knot rates (suc k)) ≡ true)
-
 abbrev pub invariant-loop-i : goal.invariant-loop-i
-invariant-loop-i l = (1 ≤ l.i) × (l.i ≤ length l.times) × (l.found ≤ 2 * l.i) × (l.found ≡ 0 → (k : ℕ) → suc k < l.i → Later l.times l.rates k)
-
-abbrev pub decreases-loop-i : goal.decreases-loop-i
-decreases-loop-i l = length l.times - l.i
+invariant-loop-i l = (l.faults ≤ 2 * l.i)
+    × (l.faults ≡ 0 → (k : ℕ) → suc k < l.i → (lt (knot l.times k) (knot l.times (suc k)) ≡ true) × (finite (knot l.rates (suc k)) ≡ true))
