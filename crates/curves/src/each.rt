@@ -270,7 +270,12 @@ fn discounts_of(kind: Kind, times: &[f64], rates: &[f64], asked: &mut [f64])
 }
 
 // The rate at each time.
-pub fn rate_at_each(kind: Kind, times: &[f64], rates: &[f64], asked: &mut [f64]) -> Result<(), Refusal>
+pub fn rate_at_each(
+    kind: Kind,
+    times: &[f64],
+    rates: &[f64],
+    asked: &mut [f64],
+) -> Result<(), Refusal>
     ensures { (outcome result ≡ each_outcome times.now rates.now asked.old) × (asked.new ≡ each_after (rate_on kind times.now rates.now) times.now rates.now asked.old) }
 {
     match judge_each(times, rates, asked) {

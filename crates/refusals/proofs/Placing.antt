@@ -14,7 +14,6 @@ use Rattle.refusals.specs.Outcome.{Outcome, refused, accepted, Line, first_or, j
 use Rattle.refusals.specs.Places.{placed}
 use Rattle.refusals.proofs.Judging.{followed, judged_in_parts}
 use Rattle.refusals.proofs.Verdicts.{verdict}
-use Rattle.refusals.specs.Answers.{number}
 
 -- a refusal that a u32 holds, by the first lines of several
 pub refused_early : (ls ms : List Line) (k p : ℕ) → p ≤ largest → refused k p ≡ verdict ls → refused k p ≡ placed (verdict (ls ++ ms))
