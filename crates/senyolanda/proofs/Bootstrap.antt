@@ -13,7 +13,7 @@ use Rattle.swaps.specs.declared.bootstrap.DiscountCurve.{DiscountCurve}
 use Rattle.swaps.specs.Bootstrap.{next_zero, zeros_up_to, par_lines, from_par_rates}
 use Rattle.swaps.specs.Bootstrapped.{in_room, curve_of, bootstrapped}
 use Rattle.swaps.proofs.ParLines.{accepted_counts}
-use Rattle.std.specs.declared.result.Result.TheVariants.{Ok, Err}
+use Rattle.std.specs.declared.result.Result.TheVariants.{Ok}
 use Rattle.std.specs.declared.result.Result.{Result}
 use Rattle.refusals.specs.declared.Refusal.{Refusal}
 use Rattle.refusals.specs.Answers.{outcome}

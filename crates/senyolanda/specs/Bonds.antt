@@ -1,6 +1,6 @@
 -- A bond as its record holds it, and a frequency by its code. Definitions only. Assumes nothing.
 use Rattle.std.specs.Prelude.{ℕ, List, Float}
-use Rattle.refusals.specs.Outcome.{Outcome, refused, accepted, Line, and_then, judged}
+use Rattle.refusals.specs.Outcome.{Outcome, accepted, Line, and_then, judged}
 use Rattle.refusals.specs.Table.{bad_time, bad_code}
 use Rattle.records.specs.declared.BondRecord.{BondRecord}
 use Rattle.records.specs.Kinds.{read_bond_uncoded}

@@ -1,6 +1,6 @@
 -- A swap as its record holds it, undated or dated, and what a bootstrap leaves in lent room. Definitions only. Assumes nothing.
 use Rattle.std.specs.Prelude.{ℕ, Bool, not, List, [], ◌∷◌, ◌++◌, eqb, length, drop, Float}
-use Rattle.refusals.specs.Outcome.{Outcome, refused, accepted, and_then, judged}
+use Rattle.refusals.specs.Outcome.{Outcome, accepted, and_then, judged}
 use Rattle.refusals.specs.Table.{bad_code}
 use Rattle.records.specs.declared.SwapRecord.{SwapRecord}
 use Rattle.records.specs.declared.DatedSwapRecord.{DatedSwapRecord}

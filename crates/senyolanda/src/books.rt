@@ -6,6 +6,7 @@ ghost use Rattle.senyolanda.specs.Books.{progress_numbers};
 
 use crate::results::{ACCEPTED, refusal_result};
 use refusals::Refusal;
+use book::BookProgress;
 
 // How far a book was drawn.
 fn put_progress(drawing: Result<BookProgress, Refusal>, finished: &mut u32, cut: &mut u32, waiting: &mut u32) -> u64

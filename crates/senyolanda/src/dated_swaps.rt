@@ -6,10 +6,7 @@ ghost use Rattle.senyolanda.specs.Told.{told, told_number};
 ghost use Rattle.refusals.specs.Answers.{outcome};
 ghost use Rattle.senyolanda.specs.Swaps.{dated_by, dated_swap_read, of_dated_swap, is_true, valuation_numbers};
 
-use crate::swap_values::{
-    SwapIn, put_duration, put_dv01, put_fixed_leg, put_floating_leg, put_npv, put_par_rate,
-    put_values,
-};
+use crate::swap_values::{put_duration, put_dv01, put_fixed_leg, put_floating_leg, put_npv, put_par_rate, put_values};
 use records::DatedSwapRecord;
 use swaps::day_counts::DayCount;
 use swaps::{AnySwap, DatedSwap};

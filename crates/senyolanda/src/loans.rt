@@ -3,7 +3,7 @@ ghost use Rattle.std.specs.Prelude.{◌≡◌, Float, List};
 ghost use Rattle.refusals.specs.Outcome.{and_then};
 ghost use Rattle.records.specs.declared.Terms.{Terms};
 ghost use Rattle.records.specs.Kinds.{read_terms};
-ghost use Rattle.refusals.specs.Answers.{outcome};
+ghost use Rattle.refusals.specs.Answers.{number, outcome};
 ghost use Rattle.mortgage.specs.Payment.{monthly_payment, opened, opened_with};
 ghost use Rattle.mortgage.specs.Rows.{next_outcome};
 ghost use Rattle.mortgage.specs.Kinds.{way_of};
@@ -17,8 +17,10 @@ ghost use Rattle.senyolanda.specs.Loans.{loan_in, loan_numbers, portion_numbers,
 use crate::results::{ACCEPTED, put_count, put_number, refusal_result};
 use mortgage::Loan;
 use mortgage::kinds::Kind;
-use mortgage::rows::Next;
+use mortgage::rows::Month;
 use refusals::Refusal;
+use mortgage::draws::Portion;
+use mortgage::savings::Savings;
 
 #[unsafe(no_mangle)]
 pub extern "C" fn senyolanda_monthly_payment(record: &[u8], payment: &mut f64) -> u64
@@ -146,7 +148,7 @@ pub extern "C" fn senyolanda_draw(
 // The next row of a loan of any kind, as a kind 3 record.
 pub(crate) fn put_next(
     kind: Kind,
-    next: Next,
+    next: Result<Option<Month>, Refusal>,
     counts: &mut [u32; COUNTS],
     amounts: &mut [f64; AMOUNTS],
     record: &mut [u8; records::row_record::ROW_SIZE],
@@ -156,19 +158,21 @@ pub(crate) fn put_next(
     ensures { (index : List Float) → (result, (counts.new, amounts.new, «record».new, written.new, owed.new)) ≡ told (kind_next_numbers (way_of kind index) counts.old amounts.old «record».old) (next_outcome next) (counts.old, amounts.old, «record».old, written.old, owed.old) }
 {
     match next {
-        Next::Refused(refusal) => refusal_result(refusal),
-        Next::Finished => {
-            *written = 0;
-            *owed = 0;
-            ACCEPTED
-        }
-        Next::Due(row, after) => {
-            records::row_record::write_row(row, record);
-            hand_back(after, counts, amounts);
-            *written = 1;
-            *owed = mortgage::rows::kind_rows_due(kind, after);
-            ACCEPTED
-        }
+        Err(refusal) => refusal_result(refusal),
+        Ok(month) => match month {
+            None => {
+                *written = 0;
+                *owed = 0;
+                ACCEPTED
+            }
+            Some(month) => {
+                records::row_record::write_row(month.row, record);
+                hand_back(month.next, counts, amounts);
+                *written = 1;
+                *owed = mortgage::rows::kind_rows_due(kind, month.next);
+                ACCEPTED
+            }
+        },
     }
 }
 
@@ -258,10 +262,10 @@ pub extern "C" fn senyolanda_prepayment_savings(
 
 // The same refusal at another place.
 fn at_place(refusal: Refusal, place: u32) -> Refusal
-    ensures { (result.number ≡ refusal.number) × (result.place ≡ place) }
+    ensures { (number result.cause ≡ number refusal.cause) × (result.place ≡ place) }
 {
     Refusal {
-        number: refusal.number,
+        cause: refusal.cause,
         place,
     }
 }

@@ -34,12 +34,10 @@ fn speed_for(records: &[u8], asked: bool, room: usize, code: u32, number: f64) -
     match speed_of(code, number) {
         Ok(speed) => Ok(speed),
         Err(unknown) => match pool::loans::judge_pool(records, asked, room) {
-            Err(refusal) => {
-                if refusal.number == 11 {
-                    return Err(unknown);
-                }
-                Err(refusal)
-            }
+            Err(refusal) => match refusal.cause {
+                Cause::Record => Err(unknown),
+                _ => Err(refusal),
+            },
             Ok(()) => Err(unknown),
         },
     }

@@ -13,10 +13,7 @@ use crate::date_counts::DATE_NUMBERS;
 use crate::results::{ACCEPTED, refusal_result};
 use dates::Date;
 use refusals::Cause;
-use records::{
-    BondRead, BondRecord, DatedSwapRead, DatedSwapRecord, Row, RowRead, SwapRead, SwapRecord,
-    Terms, TermsRead,
-};
+use records::{BondRecord, DatedSwapRecord, Row, SwapRecord, Terms};
 
 #[unsafe(no_mangle)]
 pub extern "C" fn senyolanda_read_loan(

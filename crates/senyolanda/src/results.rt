@@ -1,6 +1,6 @@
 // The result of a call, and answers put into their lent places.
 ghost use Rattle.std.specs.Prelude.{◌≡◌};
-ghost use Rattle.refusals.specs.Answers.{outcome};
+ghost use Rattle.refusals.specs.Answers.{number, outcome};
 ghost use Rattle.senyolanda.specs.Told.{refusal_result, told_number};
 
 use refusals::Refusal;
@@ -10,9 +10,9 @@ pub(crate) const ACCEPTED: u64 = 0;
 
 // A refusal's number in the low half, its place in the high half.
 pub(crate) fn refusal_result(refusal: Refusal) -> u64
-    ensures { result ≡ refusal_result refusal.number refusal.place }
+    ensures { result ≡ refusal_result (number refusal.cause) refusal.place }
 {
-    refusal.number as u64 + 0x1_0000_0000 * (refusal.place as u64)
+    refusal.number() as u64 + 0x1_0000_0000 * (refusal.place as u64)
 }
 
 pub(crate) fn put_number(answer: Result<f64, Refusal>, place: &mut f64) -> u64

@@ -9,7 +9,7 @@ ghost use Rattle.senyolanda.specs.Told.{always, told, told_number};
 ghost use Rattle.senyolanda.specs.Spreads.{spread_numbers, sensitivity_numbers};
 
 use crate::results::{ACCEPTED, put_count, put_number, refusal_result};
-use spread_analytics::spread::SpreadAnswer;
+use spread_analytics::spread::{Sensitivity, Spread};
 use spread_analytics::units::BasisPoints;
 use refusals::Refusal;
 
@@ -104,21 +104,23 @@ pub extern "C" fn senyolanda_bond_cash_flows(
     put_count(count, flows)
 }
 
-pub(crate) fn put_spread(answer: SpreadAnswer, points: &mut f64, found: &mut u32) -> u64
+pub(crate) fn put_spread(answer: Result<Spread, Refusal>, points: &mut f64, found: &mut u32) -> u64
     ensures { (result, (points.new, found.new)) ≡ told spread_numbers (spread_outcome answer) (points.old, found.old) }
 {
     match answer {
-        SpreadAnswer::Refused(refusal) => refusal_result(refusal),
-        SpreadAnswer::Found(spread) => {
-            *points = spread.0;
-            *found = 1;
-            ACCEPTED
-        }
-        SpreadAnswer::NoSignChange(nearer_end) => {
-            *points = nearer_end.0;
-            *found = 0;
-            ACCEPTED
-        }
+        Err(refusal) => refusal_result(refusal),
+        Ok(spread) => match spread {
+            Spread::Found(at) => {
+                *points = at.0;
+                *found = 1;
+                ACCEPTED
+            }
+            Spread::NoSignChange(nearer_end) => {
+                *points = nearer_end.0;
+                *found = 0;
+                ACCEPTED
+            }
+        },
     }
 }
 

@@ -14,6 +14,7 @@ use records::SwapRecord;
 use refusals::{Cause, Refusal};
 use swaps::day_counts::DayCount;
 use swaps::{AnySwap, Swap};
+use swaps::valuation::SwapValuation;
 
 fn counted_by(day_count: DayCount, fields: SwapRecord) -> Swap
     ensures { result ≡ counted_by day_count fields }

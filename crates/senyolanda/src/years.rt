@@ -9,6 +9,7 @@ ghost use Rattle.senyolanda.specs.Loans.{loan_in, portion_numbers};
 use crate::loans::{AMOUNTS, COUNTS, loan_in, put_portion};
 use crate::results::{ACCEPTED, refusal_result};
 use refusals::Refusal;
+use mortgage::years::Year;
 
 // Writes as many rows as the room holds and the term still owes, and enters them into their years' lines.
 #[unsafe(no_mangle)]

@@ -27,9 +27,9 @@ returns-in-Err-judge_uncoded c =
     read_so _ _ _ _ (sym (ap outcome c.in-Ok.is) ∙ c.read_bond_uncoded.ensures)
     (others_first _ _ _ _ _ set.0 (sym (ap outcome c.in-Err-judge_uncoded.is) ∙ c.judge_uncoded.ensures))
 
-pub returns-in-Ok : goal.returns-in-Ok
+pub returns-in-Ok-judge_uncoded : goal.returns-in-Ok-judge_uncoded
 unfolding bond_read frequency_of
-returns-in-Ok c =
+returns-in-Ok-judge_uncoded c =
     let set = out_of_set _ _ _ _ (sym (ap outcome c.in-Err-frequency_of.is) ∙ c.frequency_of.ensures) in
     read_so _ _ _ _ (sym (ap outcome c.in-Ok.is) ∙ c.read_bond_uncoded.ensures)
-    (unknown _ _ _ _ _ set.0 (sym (ap outcome c.in-Ok.is) ∙ c.judge_uncoded.ensures) set.1 set.2)
+    (unknown _ _ _ _ _ set.0 (sym (ap outcome c.in-Ok-judge_uncoded.is) ∙ c.judge_uncoded.ensures) set.1 set.2)

@@ -42,11 +42,11 @@ returns-in-Err-judge_but_dates c =
     read_so _ _ _ _ (sym (ap outcome c.in-Ok.is) ∙ c.read_dated_swap_uncoded.ensures)
     (others_first _ _ _ _ _ set.0 (sym (ap outcome c.in-Err-judge_but_dates.is) ∙ alike _ _ (day_count_at b.count) b a.tenors.now a.zeros.now c.dated_by-swap.ensures c.judge_but_dates.ensures))
 
-pub returns-in-Ok : goal.returns-in-Ok
+pub returns-in-Ok-judge_but_dates : goal.returns-in-Ok-judge_but_dates
 unfolding dated_swap_read day_count_of too_many_dated span_of
-returns-in-Ok c =
+returns-in-Ok-judge_but_dates c =
     let b = c.in-Ok.fields in
     let a = c.args in
     let set = out_of_set _ _ _ _ (sym (ap outcome c.in-Err-day_count_of.is) ∙ c.day_count_of.ensures) in
     read_so _ _ _ _ (sym (ap outcome c.in-Ok.is) ∙ c.read_dated_swap_uncoded.ensures)
-    (unknown _ _ _ _ _ set.0 (sym (ap outcome c.in-Ok.is) ∙ alike _ _ (day_count_at b.count) b a.tenors.now a.zeros.now c.dated_by-swap.ensures c.judge_but_dates.ensures) set.1 set.2)
+    (unknown _ _ _ _ _ set.0 (sym (ap outcome c.in-Ok-judge_but_dates.is) ∙ alike _ _ (day_count_at b.count) b a.tenors.now a.zeros.now c.dated_by-swap.ensures c.judge_but_dates.ensures) set.1 set.2)

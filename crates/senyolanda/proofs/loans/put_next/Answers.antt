@@ -1,9 +1,12 @@
 -- `senyolanda::loans::put_next` meets its contract. Assumes nothing.
-use mathlib.Core.Path.{◌≡◌, refl, sym, ap}
+use mathlib.Core.Path.{◌≡◌, refl, sym, ap, ◌∙◌}
 use mathlib.Core.List.{List}
 use Prim.Native.Nat.{ℕ}
 use lib.Ieee.{Float}
 use Rattle.mortgage.specs.Rows.{next_outcome}
+use Rattle.std.specs.declared.result.Result.TheVariants.{Ok}
+use Rattle.std.specs.declared.option.Option.{Option}
+use Rattle.mortgage.specs.declared.rows.Month.{Month}
 use Rattle.senyolanda.proofs.Handed.{refused_so, accepted_so}
 use Rattle.senyolanda.proofs.loans.put_next.Goals as goal
 
@@ -15,8 +18,9 @@ handed_on n l e h = cc
 pub returns-in-Err : goal.returns-in-Err
 returns-in-Err c index = refused_so _ _ _ _ _ _ (sym (ap next_outcome c.in-Err.is)) c.refusal_result.ensures
 
-pub returns-in-Finished : goal.returns-in-Finished
-returns-in-Finished c index = accepted_so _ _ _ _ _ (sym (ap next_outcome c.in-Finished.is)) refl
+pub returns-in-None : goal.returns-in-None
+returns-in-None c index = accepted_so _ _ _ _ _ (sym (ap next_outcome (c.in-Ok.is ∙ ap (λ (m : Option Month). Ok m) c.in-None.is))) refl
 
-pub returns-in-Due : goal.returns-in-Due
-returns-in-Due c index = accepted_so _ _ _ _ _ (sym (ap next_outcome c.in-Due.is)) (handed_on _ c.hand_back.ensures c.write_row.ensures (c.kind_rows_due.ensures index))
+pub returns-in-Some : goal.returns-in-Some
+returns-in-Some c index =
+    accepted_so _ _ _ _ _ (sym (ap next_outcome (c.in-Ok.is ∙ ap (λ (m : Option Month). Ok m) c.in-Some.is))) (handed_on _ c.hand_back.ensures c.write_row.ensures (c.kind_rows_due.ensures index))

@@ -10,8 +10,8 @@ use Rattle.senyolanda.proofs.loans.senyolanda_refinance_breakeven.Goals as goal
 use Rattle.refusals.specs.Answers.{number, outcome}
 
 -- a refusal of a record stands at the loan's place, and what was read stays as it is
-at_place_of : (place : ℕ) (r q : Refusal) (o : Outcome Terms) → refused (number r.cause) r.place ≡ o → (q.number ≡ (number r.cause)) × (q.place ≡ place)
-    → refused q.number q.place ≡ at place o
+at_place_of : (place : ℕ) (r q : Refusal) (o : Outcome Terms) → refused (number r.cause) r.place ≡ o → (number q.cause ≡ number r.cause) × (q.place ≡ place)
+    → refused (number q.cause) q.place ≡ at place o
 at_place_of place r q o e h = rw (sym e, h.0, h.1)
 
 given_at : (place : ℕ) (t : Terms) (o : Outcome Terms) → accepted t ≡ o → accepted t ≡ at place o

@@ -42,11 +42,11 @@ returns-in-Err-judge_swap c =
     read_so _ _ _ _ (sym (ap outcome c.in-Ok.is) ∙ c.read_swap_uncoded.ensures)
     (others_first _ _ _ _ _ set.0 (sym (ap outcome c.in-Err-judge_swap.is) ∙ alike _ _ (day_count_at b.count) b a.tenors.now a.zeros.now c.counted_by-swap.ensures c.judge_swap.ensures))
 
-pub returns-in-Ok : goal.returns-in-Ok
+pub returns-in-Ok-judge_swap : goal.returns-in-Ok-judge_swap
 unfolding swap_read day_count_of payments
-returns-in-Ok c =
+returns-in-Ok-judge_swap c =
     let b = c.in-Ok.fields in
     let a = c.args in
     let set = out_of_set _ _ _ _ (sym (ap outcome c.in-Err-day_count_of.is) ∙ c.day_count_of.ensures) in
     read_so _ _ _ _ (sym (ap outcome c.in-Ok.is) ∙ c.read_swap_uncoded.ensures)
-    (unknown _ _ _ _ _ set.0 (sym (ap outcome c.in-Ok.is) ∙ alike _ _ (day_count_at b.count) b a.tenors.now a.zeros.now c.counted_by-swap.ensures c.judge_swap.ensures) set.1 set.2)
+    (unknown _ _ _ _ _ set.0 (sym (ap outcome c.in-Ok-judge_swap.is) ∙ alike _ _ (day_count_at b.count) b a.tenors.now a.zeros.now c.counted_by-swap.ensures c.judge_swap.ensures) set.1 set.2)

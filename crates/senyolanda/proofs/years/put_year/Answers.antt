@@ -7,5 +7,5 @@ use Rattle.refusals.specs.Answers.{outcome}
 pub returns-in-Err : goal.returns-in-Err
 returns-in-Err c = refused_so _ _ _ _ _ _ (sym (ap outcome c.in-Err.is)) c.refusal_result.ensures
 
-pub returns-in-Found : goal.returns-in-Found
-returns-in-Found c = accepted_so _ _ _ _ _ (sym (ap outcome c.in-Found.is)) refl
+pub returns-in-Ok : goal.returns-in-Ok
+returns-in-Ok c = accepted_so _ _ _ _ _ (sym (ap outcome c.in-Ok.is)) refl
