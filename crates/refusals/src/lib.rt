@@ -6,6 +6,8 @@ ghost use Rattle.numbers.specs.Whole.{largest};
 ghost use Rattle.refusals.specs.Answers.{number};
 ghost use Rattle.refusals.specs.Table.{bad_amount, bad_term, bad_number};
 
+use std::fmt;
+
 // The causes of a refusal, one for each line of the table, in its order.
 #[derive(Clone, Copy, Debug, PartialEq, Eq)]
 pub enum Cause {
@@ -40,6 +42,13 @@ impl Refusal {
         ensures { result ≡ number self.cause }
     {
         self.cause as u32
+    }
+}
+
+// As the programs write it.
+impl fmt::Display for Refusal {
+    fn fmt<W: fmt::Write>(&self, f: &mut fmt::Formatter<W>) -> fmt::Result {
+        write!(f, "refused {} at {}", self.number(), self.place)
     }
 }
 
