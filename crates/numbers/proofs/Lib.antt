@@ -19,3 +19,4 @@ pub mod Clamping
 pub mod Sums
 pub mod Repayment
 pub mod Tight
+pub mod SideBySide

@@ -2,8 +2,8 @@
 use mathlib.Core.Path.{◌≡◌, sym, ◌∙◌}
 use mathlib.Core.Bool.{true, false, cond}
 use mathlib.Core.List.{List}
-use Prim.Native.Nat.{ℕ, zero, suc, ◌-◌, ◌<◌}
-use native.Mathlib.Omega.{arith}
+use Prim.Native.Nat.{ℕ, ◌+◌}
+use native.Mathlib.Numerals.{add-one}
 use lib.Ieee.{Float, binary64, sub, mul, lt, le}
 use Rattle.numbers.specs.Literals.{two_thousand, minus_five_hundred, ten_to_minus8}
 use Rattle.numbers.specs.Clamps.{plus_zero}
@@ -15,39 +15,27 @@ module _ (times amounts tenors rates : List Float) (market lo hi : Float) where
   unfolding spread_within
   no_turn n e = rw e
 
-  module _ (n : ℕ) (more : 0 < n) (width : Float) (w : width ≡ absolute (sub binary64 hi lo)) where
+  module _ (n m : ℕ) (more : n ≡ m + 1) (width : Float) (w : width ≡ absolute (sub binary64 hi lo)) where
     pub close : lt width ten_to_minus8 ≡ true → middle lo hi ≡ spread_within times amounts tenors rates market n lo hi
     unfolding spread_within
-    close h = go n more
-      where
-        go : (m : ℕ) → 0 < m → middle lo hi ≡ spread_within times amounts tenors rates market m lo hi
-        go zero l = absurd (omega arith)
-        go (suc m) l = rw (sym w, h)
+    close h = rw (more, add-one m, sym w, h)
 
     module _ (h : lt width ten_to_minus8 ≡ false) (below error : Float) (b : below ≡ error_at times amounts tenors rates market lo)
         (e : error ≡ error_at times amounts tenors rates market (middle lo hi)) where
       into_lower : le (mul binary64 below error) plus_zero ≡ true
-          → spread_within times amounts tenors rates market n lo hi ≡ spread_within times amounts tenors rates market (n - 1) lo (middle lo hi)
+          → spread_within times amounts tenors rates market n lo hi ≡ spread_within times amounts tenors rates market m lo (middle lo hi)
       unfolding spread_within crosses
-      into_lower c = go n more
-        where
-          go : (m : ℕ) → 0 < m → spread_within times amounts tenors rates market m lo hi ≡ spread_within times amounts tenors rates market (m - 1) lo (middle lo hi)
-          go zero l = absurd (omega arith)
-          go (suc m) l = let p : suc m - 1 ≡ m = omega arith in rw (p, sym w, h, sym b, sym e, c)
+      into_lower c = rw (more, add-one m, sym w, h, sym b, sym e, c)
 
       into_upper : le (mul binary64 below error) plus_zero ≡ false
-          → spread_within times amounts tenors rates market n lo hi ≡ spread_within times amounts tenors rates market (n - 1) (middle lo hi) hi
+          → spread_within times amounts tenors rates market n lo hi ≡ spread_within times amounts tenors rates market m (middle lo hi) hi
       unfolding spread_within crosses
-      into_upper c = go n more
-        where
-          go : (m : ℕ) → 0 < m → spread_within times amounts tenors rates market m lo hi ≡ spread_within times amounts tenors rates market (m - 1) (middle lo hi) hi
-          go zero l = absurd (omega arith)
-          go (suc m) l = let p : suc m - 1 ≡ m = omega arith in rw (p, sym w, h, sym b, sym e, c)
+      into_upper c = rw (more, add-one m, sym w, h, sym b, sym e, c)
 
       -- the ends after a turn, and the error that is kept with the lower one
       module _ (all lo' hi' below' : Float) (i : all ≡ spread_within times amounts tenors rates market n lo hi) where
         abbrev Onward : Type 0
-        Onward = (below' ≡ error_at times amounts tenors rates market lo') × (all ≡ spread_within times amounts tenors rates market (n - 1) lo' hi')
+        Onward = (below' ≡ error_at times amounts tenors rates market lo') × (all ≡ spread_within times amounts tenors rates market m lo' hi')
 
         pub lower_half : le (mul binary64 below error) plus_zero ≡ true → lo' ≡ lo → hi' ≡ middle lo hi → below' ≡ below → Onward
         lower_half c p q r = (rw (r, p) b, i ∙ rw (p, q) (into_lower c))

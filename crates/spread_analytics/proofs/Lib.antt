@@ -7,6 +7,8 @@ pub mod ItemLine
 pub mod SpreadVerdict
 pub mod KeptRates
 pub mod CarriedOn
+pub mod Products
+pub mod Blocks
 pub mod Halvings
 pub mod TooMany
 pub mod Gathering

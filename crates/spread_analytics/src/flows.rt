@@ -1,5 +1,5 @@
 // A bond's cash flows, into two lent lists.
-ghost use Rattle.std.specs.Prelude.{◌≡◌, cond, not, ◌&&◌, ◌||◌, [], ◌∷◌, ◌++◌, ℕ, ◌≤◌, max, eqb, pos, length, drop};
+ghost use Rattle.std.specs.Prelude.{◌≡◌, cond, not, ◌&&◌, ◌||◌, [], ◌∷◌, ◌++◌, ℕ, ◌≤◌, eqb, pos, length, drop, Float};
 ghost use Rattle.std.specs.Float.{binary64};
 ghost use Rattle.std.specs.Float.Ieee.{add, mul, div, of_int};
 ghost use Rattle.numbers.specs.Literals.{one};
@@ -11,18 +11,11 @@ ghost use Rattle.spread_analytics.specs.Flows.{per_year, flow_time, flow_amount,
 
 use refusals::{Cause, Refusal, refuse};
 
-// A frequency of 0 is read as 1.
-fn at_least_one(frequency: u32) -> u32
-    ensures { result ≡ max frequency 1 }
-{
-    if frequency == 0 { 1 } else { frequency }
-}
-
-// How many flows a year.
+// How many flows a year; a frequency of 0 is read as 1.
 fn per_year(frequency: u32) -> f64
     ensures { result ≡ per_year frequency }
 {
-    at_least_one(frequency) as f64
+    frequency.max(1) as f64
 }
 
 // How many flows there are, to the nearest whole number, halves away from zero.
@@ -45,23 +38,19 @@ fn flow_coupon(face: f64, coupon: f64, frequency: u32) -> f64
 }
 
 // Line 7: a tenor that is not finite, or more than 1,200 flows.
+#[tactic(auto, unfolding(refusals::specs::Table::too_many_periods))]
 fn bad_flows(tenor: f64, count: u32) -> bool
     ensures { result ≡ (bad_time tenor || too_many_periods count) }
 {
-    if curves::curve::bad_time(tenor) {
-        return true;
-    }
-    count > 1200
+    curves::curve::bad_time(tenor) || count > 1200
 }
 
 // Line 3: fewer places in either list than flows.
+#[tactic(auto, unfolding(refusals::specs::Table::no_room_in_either))]
 fn too_little_room(count: u32, times: usize, amounts: usize) -> bool
     ensures { result ≡ no_room_in_either count times amounts }
 {
-    if times < count as usize {
-        return true;
-    }
-    amounts < count as usize
+    times < count as usize || amounts < count as usize
 }
 
 // Lines 1, 3, 7 and 9; 3 has no cause where 7 has one, so 7 is asked first.
@@ -90,39 +79,21 @@ fn judge_bond_flows(
     Ok(())
 }
 
-// The times of so many flows, a period apart.
-fn put_times(times: &mut [f64], count: u32, period: f64)
-    requires { count ≤ length times.old }
-    ensures { times.new ≡ first_of (λ (i : ℕ). mul binary64 (of_int binary64 (pos i)) period) count ++ drop count times.old }
-{
-    let mut i: u32 = 0;
-    while i < count {
-        let at = i as usize;
-        i += 1;
-        times[at] = i as f64 * period;
-    }
-}
-
 // The amount of the flow i, of so many: the face with the last.
 fn flow_amount(i: u32, count: u32, coupon: f64, face: f64) -> f64
     ensures { result ≡ cond (eqb i count) (add binary64 coupon face) coupon }
 {
-    if i == count {
-        return coupon + face;
-    }
-    coupon
+    if i == count { coupon + face } else { coupon }
 }
 
-// The amounts of so many flows.
-fn put_amounts(amounts: &mut [f64], count: u32, coupon: f64, face: f64)
-    requires { count ≤ length amounts.old }
-    ensures { amounts.new ≡ first_of (λ (i : ℕ). cond (eqb i count) (add binary64 coupon face) coupon) count ++ drop count amounts.old }
+// So many values from the first place on, each by its number, from 1.
+fn put_each<F: Fn(u32) -> f64>(room: &mut [f64], count: u32, value: F)
+    requires fits { count ≤ length room.old }
+    requires callable { F.IsAlwaysCallable value }
+    ensures { (g : ℕ → Float) → ((i : ℕ) (r : Float) → F.post value i r → r ≡ g i) → room.new ≡ first_of g count ++ drop count room.old }
 {
-    let mut i: u32 = 0;
-    while i < count {
-        let at = i as usize;
-        i += 1;
-        amounts[at] = flow_amount(i, count, coupon, face);
+    for i in 0..count {
+        room[i as usize] = value(i + 1);
     }
 }
 
@@ -143,8 +114,10 @@ pub fn bond_cash_flows(
     match judge_bond_flows(face, coupon, tenor, count, times.len(), amounts.len()) {
         Err(refusal) => Err(refusal),
         Ok(()) => {
-            put_times(times, count, flow_period(frequency));
-            put_amounts(amounts, count, flow_coupon(face, coupon, frequency), face);
+            let period = flow_period(frequency);
+            let paid = flow_coupon(face, coupon, frequency);
+            put_each(times, count, |i| i as f64 * period);
+            put_each(amounts, count, |i| flow_amount(i, count, paid, face));
             Ok(count)
         }
     }

@@ -25,6 +25,7 @@ fn discount_of(tenors: &[f64], rates: &[f64], t: f64) -> f64
     curves::lookups::discount_of(Kind::SpreadCurve, tenors, rates, t)
 }
 
+#[tactic(auto, unfolding(crate::specs::Curves::forward_of))]
 fn forward_of(tenors: &[f64], rates: &[f64], t1: f64, t2: f64) -> f64
     requires { Rising tenors.now }
     ensures { result ≡ forward_of tenors.now rates.now t1 t2 }
@@ -34,10 +35,7 @@ fn forward_of(tenors: &[f64], rates: &[f64], t1: f64, t2: f64) -> f64
     }
     let df1 = discount_of(tenors, rates, t1);
     let df2 = discount_of(tenors, rates, t2);
-    if df2 <= 0.0 {
-        return 0.0;
-    }
-    if df1 <= 0.0 {
+    if df2 <= 0.0 || df1 <= 0.0 {
         return 0.0;
     }
     ln(df1 / df2) / (t2 - t1)
@@ -47,10 +45,7 @@ fn forward_of(tenors: &[f64], rates: &[f64], t1: f64, t2: f64) -> f64
 fn bad_times(t1: f64, t2: f64) -> bool
     ensures { result ≡ (bad_time t1 || bad_time t2) }
 {
-    if bad_time(t1) {
-        return true;
-    }
-    bad_time(t2)
+    bad_time(t1) || bad_time(t2)
 }
 
 // The zero rate at a time.

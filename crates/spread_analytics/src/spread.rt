@@ -35,14 +35,6 @@ pub struct Sensitivity {
     pub convexity: f64,
 }
 
-// Where the block that starts at a flow ends: 64 on, or with the last flow.
-fn end_of_block(at: usize, count: usize) -> usize
-    requires { at < count }
-    ensures { (at < result) × (result ≤ count) × (result ≤ at + 64) }
-{
-    if count - at > 64 { at + 64 } else { count }
-}
-
 // The worth at a spread over a curve, added on block by block, so that the factors need little room.
 fn worth_of(
     times: &[f64],
@@ -56,12 +48,9 @@ fn worth_of(
 {
     let s = to_decimal(spread);
     let mut worth = 0.0;
-    let mut at: usize = 0;
-    while at < times.len() {
-        let end = end_of_block(at, times.len());
-        let factors = factors_of(&times[at..end], tenors, rates, s);
-        worth = discounted_on(&amounts[at..end], &factors, worth);
-        at = end;
+    for (block, due) in times.chunks(64).zip(amounts.chunks(64)) {
+        let factors = factors_of(block, tenors, rates, s);
+        worth = discounted_on(due, &factors, worth);
     }
     worth
 }
@@ -114,8 +103,7 @@ fn spread_within(
     let mut lo = LOWEST;
     let mut hi = HIGHEST;
     let mut below = low;
-    let mut left: u32 = 100;
-    while left > 0 {
+    for _halving in 0..100u32 {
         let middle = (lo + hi) / 2.0;
         if absolute_value(hi - lo) < 1e-8 {
             return BasisPoints(middle);
@@ -127,7 +115,6 @@ fn spread_within(
             lo = middle;
             below = error;
         }
-        left -= 1;
     }
     BasisPoints((lo + hi) / 2.0)
 }
@@ -214,12 +201,9 @@ fn sums_over(
         timed: 0.0,
         squared: 0.0,
     };
-    let mut at: usize = 0;
-    while at < times.len() {
-        let end = end_of_block(at, times.len());
-        let factors = factors_of(&times[at..end], tenors, rates, s);
-        sums = sums_on(&times[at..end], &amounts[at..end], &factors, sums);
-        at = end;
+    for (block, due) in times.chunks(64).zip(amounts.chunks(64)) {
+        let factors = factors_of(block, tenors, rates, s);
+        sums = sums_on(block, due, &factors, sums);
     }
     sums
 }

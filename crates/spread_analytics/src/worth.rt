@@ -12,25 +12,13 @@ use crate::units::{BasisPoints, DecimalRate, to_decimal};
 use curves::kinds::Kind;
 use elementary::exp::exp_each;
 
-// The flows' times, in the first places of a room.
-fn copy_times(times: &[f64], room: &mut [f64])
-    requires { length times.now ≤ length room.old }
-    ensures { (i : ℕ) → i < length times.now → knot room.new i ≡ knot times.now i }
-{
-    let mut i: usize = 0;
-    while i < times.len() {
-        room[i] = times[i];
-        i += 1;
-    }
-}
-
 // The curve's rates at the flows' times, kept so that they are looked up once.
 pub(crate) fn keep_rates(times: &[f64], tenors: &[f64], rates: &[f64], kept: &mut [f64])
     requires { (length times.now ≤ length kept.old) × Rising tenors.now }
     ensures { (i : ℕ) → i < length times.now → knot kept.new i ≡ rate_of tenors.now rates.now (knot times.now i) }
 {
-    copy_times(times, kept);
     let count = times.len();
+    kept[..count].copy_from_slice(times);
     curves::each::rates_onward(Kind::SpreadCurve, tenors, rates, &mut kept[..count]);
 }
 
@@ -39,10 +27,8 @@ fn put_exponents(times: &[f64], kept: &[f64], spread: DecimalRate, exponents: &m
     requires { (length times.now ≤ length kept.now) × (length times.now ≤ length exponents.old) }
     ensures { (i : ℕ) → i < length times.now → knot exponents.new i ≡ mul binary64 (neg (add binary64 (knot kept.now i) spread.0)) (knot times.now i) }
 {
-    let mut i: usize = 0;
-    while i < times.len() {
-        exponents[i] = -(kept[i] + spread.0) * times[i];
-        i += 1;
+    for (i, time) in times.iter().enumerate() {
+        exponents[i] = -(kept[i] + spread.0) * *time;
     }
 }
 
@@ -80,13 +66,10 @@ pub(crate) fn discounted_on(amounts: &[f64], factors: &[f64], before: f64) -> f6
         → ((i : ℕ) → i < length amounts.now → mul binary64 (knot amounts.now i) (knot factors.now i) ≡ term (k + i))
         → result ≡ added_up term (k + length amounts.now) }
 {
-    let mut sum = before;
-    let mut i: usize = 0;
-    while i < amounts.len() {
-        sum = sum + amounts[i] * factors[i];
-        i += 1;
-    }
-    sum
+    amounts
+        .iter()
+        .zip(factors)
+        .fold(before, |sum, (amount, factor)| sum + amount * factor)
 }
 
 fn discounted_sum(amounts: &[f64], factors: &[f64]) -> f64
@@ -117,24 +100,13 @@ pub(crate) fn sums_on(times: &[f64], amounts: &[f64], factors: &[f64], before: S
         → ((i : ℕ) → i < length times.now → mul binary64 (mul binary64 (mul binary64 (knot times.now i) (knot times.now i)) (knot amounts.now i)) (knot factors.now i) ≡ term (k + i))
         → result.squared ≡ added_up term (k + length times.now) }
 {
-    let mut worth = before.worth;
-    let mut timed = before.timed;
-    let mut squared = before.squared;
-    let mut i: usize = 0;
-    while i < times.len() {
-        let time = times[i];
-        let amount = amounts[i];
-        let factor = factors[i];
-        worth = worth + amount * factor;
-        timed = timed + time * amount * factor;
-        squared = squared + time * time * amount * factor;
-        i += 1;
+    let mut sums = before;
+    for ((time, amount), factor) in times.iter().zip(amounts).zip(factors) {
+        sums.worth += amount * factor;
+        sums.timed += time * amount * factor;
+        sums.squared += time * time * amount * factor;
     }
-    Sums {
-        worth,
-        timed,
-        squared,
-    }
+    sums
 }
 
 // The worth at a spread over the kept rates, whatever curve they are of; the factors are worked out in the room.

@@ -1,11 +1,6 @@
 -- `spread_analytics::worth::keep_rates` meets its contract: in the front of the room the times give way to their rates. Assumes nothing.
-use mathlib.Core.Path.{sym, ap, ◌∙◌}
-use mathlib.Core.List.{List, ◌++◌}
-use Prim.Native.Nat.{◌≤◌}
-use native.Mathlib.Omega.{arith}
-use lib.ListN.{length, drop}
-use lib.Seq.{length-take-le}
-use lib.Ieee.{Float}
+use Rattle.std.proofs.Common.{◌≡◌, ◌<◌, List, Float, ◌++◌, length, drop, ap, ◌∙◌, arith}
+use Rattle.std.proofs.lemmas.Grind.{common_steps}
 use Rattle.numbers.proofs.Mapped.{mapped_at}
 use Rattle.curves.specs.declared.kinds.Kind.TheVariants as kind_is
 use Rattle.curves.specs.Segments.{knot}
@@ -14,18 +9,12 @@ use Rattle.spread_analytics.specs.Curves.{rate_of}
 use Rattle.spread_analytics.proofs.SpreadKind.{same_rate}
 use Rattle.spread_analytics.proofs.worth.keep_rates.Goals as goal
 
-pub slice_bounds-rates_onward-end-2 : goal.slice_bounds-rates_onward-end-2
-slice_bounds-rates_onward-end-2 c =
-    let n = length c.args.times.now in
-    let l = c.copy_times.new.room in
-    let room : n ≤ length l = omega (arith, c.requires.0, c.copy_times.auto.room) in
-    sym (length-take-le n l room)
-
 pub returns : goal.returns
 returns c i h =
     let a = c.args in
     let n = length a.times.now in
-    let l = c.copy_times.new.room in
-    ap (λ (m : List Float). knot (m ++ drop n l) i) (c.rates_onward.ensures c.requires.1)
-    ∙ mapped_at (rate_on kind_is.SpreadCurve a.tenors.now a.rates.now) l n i h (omega (arith, c.requires.0, c.copy_times.auto.room))
-    ∙ same_rate a.tenors.now a.rates.now (knot l i) ∙ ap (rate_of a.tenors.now a.rates.now) (c.copy_times.ensures i h)
+    let room = c.copy_from_slice.new.self ++ drop n a.kept.now in
+    let copied : knot room i ≡ knot a.times.now i = grind (arith, common_steps) in
+    let within : i < length room = grind (arith, common_steps) in
+    ap (λ (front : List Float). knot (front ++ drop n room) i) (c.rates_onward.ensures c.requires.1) ∙ mapped_at (rate_on kind_is.SpreadCurve a.tenors.now a.rates.now) room n i h within
+    ∙ same_rate a.tenors.now a.rates.now (knot room i) ∙ ap (rate_of a.tenors.now a.rates.now) copied

@@ -1,16 +1,13 @@
 -- `spread_analytics::worth::sums_on` meets its contract: after i turns the first i terms of each sum are added to those before. Assumes nothing.
-use Prim.Native.Nat.{ℕ, ◌-◌, ◌≤◌}
+use Prim.Native.Nat.{ℕ}
 use lib.ListN.{length}
 use lib.Ieee.{binary64, mul}
 use Rattle.curves.specs.Segments.{knot}
 use Rattle.curves.proofs.Adding.{Carried}
 use Rattle.spread_analytics.proofs.worth.sums_on.Given as goal
 
-abbrev pub invariant-loop-i : goal.invariant-loop-i
-invariant-loop-i l = (l.i ≤ length l.times)
-    × Carried l.initial.worth l.worth (λ (j : ℕ). mul binary64 (knot l.amounts j) (knot l.factors j)) l.i
-    × Carried l.initial.timed l.timed (λ (j : ℕ). mul binary64 (mul binary64 (knot l.times j) (knot l.amounts j)) (knot l.factors j)) l.i
-    × Carried l.initial.squared l.squared (λ (j : ℕ). mul binary64 (mul binary64 (mul binary64 (knot l.times j) (knot l.times j)) (knot l.amounts j)) (knot l.factors j)) l.i
-
-abbrev pub decreases-loop-i : goal.decreases-loop-i
-decreases-loop-i l = length l.times - l.i
+abbrev pub invariant-loop-time : goal.invariant-loop-time
+invariant-loop-time l =
+    Carried l.initial.sums.worth l.sums.worth (λ (j : ℕ). mul binary64 (knot l.amounts j) (knot l.factors j)) (length l.yielded)
+    × Carried l.initial.sums.timed l.sums.timed (λ (j : ℕ). mul binary64 (mul binary64 (knot l.times j) (knot l.amounts j)) (knot l.factors j)) (length l.yielded)
+    × Carried l.initial.sums.squared l.sums.squared (λ (j : ℕ). mul binary64 (mul binary64 (mul binary64 (knot l.times j) (knot l.times j)) (knot l.amounts j)) (knot l.factors j)) (length l.yielded)
