@@ -17,7 +17,7 @@ use Rattle.refusals.proofs.OneCause.{caused}
 use Rattle.curves.proofs.Listing.{accepted_rises}
 use Rattle.spread_analytics.specs.Spread.{spread_lines}
 use Rattle.spread_analytics.proofs.ItemLine.{item_line}
-use Rattle.std.specs.declared.result.Result.TheVariants.{Ok, Err}
+use Rattle.std.specs.declared.result.Result.TheVariants.{Ok}
 use Rattle.std.specs.declared.result.Result.{Result}
 use Rattle.refusals.specs.declared.Refusal.{Refusal}
 use Rattle.refusals.specs.Answers.{outcome}

@@ -102,4 +102,3 @@ abbrev pub spread_outcome : Result Spread Refusal → Outcome Found
 spread_outcome (Err r) = refused (number r.cause) r.place
 spread_outcome (Ok (Within s)) = accepted (found s.0)
 spread_outcome (Ok (NoSignChange s)) = accepted (at_end s.0)
-

@@ -130,7 +130,12 @@ pub(crate) fn gathered(flows: &[CashFlow]) -> Lists
 }
 
 // The present value of flows over a curve and a spread.
-pub fn pv_of(flows: &[CashFlow], tenors: &[f64], rates: &[f64], spread: BasisPoints) -> Result<f64, Refusal>
+pub fn pv_of(
+    flows: &[CashFlow],
+    tenors: &[f64],
+    rates: &[f64],
+    spread: BasisPoints,
+) -> Result<f64, Refusal>
     ensures { outcome result ≡ pv_cash_flows (times_of flows.now) (amounts_of flows.now) tenors.now rates.now spread.0 }
 {
     let lists = gathered(flows);
@@ -138,7 +143,12 @@ pub fn pv_of(flows: &[CashFlow], tenors: &[f64], rates: &[f64], spread: BasisPoi
 }
 
 // The spread at which flows are worth the market price.
-pub fn z_spread_of(flows: &[CashFlow], tenors: &[f64], rates: &[f64], market: f64) -> Result<Spread, Refusal>
+pub fn z_spread_of(
+    flows: &[CashFlow],
+    tenors: &[f64],
+    rates: &[f64],
+    market: f64,
+) -> Result<Spread, Refusal>
     ensures { spread_outcome result ≡ z_spread (times_of flows.now) (amounts_of flows.now) tenors.now rates.now market }
 {
     let lists = gathered(flows);

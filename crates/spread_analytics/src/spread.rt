@@ -243,8 +243,6 @@ pub fn duration_convexity(
 {
     match judge_spread(times, amounts, tenors, rates, false) {
         Err(refusal) => Err(refusal),
-        Ok(()) => Ok(sensitivity_of(
-            times, amounts, tenors, rates, spread,
-        )),
+        Ok(()) => Ok(sensitivity_of(times, amounts, tenors, rates, spread)),
     }
 }

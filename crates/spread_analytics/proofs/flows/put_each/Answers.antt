@@ -1,6 +1,6 @@
 -- `spread_analytics::flows::put_each` meets its contract: after i turns the first i values are put. Assumes nothing.
 use Rattle.std.proofs.Common.{◌∙◌, ap, add-one, arith}
-use Rattle.steps.proofs.Places.{none_put, one_more, all_put}
+use Rattle.steps.proofs.Places.{none_put, one_more}
 use Rattle.spread_analytics.proofs.flows.put_each.Goals as goal
 
 pub loop-i-init : goal.loop-i-init

@@ -1,5 +1,5 @@
 -- `spread_analytics::spread::sums_over` meets its contract: the blocks before are added, in each sum. Assumes nothing.
-use Rattle.std.proofs.Common.{◌≡◌, ℕ, ◌+◌, length, refl, ap, ◌∙◌, arith}
+use Rattle.std.proofs.Common.{◌≡◌, ℕ, ◌+◌, length, refl, ap, ◌∙◌}
 use lib.Ieee.{Float, binary64, mul}
 use Rattle.numbers.specs.Sums.{added_up}
 use Rattle.curves.specs.Segments.{knot}
