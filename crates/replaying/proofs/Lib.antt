@@ -1,3 +1,4 @@
-pub mod EightBytes
 pub mod Agreeing
+pub mod Words
+pub mod OneToOne
 pub mod Tight

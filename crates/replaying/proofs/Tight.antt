@@ -2,7 +2,7 @@
 -- Assumes nothing.
 use Rattle.std.proofs.Common.{sym, ◌∙◌}
 use Rattle.numbers.proofs.Determined.{Determined}
-use Rattle.refusals.proofs.OneToOne.{one_to_one}
+use Rattle.replaying.proofs.OneToOne.{one_to_one}
 use Rattle.replaying.proofs.word_at.Kinds as word_at_kinds
 use Rattle.replaying.proofs.word_at.Reads as word_at
 use Rattle.replaying.proofs.float_at.Kinds as float_at_kinds

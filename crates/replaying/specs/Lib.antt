@@ -1,2 +1,3 @@
 pub mod Words
 pub mod Agreement
+pub mod Answered

@@ -1,12 +1,7 @@
 -- `replaying::word_at` meets its contract. Assumes nothing.
-use Rattle.std.proofs.Common.{le-ltb, lt-ltb}
-use Rattle.replaying.specs.Words.{word_at}
+use Rattle.std.proofs.Common.{arith}
+use Rattle.replaying.proofs.Words.{word_is}
 use Rattle.replaying.proofs.word_at.Goals as goal
 
-pub returns-then-k-list : goal.returns-then-k-list
-unfolding word_at
-returns-then-k-list c = rw (lt-ltb _ _ c.if-k-list.true) c.eight_bytes.ensures
-
-pub returns-else-k-list : goal.returns-else-k-list
-unfolding word_at
-returns-else-k-list c = rw (le-ltb _ _ c.if-k-list.false)
+pub returns-in-Some : goal.returns-in-Some
+returns-in-Some c = word_is _ _ c.args.k _ _ c.as_chunks.ensures.front (omega (arith, c.in-Some.ensures.lookup)) c.in-Some.ensures.lookup.1 c.from_le_bytes.ensures
