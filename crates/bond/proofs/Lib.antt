@@ -2,7 +2,6 @@ pub mod SumTests
 pub mod FlowSums
 pub mod Passes
 pub mod BracketTests
-pub mod AtPrice
 pub mod CodeTrips
 pub mod Exactly
 pub mod Tight

@@ -1,5 +1,5 @@
 -- How tight the promises are: whatever a public function is given, any two results that its contract allows are equal. Assumes nothing.
-use mathlib.Core.Path.{◌≡◌, sym, ap, ◌∙◌}
+use mathlib.Core.Path.{sym, ◌∙◌}
 use Rattle.numbers.proofs.Determined.{Determined}
 use Rattle.refusals.proofs.OneToOne.{one_to_one}
 use Rattle.bond.proofs.bonds.periods_per_year.Kinds as periods_per_year_kinds
@@ -34,10 +34,6 @@ use Rattle.bond.proofs.codes.frequency_of.Kinds as frequency_of_kinds
 use Rattle.bond.proofs.codes.frequency_of.Reads as frequency_of
 use Rattle.bond.proofs.codes.code_of.Kinds as code_of_kinds
 use Rattle.bond.proofs.codes.code_of.Reads as code_of_lem
-use Rattle.std.specs.declared.result.Result.TheVariants.{Ok, Err}
-use Rattle.std.specs.declared.result.Result.{Result}
-use Rattle.refusals.specs.declared.Refusal.{Refusal}
-use Rattle.refusals.specs.Answers.{outcome}
 
 pub periods_per_year_determined : Determined 0 periods_per_year_kinds.ps periods_per_year_kinds.r periods_per_year.Post
 periods_per_year_determined κs a x y e e' p q = p ∙ sym q

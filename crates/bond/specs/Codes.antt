@@ -1,6 +1,6 @@
 -- The code of a coupon frequency in a record: "frequency code 0 to 3 in the Rust's order". Definitions only. Assumes nothing.
 use Rattle.std.specs.Prelude.{ℕ, cond, [], ◌∷◌, eqb}
-use Rattle.refusals.specs.Outcome.{Outcome, refused, accepted, line, judged}
+use Rattle.refusals.specs.Outcome.{Outcome, line, judged}
 use Rattle.refusals.specs.Table.{bad_code}
 use Rattle.bond.specs.declared.Frequency.{Frequency}
 use Rattle.bond.specs.declared.Frequency.TheVariants.{Annual, SemiAnnual, Quarterly, Monthly}
@@ -20,4 +20,3 @@ frequency_at code = cond (eqb code 0) Annual (cond (eqb code 1) SemiAnnual (cond
 
 unfoldable pub frequency_of : ℕ → Outcome Frequency
 frequency_of code = judged (line 11 (bad_code last_code code) ∷ []) (frequency_at code)
-

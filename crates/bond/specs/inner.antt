@@ -1,3 +1,2 @@
 -- What the helpers of this crate promise one another, and no public function: nothing here need be believed.
-pub mod Worked
 pub mod Weighted

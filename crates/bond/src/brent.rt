@@ -1,7 +1,8 @@
-// Brent's method, one pass at a time, over a search by value: each function is the definition of the same name.
+// Brent's method, one pass at a time, over a search by value: each method is the definition of the same name.
 ghost use Rattle.std.specs.Prelude.{◌≡◌};
 ghost use Rattle.bond.specs.Brent.{rebracketed, exchanged, least_step, midway, settled, rise, run, rise_up, run_up, safe, tried, chosen, shift, moved};
 ghost use Rattle.bond.specs.Yield.{readied};
+ghost use Rattle.refusals.specs.Table.{one_sided};
 
 use numbers::sizes::absolute_value;
 
@@ -23,76 +24,6 @@ pub struct Search {
     pub fc: f64,
 }
 
-// Where the errors at b and c have one sign, c is the last a.
-fn rebracketed(search: Search) -> Search
-    ensures { result ≡ rebracketed search }
-{
-    if search.fb * search.fc > 0.0 {
-        let step = search.b - search.a;
-        return Search {
-            a: search.a,
-            b: search.b,
-            c: search.a,
-            d: step,
-            e: step,
-            fa: search.fa,
-            fb: search.fb,
-            fc: search.fa,
-        };
-    }
-    search
-}
-
-// b is the end with the smaller error.
-fn exchanged(search: Search) -> Search
-    ensures { result ≡ exchanged search }
-{
-    if absolute_value(search.fc) < absolute_value(search.fb) {
-        return Search {
-            a: search.b,
-            b: search.c,
-            c: search.b,
-            d: search.d,
-            e: search.e,
-            fa: search.fb,
-            fb: search.fc,
-            fc: search.fb,
-        };
-    }
-    search
-}
-
-// A pass begins: the bracket and its better end.
-pub(crate) fn readied(search: Search) -> Search
-    ensures { result ≡ readied search }
-{
-    exchanged(rebracketed(search))
-}
-
-// The least step that b moves by, below which b is the answer.
-fn least_step(search: Search) -> f64
-    ensures { result ≡ least_step search }
-{
-    2.0 * EPSILON * absolute_value(search.b) + 0.5 * TOLERANCE
-}
-
-// Half the way from b to c.
-fn midway(search: Search) -> f64
-    ensures { result ≡ midway search }
-{
-    0.5 * (search.c - search.b)
-}
-
-// Whether b is the answer.
-pub(crate) fn settled(search: Search) -> bool
-    ensures { result ≡ settled search }
-{
-    if absolute_value(midway(search)) <= least_step(search) {
-        return true;
-    }
-    absolute_value(search.fb) < EPSILON
-}
-
 // A step as a fraction: so much rise over so much run.
 #[derive(Clone, Copy)]
 pub struct Fraction {
@@ -100,119 +31,174 @@ pub struct Fraction {
     pub run: f64,
 }
 
-// The step of the secant, where a is c, else of the inverse parabola.
-fn fraction_of(search: Search) -> Fraction
-    ensures { result ≡ record { rise = rise search; run = run search } }
-{
-    let half = midway(search);
-    let s = search.fb / search.fa;
-    if absolute_value(search.a - search.c) < EPSILON {
-        return Fraction {
-            rise: 2.0 * half * s,
-            run: 1.0 - s,
-        };
+impl Search {
+    // Where the errors at b and c have one sign, c is the last a.
+    fn rebracketed(self) -> Search
+        ensures { result ≡ rebracketed self }
+    {
+        if self.fb * self.fc > 0.0 {
+            let step = self.b - self.a;
+            return Search {
+                c: self.a,
+                d: step,
+                e: step,
+                fc: self.fa,
+                ..self
+            };
+        }
+        self
     }
-    let q = search.fa / search.fc;
-    let r = search.fb / search.fc;
-    Fraction {
-        rise: s * (2.0 * half * q * (q - r) - (search.b - search.a) * (r - 1.0)),
-        run: (q - 1.0) * (r - 1.0) * (s - 1.0),
-    }
-}
 
-// The same fraction with its rise at or above 0.
-fn fraction_up(search: Search) -> Fraction
-    ensures { result ≡ record { rise = rise_up search; run = run_up search } }
-{
-    let f = fraction_of(search);
-    if f.rise > 0.0 {
-        return Fraction {
-            rise: f.rise,
-            run: -f.run,
-        };
+    // b is the end with the smaller error.
+    fn exchanged(self) -> Search
+        ensures { result ≡ exchanged self }
+    {
+        if absolute_value(self.fc) < absolute_value(self.fb) {
+            return Search {
+                a: self.b,
+                b: self.c,
+                c: self.b,
+                fa: self.fb,
+                fb: self.fc,
+                fc: self.fb,
+                ..self
+            };
+        }
+        self
     }
-    Fraction {
-        rise: -f.rise,
-        run: f.run,
-    }
-}
 
-// Whether a fraction may be tried: the step before last was long enough, and the error has shrunk.
-fn tried(search: Search) -> bool
-    ensures { result ≡ tried search }
-{
-    if absolute_value(search.e) >= least_step(search) {
-        return absolute_value(search.fa) > absolute_value(search.fb);
+    // A pass begins: the bracket and its better end.
+    pub(crate) fn readied(self) -> Search
+        ensures { result ≡ readied self }
+    {
+        self.rebracketed().exchanged()
     }
-    false
-}
 
-// Whether the fraction stays inside the bracket and is less than half the step before last.
-fn safe(search: Search, up: Fraction) -> bool
-    requires { up ≡ record { rise = rise_up search; run = run_up search } }
-    ensures { result ≡ safe search }
-{
-    if 2.0 * up.rise < 3.0 * midway(search) * up.run - absolute_value(least_step(search) * up.run) {
-        return 2.0 * up.rise < absolute_value(search.e * up.run);
+    // The least step that b moves by, below which b is the answer.
+    fn least_step(self) -> f64
+        ensures { result ≡ least_step self }
+    {
+        2.0 * EPSILON * absolute_value(self.b) + 0.5 * TOLERANCE
     }
-    false
-}
 
-fn with_steps(search: Search, d: f64, e: f64) -> Search
-    ensures { result ≡ record { a = search.a; b = search.b; c = search.c; d = d; e = e; fa = search.fa; fb = search.fb; fc = search.fc } }
-{
-    Search {
-        a: search.a,
-        b: search.b,
-        c: search.c,
-        d,
-        e,
-        fa: search.fa,
-        fb: search.fb,
-        fc: search.fc,
+    // Half the way from b to c.
+    fn midway(self) -> f64
+        ensures { result ≡ midway self }
+    {
+        0.5 * (self.c - self.b)
     }
-}
 
-// The steps of this pass: the fraction where it is tried and safe, else half the way to c.
-pub(crate) fn chosen(search: Search) -> Search
-    ensures { result ≡ chosen search }
-{
-    if tried(search) {
-        let up = fraction_up(search);
-        if safe(search, up) {
-            return with_steps(search, up.rise / up.run, search.d);
+    // Whether b is the answer.
+    pub(crate) fn settled(self) -> bool
+        ensures { result ≡ settled self }
+    {
+        absolute_value(self.midway()) <= self.least_step() || absolute_value(self.fb) < EPSILON
+    }
+
+    // The step of the secant, where a is c, else of the inverse parabola.
+    fn fraction_of(self) -> Fraction
+        ensures { result ≡ record { rise = rise self; run = run self } }
+    {
+        let half = self.midway();
+        let s = self.fb / self.fa;
+        if absolute_value(self.a - self.c) < EPSILON {
+            return Fraction {
+                rise: 2.0 * half * s,
+                run: 1.0 - s,
+            };
+        }
+        let q = self.fa / self.fc;
+        let r = self.fb / self.fc;
+        Fraction {
+            rise: s * (2.0 * half * q * (q - r) - (self.b - self.a) * (r - 1.0)),
+            run: (q - 1.0) * (r - 1.0) * (s - 1.0),
         }
     }
-    let half = midway(search);
-    with_steps(search, half, half)
-}
 
-// How far b moves: by d, or by the least step toward c where d is shorter.
-fn shift(search: Search) -> f64
-    ensures { result ≡ shift search }
-{
-    let least = least_step(search);
-    if absolute_value(search.d) > least {
-        return search.d;
+    // The same fraction with its rise at or above 0.
+    fn fraction_up(self) -> Fraction
+        ensures { result ≡ record { rise = rise_up self; run = run_up self } }
+    {
+        let f = self.fraction_of();
+        if f.rise > 0.0 {
+            return Fraction {
+                rise: f.rise,
+                run: -f.run,
+            };
+        }
+        Fraction {
+            rise: -f.rise,
+            run: f.run,
+        }
     }
-    if midway(search) < 0.0 {
-        return -least;
-    }
-    least
-}
 
-// The next search, whose error at the new b is still to be worked out.
-pub(crate) fn moved(search: Search) -> Search
-    ensures { result ≡ moved search }
-{
-    Search {
-        a: search.b,
-        b: search.b + shift(search),
-        c: search.c,
-        d: search.d,
-        e: search.e,
-        fa: search.fb,
-        fb: search.fb,
-        fc: search.fc,
+    // Whether a fraction may be tried: the step before last was long enough, and the error has shrunk.
+    fn tried(self) -> bool
+        ensures { result ≡ tried self }
+    {
+        absolute_value(self.e) >= self.least_step()
+            && absolute_value(self.fa) > absolute_value(self.fb)
+    }
+
+    // Whether the fraction stays inside the bracket and is less than half the step before last.
+    fn safe(self, up: Fraction) -> bool
+        requires { up ≡ record { rise = rise_up self; run = run_up self } }
+        ensures { result ≡ safe self }
+    {
+        2.0 * up.rise < 3.0 * self.midway() * up.run - absolute_value(self.least_step() * up.run)
+            && 2.0 * up.rise < absolute_value(self.e * up.run)
+    }
+
+    fn with_steps(self, d: f64, e: f64) -> Search
+        ensures { result ≡ record { a = self.a; b = self.b; c = self.c; d = d; e = e; fa = self.fa; fb = self.fb; fc = self.fc } }
+    {
+        Search { d, e, ..self }
+    }
+
+    // The steps of this pass: the fraction where it is tried and safe, else half the way to c.
+    pub(crate) fn chosen(self) -> Search
+        ensures { result ≡ chosen self }
+    {
+        if self.tried() {
+            let up = self.fraction_up();
+            if self.safe(up) {
+                return self.with_steps(up.rise / up.run, self.d);
+            }
+        }
+        let half = self.midway();
+        self.with_steps(half, half)
+    }
+
+    // How far b moves: by d, or by the least step toward c where d is shorter.
+    fn shift(self) -> f64
+        ensures { result ≡ shift self }
+    {
+        let least = self.least_step();
+        if absolute_value(self.d) > least {
+            return self.d;
+        }
+        if self.midway() < 0.0 {
+            return -least;
+        }
+        least
+    }
+
+    // The next search, whose error at the new b is still to be worked out.
+    pub(crate) fn moved(self) -> Search
+        ensures { result ≡ moved self }
+    {
+        Search {
+            a: self.b,
+            b: self.b + self.shift(),
+            fa: self.fb,
+            ..self
+        }
+    }
+
+    // Both ends err to one side.
+    pub(crate) fn one_sided(self) -> bool
+        ensures { result ≡ one_sided self.fa self.fb }
+    {
+        self.fa * self.fb > 0.0
     }
 }

@@ -6,6 +6,7 @@ pub mod brent;
 pub mod codes;
 pub mod durations;
 pub mod price;
+mod worked;
 pub mod yields;
 
 // Coupons a year: 1, 2, 4 or 12.

@@ -6,74 +6,64 @@ ghost use Rattle.numbers.specs.Sizes.{absolute};
 ghost use Rattle.refusals.specs.Answers.{outcome};
 ghost use Rattle.bond.specs.Price.{period_rate, undiscounted, discounted, price_of};
 ghost use Rattle.bond.specs.Price.{price, dv01, current_yield, zero_coupon_price};
-ghost use Rattle.bond.specs.inner.Worked.{WorkedOut};
 
 use crate::Bond;
-use crate::bonds::{Worked, judge_bond, worked_out};
+use crate::worked::Worked;
 use numbers::sizes::absolute_value;
 use refusals::{Cause, Refusal};
 
-// The rate of a period.
-pub(crate) fn period_rate(worked: Worked, ytm: f64) -> f64
-    requires { WorkedOut worked }
-    ensures { result ≡ period_rate worked.bond ytm }
-{
-    ytm / worked.m
-}
-
-// At no yield the flows are added as they are.
-fn undiscounted_price(worked: Worked) -> f64
-    requires { WorkedOut worked }
-    ensures { result ≡ undiscounted worked.bond }
-{
-    let bond = worked.bond;
-    worked.coupon * worked.count as f64 + bond.face
-}
-
-// The coupons as an annuity, and the face, both discounted.
-fn discounted_price(worked: Worked, r: f64, discount: f64) -> f64
-    requires { WorkedOut worked }
-    ensures { result ≡ discounted worked.bond r discount }
-{
-    let bond = worked.bond;
-    worked.coupon * (1.0 - discount) / r + bond.face * discount
-}
-
-// The price at a yield, whatever the bond is.
-pub(crate) fn price_at(worked: Worked, ytm: f64) -> f64
-    requires { WorkedOut worked }
-    ensures { result ≡ price_of worked.bond ytm }
-{
-    let r = period_rate(worked, ytm);
-    if absolute_value(r) < 1e-12 {
-        return undiscounted_price(worked);
+impl Worked {
+    // The rate of a period.
+    pub(crate) fn period_rate(self, ytm: f64) -> f64
+        ensures { result ≡ period_rate self.bond ytm }
+    {
+        ytm / self.m
     }
-    discounted_price(
-        worked,
-        r,
-        elementary::whole_power::negative_power(1.0 + r, worked.count),
-    )
+
+    // At no yield the flows are added as they are.
+    fn undiscounted_price(self) -> f64
+        ensures { result ≡ undiscounted self.bond }
+    {
+        self.coupon * self.count as f64 + self.bond.face
+    }
+
+    // The coupons as an annuity, and the face, both discounted.
+    fn discounted_price(self, r: f64, discount: f64) -> f64
+        ensures { result ≡ discounted self.bond r discount }
+    {
+        self.coupon * (1.0 - discount) / r + self.bond.face * discount
+    }
+
+    // The price at a yield, whatever the bond is.
+    pub(crate) fn price_at(self, ytm: f64) -> f64
+        ensures { result ≡ price_of self.bond ytm }
+    {
+        let r = self.period_rate(ytm);
+        if absolute_value(r) < 1e-12 {
+            return self.undiscounted_price();
+        }
+        self.discounted_price(
+            r,
+            elementary::whole_power::negative_power(1.0 + r, self.count),
+        )
+    }
 }
 
 pub fn price(ytm: f64, bond: Bond) -> Result<f64, Refusal>
     ensures { outcome result ≡ price ytm bond }
 {
-    let worked = worked_out(bond);
-    match judge_bond(worked, ytm) {
-        Err(refusal) => Err(refusal),
-        Ok(()) => Ok(price_at(worked, ytm)),
-    }
+    let worked = Worked::of(bond);
+    worked.judge_bond(ytm)?;
+    Ok(worked.price_at(ytm))
 }
 
 // What the price gains where the yield falls by a basis point.
 pub fn dv01(ytm: f64, bond: Bond) -> Result<f64, Refusal>
     ensures { outcome result ≡ dv01 ytm bond }
 {
-    let worked = worked_out(bond);
-    match judge_bond(worked, ytm) {
-        Err(refusal) => Err(refusal),
-        Ok(()) => Ok(price_at(worked, ytm - 0.0001) - price_at(worked, ytm)),
-    }
+    let worked = Worked::of(bond);
+    worked.judge_bond(ytm)?;
+    Ok(worked.price_at(ytm - 0.0001) - worked.price_at(ytm))
 }
 
 // A price below 2^-52 in size.
@@ -87,15 +77,11 @@ pub(crate) fn next_to_nothing(price: f64) -> bool
 pub fn current_yield(market: f64, bond: Bond) -> Result<f64, Refusal>
     ensures { outcome result ≡ current_yield market bond }
 {
-    match judge_bond(worked_out(bond), market) {
-        Err(refusal) => Err(refusal),
-        Ok(()) => {
-            if next_to_nothing(market) {
-                return Ok(0.0);
-            }
-            Ok(bond.face * bond.coupon / market)
-        }
+    Worked::of(bond).judge_bond(market)?;
+    if next_to_nothing(market) {
+        return Ok(0.0);
     }
+    Ok(bond.face * bond.coupon / market)
 }
 
 // The price of a bond of face 1 without coupons. It has no periods, so line 7 is for a maturity that is not finite alone.

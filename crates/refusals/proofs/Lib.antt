@@ -5,6 +5,7 @@ pub mod Verdicts
 pub mod Placing
 pub mod OneCause
 pub mod LaterLines
+pub mod InTurn
 pub mod OneToOne
 pub mod Tight
 pub mod Causes

@@ -5,5 +5,5 @@ use Rattle.bond.proofs.bonds.bad_numbers.Goals as goal
 pub returns-then-bad_number : goal.returns-then-bad_number
 returns-then-bad_number c = rw (sym c.bad_number.ensures, c.if-bad_number.true)
 
-pub returns : goal.returns
-returns c = rw (sym c.bad_number.ensures, c.if-bad_number.false, c.bad_number-2.ensures)
+pub returns-else-bad_number : goal.returns-else-bad_number
+returns-else-bad_number c = rw (sym c.bad_number.ensures, c.if-bad_number.false, c.bad_number-else-bad_number.ensures)

@@ -1,17 +1,17 @@
 -- `bond::durations::convexity_at_price` meets its contract: a refused yield is handed on. Assumes nothing.
 use lib.Ieee.{Float}
 use Rattle.bond.specs.Durations.{convexity, convexity_at_price}
-use Rattle.bond.proofs.AtPrice.{handed_on, asked_at}
+use Rattle.refusals.proofs.InTurn.{refused_at_once, asked_then}
 use Rattle.bond.proofs.durations.convexity_at_price.Goals as goal
 
-pub returns-in_default : goal.returns-in_default
+pub returns-in_err-ytm : goal.returns-in_err-ytm
 unfolding convexity_at_price
-returns-in_default c =
+returns-in_err-ytm c =
     let b = c.args.bond in
-    handed_on (λ (ytm : Float). convexity ytm b) _ _ c.yield_to_maturity-found.ensures _ c.in_default.is
+    refused_at_once (λ (ytm : Float). convexity ytm b) _ _ c.yield_to_maturity.ensures _ c.from_residual.ensures.1 c.in_err-ytm.was
 
 pub returns : goal.returns
 unfolding convexity_at_price
 returns c =
     let b = c.args.bond in
-    asked_at (λ (ytm : Float). convexity ytm b) _ _ c.yield_to_maturity-found.ensures _ _ c.in-Ok.is c.convexity.ensures
+    asked_then (λ (ytm : Float). convexity ytm b) _ _ c.yield_to_maturity.ensures c.in_ok-ytm.was c.convexity.ensures

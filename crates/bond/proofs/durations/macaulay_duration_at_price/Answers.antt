@@ -1,18 +1,17 @@
 -- `bond::durations::macaulay_duration_at_price` meets its contract: a refused yield is handed on. Assumes nothing.
 use lib.Ieee.{Float}
 use Rattle.bond.specs.Durations.{macaulay_duration, macaulay_at_price}
-use Rattle.bond.proofs.AtPrice.{handed_on, asked_at}
+use Rattle.refusals.proofs.InTurn.{refused_at_once, asked_then}
 use Rattle.bond.proofs.durations.macaulay_duration_at_price.Goals as goal
 
-pub returns-in_default : goal.returns-in_default
+pub returns-in_err-ytm : goal.returns-in_err-ytm
 unfolding macaulay_at_price
-returns-in_default c =
+returns-in_err-ytm c =
     let b = c.args.bond in
-    handed_on (λ (ytm : Float). macaulay_duration ytm b) _ _ c.yield_to_maturity-found.ensures _ c.in_default.is
+    refused_at_once (λ (ytm : Float). macaulay_duration ytm b) _ _ c.yield_to_maturity.ensures _ c.from_residual.ensures.1 c.in_err-ytm.was
 
 pub returns : goal.returns
 unfolding macaulay_at_price
 returns c =
     let b = c.args.bond in
-    asked_at (λ (ytm : Float). macaulay_duration ytm b) _ _ c.yield_to_maturity-found.ensures _ _ c.in-Ok.is
-    c.macaulay_duration.ensures
+    asked_then (λ (ytm : Float). macaulay_duration ytm b) _ _ c.yield_to_maturity.ensures c.in_ok-ytm.was c.macaulay_duration.ensures

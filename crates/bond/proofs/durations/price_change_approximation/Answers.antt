@@ -1,13 +1,13 @@
 -- `bond::durations::price_change_approximation` meets its contract: the verdict on the bond is its answer's. Assumes nothing.
 use mathlib.Core.Path.{sym}
-use Rattle.refusals.proofs.Verdicts.{refused_by, accepted_by}
+use Rattle.refusals.proofs.Verdicts.{refused_on, accepted_by}
 use Rattle.bond.specs.Durations.{price_change}
 use Rattle.bond.proofs.durations.price_change_approximation.Goals as goal
 
-pub returns-in-Err : goal.returns-in-Err
+pub returns-in_err-judge_bond : goal.returns-in_err-judge_bond
 unfolding price_change
-returns-in-Err c = rw (sym c.worked_out-worked.ensures.0) (refused_by _ _ _ _ c.in-Err.is c.judge_bond.ensures)
+returns-in_err-judge_bond c = rw (sym c.of-worked.ensures) (refused_on _ _ _ c.from_residual.ensures.1 c.in_err-judge_bond.was c.judge_bond.ensures)
 
-pub returns-in-Ok : goal.returns-in-Ok
+pub returns : goal.returns
 unfolding price_change
-returns-in-Ok c = rw (c.change_at.ensures, sym c.worked_out-worked.ensures.0) (accepted_by _ _ _ c.in-Ok.is c.judge_bond.ensures)
+returns c = rw (c.change_at.ensures, sym c.of-worked.ensures) (accepted_by _ _ _ c.in_ok-judge_bond.was c.judge_bond.ensures)

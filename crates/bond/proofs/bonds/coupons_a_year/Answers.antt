@@ -1,5 +1,0 @@
--- `bond::bonds::coupons_a_year` meets its contract. Assumes nothing.
-use Rattle.bond.proofs.bonds.coupons_a_year.Goals as goal
-
-pub returns : goal.returns
-returns c = rw c.periods_per_year.ensures

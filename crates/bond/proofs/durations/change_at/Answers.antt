@@ -1,7 +1,0 @@
--- `bond::durations::change_at` meets its contract. Assumes nothing.
-use Rattle.bond.specs.Durations.{change_of}
-use Rattle.bond.proofs.durations.change_at.Goals as goal
-
-pub returns : goal.returns
-unfolding change_of
-returns c = rw (c.modified_at.ensures, c.convexity_at.ensures)
