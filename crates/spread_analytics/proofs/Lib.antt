@@ -11,6 +11,5 @@ pub mod Products
 pub mod Blocks
 pub mod Halvings
 pub mod TooMany
-pub mod Gathering
 pub mod Tight
 pub mod Exactly

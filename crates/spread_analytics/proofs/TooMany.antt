@@ -4,13 +4,18 @@ use mathlib.Core.Bool.{Bool}
 use mathlib.Core.List.{List, [], ◌∷◌}
 use Prim.Native.Nat.{◌<◌}
 use native.Mathlib.Omega.{arith}
-use lib.ListN.{length}
+use lib.ListN.{length, length-map}
 use lib.Ieee.{Float}
 use borrow.Author.Tests.{lt-ltb}
 use Rattle.refusals.specs.Outcome.{Outcome, refused, Line, first_or, judged}
 use Rattle.refusals.specs.Table.{too_many_flows}
 use Rattle.refusals.proofs.Judging.{followed, judged_in_parts}
+use Rattle.refusals.specs.Answers.{number}
+use Rattle.refusals.specs.declared.Refusal.{Refusal}
+use Rattle.refusals.proofs.Verdicts.{refused_alike}
 use Rattle.curves.specs.Curve.{curve_lines}
+use Rattle.spread_analytics.specs.declared.dated.CashFlow.{CashFlow}
+use Rattle.spread_analytics.specs.Dated.{times_of, amounts_of}
 use Rattle.spread_analytics.specs.Spread.{spread_lines}
 use Rattle.spread_analytics.proofs.SpreadVerdict.{times_line, amounts_line, equal}
 
@@ -28,3 +33,9 @@ pub too_many : {Value : Type 0} (times amounts tenors rates : List Float) (bad :
 too_many times amounts tenors rates bad v same many =
     rw (equal _ _ same)
     (judged_in_parts (curve_lines tenors rates) (times_line times ∷ amounts_line bad amounts ∷ []) v ∙ ap (followed (judged (curve_lines tenors rates) tt)) (refused_7 times (amounts_line bad amounts ∷ []) v many))
+
+-- ---- dated flows: what their count is refused with is the core's answer at their two lists
+pub refused_for_flows : {Value : Type 0} (flows : List CashFlow) (tenors rates : List Float) (bad : Bool) (v : Value) (r : Refusal)
+    → ((times amounts : List Float) (bad : Bool) → length times ≡ length flows → length amounts ≡ length flows → ◌≡◌ {A = Outcome Unit} (refused (number r.cause) r.place) (judged (spread_lines times amounts tenors rates bad) tt))
+    → refused (number r.cause) r.place ≡ judged (spread_lines (times_of flows) (amounts_of flows) tenors rates bad) v
+refused_for_flows flows tenors rates bad v r many = refused_alike _ v _ _ (many (times_of flows) (amounts_of flows) bad (length-map flows _) (length-map flows _))

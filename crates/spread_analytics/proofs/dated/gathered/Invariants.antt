@@ -1,10 +1,12 @@
 -- `spread_analytics::dated::gathered` meets its contract: after i turns the first i flows are in both rooms. Assumes nothing.
-use Rattle.std.proofs.Common.{◌≡◌, ◌-◌, ◌≤◌}
-use Rattle.spread_analytics.proofs.Gathering.{times_up_to, amounts_up_to}
+use Rattle.std.proofs.Common.{◌≡◌, length, take}
+use Rattle.spread_analytics.specs.Dated.{times_of, amounts_of}
 use Rattle.spread_analytics.proofs.dated.gathered.Given as goal
 
 abbrev pub invariant-loop-i : goal.invariant-loop-i
-invariant-loop-i l = (l.i ≤ l.n) × (l.times ≡ times_up_to l.i l.flows) × (l.amounts ≡ amounts_up_to l.i l.flows)
-
-abbrev pub decreases-loop-i : goal.decreases-loop-i
-decreases-loop-i l = l.n - l.i
+invariant-loop-i l = record {
+  times_room : length l.times ≡ 1200;
+  amounts_room : length l.amounts ≡ 1200;
+  times : take l.i l.times ≡ times_of (take l.i l.flows);
+  amounts : take l.i l.amounts ≡ amounts_of (take l.i l.flows);
+}

@@ -1,0 +1,12 @@
+-- `spread_analytics::dated::z_spread_of` meets its contract: too many flows are refused, and else the core is asked of what was gathered. Assumes nothing.
+use Rattle.refusals.specs.Table.{bad_number}
+use Rattle.refusals.proofs.Verdicts.{handed_on}
+use Rattle.spread_analytics.specs.Spread.{z_spread}
+use Rattle.spread_analytics.proofs.TooMany.{refused_for_flows}
+use Rattle.spread_analytics.proofs.dated.z_spread_of.Goals as goal
+
+pub returns-in_err-judge_count : goal.returns-in_err-judge_count
+unfolding z_spread
+returns-in_err-judge_count c =
+    let a = c.args in
+    rw (handed_on _ c.from_residual.ensures.1) (refused_for_flows a.flows.now a.tenors.now a.rates.now (bad_number a.market) _ _ c.in_err-judge_count.ensures.many)
