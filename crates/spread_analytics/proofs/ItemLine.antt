@@ -1,14 +1,12 @@
--- A line of the table asked of a list's items, one by one, with a single cause before them. Assumes nothing.
-use mathlib.Core.Path.{◌≡◌, ap, ◌∙◌}
-use mathlib.Core.Bool.{Bool, true, false, cond}
-use mathlib.Core.List.{List, [], ◌∷◌, map}
-use Prim.Native.Nat.{ℕ, ◌+◌, ◌<◌, ◌≤◌}
-use native.Mathlib.Numerals.{add-one}
-use lib.ListN.{length, get_or, drop, drop_of_length-le}
-use lib.Seq.{drop-cons}
+-- A line of the table asked of a list's items, with a single cause before them. Assumes nothing.
+use Rattle.std.proofs.Common.{◌≡◌, ℕ, ◌<◌, ◌≤◌, Bool, true, false, not, List, [], ◌∷◌, map, length, get_or, refl, sym, ap, ◌∙◌, arith}
+use Rattle.std.specs.List.{position}
 use lib.Ieee.{Float, nan}
+use lib.Ieee.Scale.{finite}
+use Rattle.refusals.specs.Answers.{number}
 use Rattle.refusals.specs.Outcome.{Outcome, refused, accepted, Line, alone, first_or, judged}
 use Rattle.refusals.specs.Table.{bad_number}
+use Rattle.refusals.proofs.Placing.{none_bad, refused_at, by_position}
 use Rattle.refusals.proofs.Verdicts.{verdict}
 
 -- line k of a single cause and a list
@@ -20,29 +18,16 @@ unfolding judged first_or
 at_single k single [] e = rw e
 at_single k single (x ∷ xs) e = rw e
 
--- what the line says from the item i on
-abbrev pub From : ℕ → List Float → ℕ → Outcome Unit
-From k items i = first_or k i (map bad_number (drop i items)) (accepted tt)
-
-pub at_start : (k : ℕ) (single : Bool) (items : List Float) → single ≡ false → verdict (item_line k single items ∷ []) ≡ From k items 0
+-- with no single cause the line is the list's
+beside_none : (k : ℕ) (items : List Float) → verdict (item_line k false items ∷ []) ≡ verdict ((record { number = k; causes = map bad_number items }) ∷ [])
 unfolding judged first_or
-at_start k single [] e = rw e
-at_start k single (x ∷ xs) e = rw e
+beside_none k [] = refl
+beside_none k (x ∷ xs) = refl
 
-module _ (k : ℕ) (items : List Float) (i : ℕ) (h : i < length items) where
-  abbrev chosen : Bool → Outcome Unit
-  chosen b = cond b (refused k i) (From k items (i + 1))
+module _ (k : ℕ) (single : Bool) (items : List Float) (none : single ≡ false) where
+  pub all_finite_accepted : ((i : ℕ) → i < length items → finite (get_or items i nan) ≡ true) → accepted tt ≡ verdict (item_line k single items ∷ [])
+  unfolding judged bad_number
+  all_finite_accepted h = rw none (none_bad k 0 bad_number items nan (λ i l. ap not (h i l)) ∙ sym (beside_none k items))
 
-  turn : From k items i ≡ chosen (bad_number (get_or items i nan))
-  unfolding first_or
-  turn = rw (add-one, drop-cons items i nan)
-
-  pub stops : bad_number (get_or items i nan) ≡ true → From k items i ≡ refused k i
-  stops b = turn ∙ ap chosen b
-
-  pub goes_on : bad_number (get_or items i nan) ≡ false → From k items i ≡ From k items (i + 1)
-  goes_on b = turn ∙ ap chosen b
-
-pub ended : (k : ℕ) (items : List Float) (i : ℕ) → length items ≤ i → From k items i ≡ accepted tt
-unfolding first_or
-ended k items i h = rw (drop_of_length-le items h)
+  pub items_by_position : length items ≤ 1200 → verdict (item_line k single items ∷ []) ≡ refused_at k bad_number (position bad_number items)
+  items_by_position short = rw none (beside_none k items ∙ by_position k bad_number items (omega arith))

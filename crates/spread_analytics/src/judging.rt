@@ -1,14 +1,21 @@
 // The lines of the table that every function over cash flows and a curve asks first.
-ghost use Rattle.std.specs.Prelude.{◌≡◌, false, [], ◌∷◌, map, ◌≤◌, length};
+ghost use Rattle.std.specs.Prelude.{◌≡◌, false, [], ◌∷◌, map, ◌≤◌, length, position};
 ghost use Rattle.refusals.specs.Outcome.{alone, judged};
 ghost use Rattle.refusals.specs.Answers.{number, outcome};
 ghost use Rattle.refusals.specs.Table.{too_many_flows, bad_time, bad_number};
 ghost use Rattle.spread_analytics.specs.Spread.{spread_lines};
 
 use curves::each::all_finite;
-use refusals::{Cause, Refusal, refuse};
+use refusals::{Cause, Refusal, bad_number, refuse, refuse_at};
+
+fn first_bad(items: &[f64]) -> Option<usize>
+    ensures { result ≡ position bad_number items.now }
+{
+    items.iter().position(|item| bad_number(*item))
+}
 
 // One line of a list: a single cause, and then each item that is not finite, at its index.
+#[tactic(auto, using(crate::proofs::ItemLine::at_single, crate::proofs::ItemLine::all_finite_accepted, crate::proofs::ItemLine::items_by_position))]
 fn judge_items(cause: Cause, single: bool, items: &[f64]) -> Result<(), Refusal>
     requires { single ≡ false → length items.now ≤ 1200 }
     ensures { outcome result ≡ judged ((record { number = number cause; causes = alone single (map bad_number items.now) }) ∷ []) tt }
@@ -19,17 +26,10 @@ fn judge_items(cause: Cause, single: bool, items: &[f64]) -> Result<(), Refusal>
     if all_finite(items) {
         return Ok(());
     }
-    let mut i: usize = 0;
-    while i < items.len() {
-        if refusals::bad_number(items[i]) {
-            return Err(Refusal {
-                cause,
-                place: i as u32,
-            });
-        }
-        i += 1;
+    match first_bad(items) {
+        Some(i) => Err(refuse_at(cause, i)),
+        None => Ok(()),
     }
-    Ok(())
 }
 
 // Lines 7 and 9, of the flows.

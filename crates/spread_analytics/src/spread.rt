@@ -14,7 +14,7 @@ ghost use Rattle.spread_analytics.specs.Spread.{worth_of, pv_cash_flows, error_a
 ghost use Rattle.spread_analytics.specs.Spread.{factor_of, sensitivity_of, duration_convexity};
 
 use crate::judging::judge_spread;
-use crate::units::{BasisPoints, to_decimal};
+use crate::units::{BasisPoints, DecimalRate};
 use crate::worth::{Sums, discounted_on, factors_of, keep_rates, sums_on, worth_at};
 use numbers::sizes::absolute_value;
 use refusals::Refusal;
@@ -46,7 +46,7 @@ fn worth_of(
     requires { (length times.now ≡ length amounts.now) × Rising tenors.now }
     ensures { result ≡ worth_of times.now amounts.now tenors.now rates.now spread.0 }
 {
-    let s = to_decimal(spread);
+    let s = DecimalRate::from(spread);
     let mut worth = 0.0;
     for (block, due) in times.chunks(64).zip(amounts.chunks(64)) {
         let factors = factors_of(block, tenors, rates, s);
@@ -195,7 +195,7 @@ fn sums_over(
     ensures timed_value { result.timed ≡ added_up (λ (i : ℕ). mul binary64 (mul binary64 (knot times.now i) (knot amounts.now i)) (factor_of times.now amounts.now tenors.now rates.now (as_decimal spread.0) i)) (length times.now) }
     ensures squared_value { result.squared ≡ added_up (λ (i : ℕ). mul binary64 (mul binary64 (mul binary64 (knot times.now i) (knot times.now i)) (knot amounts.now i)) (factor_of times.now amounts.now tenors.now rates.now (as_decimal spread.0) i)) (length times.now) }
 {
-    let s = to_decimal(spread);
+    let s = DecimalRate::from(spread);
     let mut sums = Sums {
         worth: 0.0,
         timed: 0.0,

@@ -9,8 +9,17 @@ pub struct BasisPoints(pub f64);
 pub struct DecimalRate(pub f64);
 
 // So many points as a decimal rate.
+impl From<BasisPoints> for DecimalRate {
+    ghost from_gives = { λ points rate. rate.0 ≡ as_decimal points.0 };
+
+    #[tactic(auto, unfolding(crate::specs::Units::as_decimal))]
+    fn from(points: BasisPoints) -> DecimalRate {
+        DecimalRate(points.0 / 10000.0)
+    }
+}
+
 pub fn to_decimal(points: BasisPoints) -> DecimalRate
     ensures { result.0 ≡ as_decimal points.0 }
 {
-    DecimalRate(points.0 / 10000.0)
+    points.into()
 }

@@ -8,7 +8,7 @@ ghost use Rattle.curves.specs.Segments.{knot, Rising};
 ghost use Rattle.spread_analytics.specs.Curves.{rate_of};
 ghost use Rattle.spread_analytics.specs.Spread.{worth_of};
 
-use crate::units::{BasisPoints, DecimalRate, to_decimal};
+use crate::units::{BasisPoints, DecimalRate};
 use curves::kinds::Kind;
 use elementary::exp::exp_each;
 
@@ -121,6 +121,6 @@ pub(crate) fn worth_at(
     ensures { (tenors rates : List Float) → ((i : ℕ) → i < length times.now → knot kept.now i ≡ rate_of tenors rates (knot times.now i))
         → result ≡ worth_of times.now amounts.now tenors rates spread.0 }
 {
-    put_factors(times, kept, to_decimal(spread), room);
+    put_factors(times, kept, DecimalRate::from(spread), room);
     discounted_sum(amounts, room)
 }

@@ -20,7 +20,7 @@ loop-block-preserved c =
     let rates = c.args.rates.now in
     let factors = c.factors_of-factors.result in
     let g = c.factors_of-factors.ensures.1 in
-    let s = c.to_decimal-s.result.0 in
+    let s = c.from-s.result.0 in
     let block = c.in-Some.block.now in
     let due = c.in-Some.due.now in
     let i = c.loop-block.invariant in
@@ -41,7 +41,7 @@ returns c =
     let factor : Float → ℕ → Float = factor_of times amounts c.args.tenors.now c.args.rates.now in
     let i = c.loop-block.invariant in
     let all : i.0 ≡ n = no_block times amounts c.requires.0 i.0 c.loop-block.block-iterator c.next.new.self c.next.result i.1 c.next.ensures.steps c.in-None.is in
-    let s = c.to_decimal-s.ensures in
+    let s = c.from-s.ensures in
     record {
       worth_value = i.2 ∙ ap (added_up _) all ∙ ap (λ (z : Float). added_up (λ (i : ℕ). mul binary64 (knot amounts i) (factor z i)) n) s;
       timed_value = i.3 ∙ ap (added_up _) all ∙ ap (λ (z : Float). added_up (λ (i : ℕ). mul binary64 (mul binary64 (knot times i) (knot amounts i)) (factor z i)) n) s;

@@ -8,4 +8,4 @@ returns c =
     let a = c.args in
     λ tenors rates k.
     c.discounted_sum.ensures
-    ∙ worth_is a.times.now a.amounts.now tenors rates a.kept.now c.put_factors.new.factors _ _ c.to_decimal.ensures k c.put_factors.ensures _ (sym c.requires.0)
+    ∙ worth_is a.times.now a.amounts.now tenors rates a.kept.now c.put_factors.new.factors _ _ c.from.ensures k c.put_factors.ensures _ (sym c.requires.0)
