@@ -12,12 +12,12 @@ use Rattle.elementary.proofs.Laws.{exp_of_zero}
 use Rattle.elementary.proofs.PartWay.{map_alike}
 use Rattle.curves.specs.declared.kinds.Kind.{Kind}
 use Rattle.curves.specs.declared.kinds.Kind.TheVariants as kind_is
-use Rattle.curves.specs.Segments.{Ends, knot, flat_outside, ends_of}
+use Rattle.curves.specs.Segments.{Ends, knot, last_of, flat_outside, ends_of}
 use Rattle.curves.specs.Kinds.{served_by, along, rate_on, discounted, discount_on, exponent_at}
 use Rattle.curves.specs.inner.Halving.{segment_by, passes}
 use Rattle.curves.specs.inner.Kinds.{rule_of, PastOn, EndsAre}
 use Rattle.curves.specs.inner.Exponents.{rate_or_exponent, answer_on}
-use Rattle.curves.proofs.Flat.{ends_are}
+use Rattle.curves.proofs.Flat.{ends_are, flat_is}
 use Rattle.curves.proofs.Onward.{past_served, still_found}
 
 -- ---- discount factors
@@ -47,16 +47,26 @@ still_on kind times before t i end is_end l past p = still_found (rule_of kind) 
 
 -- ---- one answer
 module _ (kind : Kind) (times rates : List Float) where
-  -- the rate by the ends of the segment that serves
-  pub by_ends : (t : Float) (i : ℕ) (t0 t1 r0 r1 : Float) (r : Float) → i ≡ served_by kind times t → EndsAre times rates i t0 t1 r0 r1
-      → r ≡ flat_outside times rates t (along kind (record { t0 = t0; t1 = t1; r0 = r0; r1 = r1 }) t) → r ≡ rate_on kind times rates t
-  unfolding rate_on
-  by_ends t i t0 t1 r0 r1 r is_i ends is_r =
-      is_r ∙ ap (λ (e : Ends). flat_outside times rates t (along kind e t)) (ends_are times rates i t0 t1 r0 r1 ends ∙ ap (ends_of times rates) is_i)
+  -- by what was read of the first and the last knot, and of the ends of a segment
+  pub by_ends : (exponent : Bool) (t : Float) (i : ℕ) (first before last after t0 t1 r0 r1 r : Float)
+      → (first ≡ knot times 0) × (before ≡ knot rates 0) × (last ≡ last_of times) × (after ≡ last_of rates) → EndsAre times rates i t0 t1 r0 r1
+      → r ≡ rate_or_exponent kind exponent (cond (le t first) before (cond (le last t) after (along kind (record { t0 = t0; t1 = t1; r0 = r0; r1 = r1 }) t))) t
+      → r ≡ rate_or_exponent kind exponent (flat_outside times rates t (along kind (ends_of times rates i) t)) t
+  by_ends exponent t i first before last after t0 t1 r0 r1 r outside ends is_r =
+      is_r
+      ∙ ap (λ (x : Float). rate_or_exponent kind exponent x t)
+      (flat_is times rates t _ _ _ _ _ outside ∙ ap (λ (e : Ends). flat_outside times rates t (along kind e t)) (ends_are times rates i t0 t1 r0 r1 ends))
 
-  pub one_answer : (exponent : Bool) (t x rate r : Float) → x ≡ t → rate ≡ rate_on kind times rates x → r ≡ rate_or_exponent kind exponent rate x → r ≡ answer_on kind exponent times rates t
+  -- where the rate by a segment is the curve's
+  pub one_answer : (exponent : Bool) (t rate r : Float) → rate ≡ rate_on kind times rates t → r ≡ rate_or_exponent kind exponent rate t → r ≡ answer_on kind exponent times rates t
   unfolding answer_on
-  one_answer exponent t x rate r is_x is_rate is_r = is_r ∙ rw (is_rate, is_x)
+  one_answer exponent t rate r is_rate is_r = is_r ∙ rw is_rate
+
+  -- by the segment that serves
+  pub by_serving : (exponent : Bool) (t : Float) (i : ℕ) (r : Float) → i ≡ served_by kind times t
+      → r ≡ rate_or_exponent kind exponent (flat_outside times rates t (along kind (ends_of times rates i) t)) t → r ≡ answer_on kind exponent times rates t
+  unfolding rate_on
+  by_serving exponent t i r is_i is_r = one_answer exponent t _ r (ap (λ (n : ℕ). flat_outside times rates t (along kind (ends_of times rates n) t)) is_i) is_r
 
   -- ---- a list of answers
   pub rates_themselves : (asked : List Float) → map (answer_on kind false times rates) asked ≡ map (rate_on kind times rates) asked

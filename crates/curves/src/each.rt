@@ -1,13 +1,14 @@
 // A list of lookups on one curve: the curve and the times are judged once, and each time gives way to its answer.
-ghost use Rattle.std.specs.Prelude.{◌≡◌, true, [], ◌∷◌, map, ℕ, ◌<◌, ◌≤◌, length, get_or, position};
+ghost use Rattle.std.specs.Prelude.{◌≡◌, true, cond, [], ◌∷◌, map, ℕ, ◌<◌, ◌≤◌, length, get_or, take, position};
 ghost use Rattle.std.specs.Float.{nan};
+ghost use Rattle.std.specs.Float.Ieee.{le};
 ghost use Rattle.std.specs.Float.Ieee.Scale.{finite};
 ghost use Rattle.refusals.specs.Outcome.{judged};
 ghost use Rattle.refusals.specs.Answers.{outcome};
 ghost use Rattle.refusals.specs.Table.{bad_time};
 ghost use Rattle.refusals.specs.Places.{placed};
 ghost use Rattle.curves.specs.Segments.{Rising};
-ghost use Rattle.curves.specs.Kinds.{served_by, rate_on, discount_on};
+ghost use Rattle.curves.specs.Kinds.{served_by, along, rate_on, discount_on};
 ghost use Rattle.curves.specs.Lists.{each_outcome, each_after};
 ghost use Rattle.curves.specs.inner.Kinds.{PastOn, EndsAre};
 ghost use Rattle.curves.specs.inner.Exponents.{rate_or_exponent, answer_on};
@@ -16,7 +17,7 @@ use crate::curve::{bad_time, judge_curve};
 use crate::formulas::along;
 use crate::kinds::{Kind, eight_on, onward_on, passes_on, segment_on};
 use crate::lookups::{exponent_at, rate_of};
-use crate::segments::{Ends, ends_of, flat, outside_of};
+use crate::segments::{Ends, Outside, ends_of, flat, inner_ends, outside_of};
 use elementary::exp::exp_each;
 use numbers::sizes::is_finite;
 use refusals::{Cause, Refusal, refuse_at};
@@ -73,6 +74,14 @@ fn rate_or_exponent(kind: Kind, exponent: bool, rate: f64, t: f64) -> f64
     }
 }
 
+// A time's answer, by the ends of the segment that serves it.
+fn answer_along(kind: Kind, exponents: bool, outside: Outside, ends: Ends, t: f64) -> f64
+    ensures { result ≡ rate_or_exponent kind exponents (cond (le t outside.first) outside.before (cond (le outside.last t) outside.after (along kind (record { t0 = ends.t0; t1 = ends.t1; r0 = ends.r0; r1 = ends.r1 }) t))) t }
+{
+    let rate = flat(outside, t, along(kind, ends, t));
+    rate_or_exponent(kind, exponents, rate, t)
+}
+
 // Eight answers, by the segments that halving finds. It is asked for among all knots but the last, so that each segment has an end: past the last knot the curve is flat.
 fn answer_eight(kind: Kind, exponents: bool, times: &[f64], rates: &[f64], asked: &mut [f64])
     requires { (length asked.old ≡ 8) × (2 ≤ length times.now) × (length times.now ≤ length rates.now) }
@@ -81,19 +90,9 @@ fn answer_eight(kind: Kind, exponents: bool, times: &[f64], rates: &[f64], asked
     let inner = times.len() - 1;
     let segments = eight_on(kind, &times[..inner], asked);
     let outside = outside_of(times, rates);
-    let mut j: usize = 0;
-    while j < 8 {
-        let t = asked[j];
-        let i = segments[j];
-        let ends = Ends {
-            t0: times[i],
-            t1: times[i + 1],
-            r0: rates[i],
-            r1: rates[i + 1],
-        };
-        let rate = flat(outside, t, along(kind, ends, t));
-        asked[j] = rate_or_exponent(kind, exponents, rate, t);
-        j += 1;
+    for (j, t) in asked.iter_mut().enumerate() {
+        let ends = inner_ends(times, rates, segments[j]);
+        *t = answer_along(kind, exponents, outside, ends, *t);
     }
 }
 
@@ -101,25 +100,19 @@ fn answer_eight(kind: Kind, exponents: bool, times: &[f64], rates: &[f64], asked
 fn answer_one_by_one(kind: Kind, exponents: bool, times: &[f64], rates: &[f64], asked: &mut [f64])
     ensures { Rising times.now → asked.new ≡ map (answer_on kind exponents times.now rates.now) asked.old }
 {
-    let mut j: usize = 0;
-    while j < asked.len() {
-        let t = asked[j];
-        asked[j] = rate_or_exponent(kind, exponents, rate_of(kind, times, rates, t), t);
-        j += 1;
+    for t in asked.iter_mut() {
+        *t = rate_or_exponent(kind, exponents, rate_of(kind, times, rates, *t), *t);
     }
 }
 
 // The times, and zeros behind them.
 fn filled_up(asked: &[f64]) -> [f64; 8]
     requires { length asked.now ≤ 8 }
-    ensures { (length result ≡ 8) × ((k : ℕ) → k < length asked.now → get_or result k nan ≡ get_or asked.now k nan) }
+    ensures len { length result ≡ 8 }
+    ensures front { take (length asked.now) result ≡ asked.now }
 {
     let mut room = [0.0; 8];
-    let mut j: usize = 0;
-    while j < asked.len() {
-        room[j] = asked[j];
-        j += 1;
-    }
+    room[..asked.len()].copy_from_slice(asked);
     room
 }
 
@@ -130,11 +123,7 @@ fn answer_few(kind: Kind, exponents: bool, times: &[f64], rates: &[f64], asked: 
 {
     let mut room = filled_up(asked);
     answer_eight(kind, exponents, times, rates, &mut room);
-    let mut j: usize = 0;
-    while j < asked.len() {
-        asked[j] = room[j];
-        j += 1;
-    }
+    asked.copy_from_slice(&room[..asked.len()]);
 }
 
 // Fewer than eight: one or two are quicker one by one.
@@ -228,14 +217,9 @@ fn answer_onward(kind: Kind, exponents: bool, times: &[f64], rates: &[f64], aske
         segment: 0,
         ends: ends_of(times, rates, 0),
     };
-    let mut j: usize = 0;
-    while j < asked.len() {
-        let t = asked[j];
-        hand = next_in_hand(kind, times, rates, hand, t);
-        let ends = hand.ends;
-        let rate = flat(outside, t, along(kind, ends, t));
-        asked[j] = rate_or_exponent(kind, exponents, rate, t);
-        j += 1;
+    for t in asked.iter_mut() {
+        hand = next_in_hand(kind, times, rates, hand, *t);
+        *t = answer_along(kind, exponents, outside, hand.ends, *t);
     }
 }
 

@@ -3,6 +3,7 @@ ghost use Rattle.std.specs.Prelude.{◌≡◌, ◌⊎◌, suc, ◌<◌, ◌≤�
 ghost use Rattle.std.specs.Float.{nan};
 ghost use Rattle.std.specs.Float.Ieee.{le};
 ghost use Rattle.curves.specs.Segments.{knot, last_of};
+ghost use Rattle.curves.specs.inner.Kinds.{EndsAre};
 
 // The two times of a segment, and the two rates.
 #[derive(Clone, Copy)]
@@ -24,7 +25,7 @@ pub fn no_knot() -> f64
 pub fn knot_at(xs: &[f64], i: usize) -> f64
     ensures { result ≡ knot xs.now i }
 {
-    if i < xs.len() { xs[i] } else { no_knot() }
+    xs.get(i).copied().unwrap_or(no_knot())
 }
 
 // A place from which knots are looked at: the first where there is no such knot.
@@ -48,28 +49,27 @@ pub fn knot_after(xs: &[f64], i: usize) -> f64
 pub fn last_knot(xs: &[f64]) -> f64
     ensures { result ≡ last_of xs.now }
 {
-    if xs.len() > 0 {
-        xs[xs.len() - 1]
-    } else {
-        no_knot()
+    xs.last().copied().unwrap_or(no_knot())
+}
+
+// The ends of a segment that has both.
+pub(crate) fn inner_ends(times: &[f64], rates: &[f64], i: usize) -> Ends
+    requires { (suc i < length times.now) × (suc i < length rates.now) }
+    ensures { EndsAre times.now rates.now i result.t0 result.t1 result.r0 result.r1 }
+{
+    Ends {
+        t0: times[i],
+        t1: times[i + 1],
+        r0: rates[i],
+        r1: rates[i + 1],
     }
 }
 
 pub fn ends_of(times: &[f64], rates: &[f64], i: usize) -> Ends
     ensures { (result.t0 ≡ knot times.now i) × (result.t1 ≡ knot times.now (suc i)) × (result.r0 ≡ knot rates.now i) × (result.r1 ≡ knot rates.now (suc i)) }
 {
-    if i < times.len() {
-        let next = i + 1;
-        if next < times.len() {
-            if next < rates.len() {
-                return Ends {
-                    t0: times[i],
-                    t1: times[next],
-                    r0: rates[i],
-                    r1: rates[next],
-                };
-            }
-        }
+    if i < times.len() && i + 1 < times.len() && i + 1 < rates.len() {
+        return inner_ends(times, rates, i);
     }
     Ends {
         t0: knot_at(times, i),
