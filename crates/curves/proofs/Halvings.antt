@@ -118,3 +118,7 @@ module _ (rule : Rule) (times : List Float) where
   all_end count asked bases h e b all rises =
       ext_get_or 0 bases (map (segment_by rule times) asked) (b ∙ sym e ∙ sym (length-map asked (segment_by rule times)))
       (λ k l. lane_end (get_or asked k nan) count (get_or bases k 0) h (all k (omega arith)) rises ∙ sym (served_at (segment_by rule times) k asked (omega arith)))
+
+-- what the searches cite
+pub ruleset one_lane = (lane_start, lane_inside, lane_next, lane_end)
+pub ruleset eight_lanes = (all_start, partly_start, partly_next, partly_end, lane_bound, all_end, lane_inside)

@@ -94,3 +94,6 @@ module _ (rule : Rule) (times : List Float) where
     -- and a segment that serves has none before it that does
     pub past_served : Past rule times t (segment_by rule times t)
     past_served = fails_before (by_rule rule t) times
+
+-- what the search from a segment on cites
+pub ruleset going_on = (started, one_further, found_here, found_last)

@@ -5,6 +5,10 @@ ghost use Rattle.curves.specs.Kinds.{served_by};
 ghost use Rattle.curves.specs.inner.Halving.{passes};
 ghost use Rattle.curves.specs.inner.Kinds.{rule_of, PastOn};
 
+use crate::ending::Ending;
+use crate::halving::{Serving, eight_segments, onward, segment};
+use crate::starting::Starting;
+
 #[derive(Clone, Copy)]
 pub enum Kind {
     YieldCurve,
@@ -12,46 +16,46 @@ pub enum Kind {
     SpreadCurve,
 }
 
+#[tactic(auto, unfolding(crate::specs::Kinds::served_by, crate::specs::inner::Kinds::rule_of, crate::specs::inner::Halving::segment_by))]
 pub(crate) fn segment_on(kind: Kind, times: &[f64], t: f64) -> usize
     ensures { Rising times.now → result ≡ served_by kind times.now t }
 {
     match kind {
-        Kind::YieldCurve => crate::ending::segment(times, t),
-        Kind::DiscountCurve => crate::ending::segment(times, t),
-        Kind::SpreadCurve => crate::starting::segment(times, t),
+        Kind::YieldCurve | Kind::DiscountCurve => segment::<Ending>(times, t),
+        Kind::SpreadCurve => segment::<Starting>(times, t),
     }
 }
 
+#[tactic(auto, unfolding(crate::specs::Kinds::served_by, crate::specs::inner::Kinds::rule_of, crate::specs::inner::Halving::segment_by))]
 pub(crate) fn eight_on(kind: Kind, times: &[f64], asked: &[f64]) -> [usize; 8]
     requires { length asked.now ≡ 8 }
     ensures by_index { (k : ℕ) → k < 8 → 0 < length times.now → get_or result k 0 < length times.now }
     ensures value { Rising times.now → result ≡ map (served_by kind times.now) asked.now }
 {
     match kind {
-        Kind::YieldCurve => crate::ending::eight_segments(times, asked),
-        Kind::DiscountCurve => crate::ending::eight_segments(times, asked),
-        Kind::SpreadCurve => crate::starting::eight_segments(times, asked),
+        Kind::YieldCurve | Kind::DiscountCurve => eight_segments::<Ending>(times, asked),
+        Kind::SpreadCurve => eight_segments::<Starting>(times, asked),
     }
 }
 
 // The segment of a time, gone on to from one whose forerunners the time is past.
+#[tactic(auto, unfolding(crate::specs::Kinds::served_by, crate::specs::inner::Kinds::rule_of, crate::specs::inner::Halving::segment_by))]
 pub(crate) fn onward_on(kind: Kind, times: &[f64], from: usize, t: f64) -> usize
     ensures { PastOn kind times.now t from → result ≡ served_by kind times.now t }
 {
     match kind {
-        Kind::YieldCurve => crate::ending::onward(times, from, t),
-        Kind::DiscountCurve => crate::ending::onward(times, from, t),
-        Kind::SpreadCurve => crate::starting::onward(times, from, t),
+        Kind::YieldCurve | Kind::DiscountCurve => onward::<Ending>(times, from, t),
+        Kind::SpreadCurve => onward::<Starting>(times, from, t),
     }
 }
 
 // The test of a segment's end, by the kind's rule.
+#[tactic(auto, unfolding(crate::specs::inner::Kinds::rule_of))]
 pub(crate) fn passes_on(kind: Kind, t: f64, end: f64) -> bool
     ensures { result ≡ passes (rule_of kind) t end }
 {
     match kind {
-        Kind::YieldCurve => t <= end,
-        Kind::DiscountCurve => t <= end,
-        Kind::SpreadCurve => t < end,
+        Kind::YieldCurve | Kind::DiscountCurve => Ending::passes(t, end),
+        Kind::SpreadCurve => Starting::passes(t, end),
     }
 }

@@ -5,6 +5,7 @@ pub mod curve;
 pub mod each;
 pub mod ending;
 pub mod formulas;
+mod halving;
 pub mod kinds;
 pub mod lookups;
 pub mod runs;

@@ -6,17 +6,11 @@ ghost use Rattle.curves.specs.Runs.{date_after, FactorsAfter};
 use crate::each::discounts_onward;
 use crate::kinds::Kind;
 
-fn at_most(count: usize, most: usize) -> usize
-    ensures { (result ≤ count) × (result ≤ most) × (count ≤ most → result ≡ count) }
-{
-    if count > most { most } else { count }
-}
-
 // How many of a run are taken: 64 at most, and no more than a u32 counts.
 fn taken_of(first: u32, count: usize) -> usize
     ensures { (result ≤ 64) × (first + result < 4294967296) × (count ≤ 64 → first + count < 4294967296 → result ≡ count) }
 {
-    at_most(at_most(count, 64), (4294967295 - first) as usize)
+    count.min(64).min((u32::MAX - first) as usize)
 }
 
 // The dates after the first ones.
@@ -24,12 +18,8 @@ fn put_dates(dt: f64, first: u32, dates: &mut [f64])
     requires { first + length dates.old < 4294967296 }
     ensures { (j : ℕ) → j < length dates.new → knot dates.new j ≡ date_after dt (first + j) }
 {
-    let mut k = first;
-    let mut j: usize = 0;
-    while j < dates.len() {
-        k += 1;
-        dates[j] = k as f64 * dt;
-        j += 1;
+    for (j, date) in dates.iter_mut().enumerate() {
+        *date = (first + 1 + j as u32) as f64 * dt;
     }
 }
 
