@@ -64,6 +64,7 @@ pub fn judge_each(times: &[f64], rates: &[f64], asked: &[f64]) -> Result<(), Ref
 }
 
 // A rate, or what the discount factor at its time is the exp of.
+#[tactic(auto, unfolding(crate::specs::inner::Exponents::rate_or_exponent))]
 fn rate_or_exponent(kind: Kind, exponent: bool, rate: f64, t: f64) -> f64
     ensures { result ≡ rate_or_exponent kind exponent rate t }
 {
@@ -156,9 +157,7 @@ fn answer_in_eights(kind: Kind, exponents: bool, times: &[f64], rates: &[f64], a
 fn answer_each(kind: Kind, exponents: bool, times: &[f64], rates: &[f64], asked: &mut [f64])
     ensures { Rising times.now → asked.new ≡ map (answer_on kind exponents times.now rates.now) asked.old }
 {
-    if times.len() < 2 {
-        answer_one_by_one(kind, exponents, times, rates, asked);
-    } else if rates.len() < times.len() {
+    if times.len() < 2 || rates.len() < times.len() {
         answer_one_by_one(kind, exponents, times, rates, asked);
     } else {
         answer_in_eights(kind, exponents, times, rates, asked);
@@ -189,15 +188,8 @@ fn next_in_hand(kind: Kind, times: &[f64], rates: &[f64], hand: InHand, t: f64) 
     ensures { Rising times.now → PastOn kind times.now hand.time hand.segment → EndsAre times.now rates.now hand.segment hand.ends.t0 hand.ends.t1 hand.ends.r0 hand.ends.r1
         → (result.time ≡ t) × (result.segment ≡ served_by kind times.now t) × EndsAre times.now rates.now result.segment result.ends.t0 result.ends.t1 result.ends.r0 result.ends.r1 }
 {
-    let ends = hand.ends;
-    if hand.time < t {
-        if passes_on(kind, t, ends.t1) {
-            return InHand {
-                time: t,
-                segment: hand.segment,
-                ends,
-            };
-        }
+    if hand.time < t && passes_on(kind, t, hand.ends.t1) {
+        return InHand { time: t, ..hand };
     }
     let segment = next_segment(kind, times, hand.segment, hand.time, t);
     InHand {
@@ -224,6 +216,7 @@ fn answer_onward(kind: Kind, exponents: bool, times: &[f64], rates: &[f64], aske
 }
 
 // The rate at each time, on a curve whose times rise; quick where each is later than the one before, and right in any order.
+#[tactic(auto, using(crate::proofs::Answers::rates_themselves))]
 pub fn rates_onward(kind: Kind, times: &[f64], rates: &[f64], asked: &mut [f64])
     ensures { Rising times.now → asked.new ≡ map (rate_on kind times.now rates.now) asked.old }
 {
@@ -231,6 +224,7 @@ pub fn rates_onward(kind: Kind, times: &[f64], rates: &[f64], asked: &mut [f64])
 }
 
 // The discount factor at each time, likewise.
+#[tactic(auto, using(crate::proofs::Answers::exps_of_answers))]
 pub fn discounts_onward(kind: Kind, times: &[f64], rates: &[f64], asked: &mut [f64])
     ensures { Rising times.now → asked.new ≡ map (discount_on kind times.now rates.now) asked.old }
 {
@@ -239,6 +233,7 @@ pub fn discounts_onward(kind: Kind, times: &[f64], rates: &[f64], asked: &mut [f
 }
 
 // The rate at each time, on a curve whose times rise.
+#[tactic(auto, using(crate::proofs::Answers::rates_themselves))]
 fn rates_of(kind: Kind, times: &[f64], rates: &[f64], asked: &mut [f64])
     ensures { Rising times.now → asked.new ≡ map (rate_on kind times.now rates.now) asked.old }
 {
@@ -246,6 +241,7 @@ fn rates_of(kind: Kind, times: &[f64], rates: &[f64], asked: &mut [f64])
 }
 
 // The discount factor at each time, on a curve whose times rise.
+#[tactic(auto, using(crate::proofs::Answers::exps_of_answers))]
 fn discounts_of(kind: Kind, times: &[f64], rates: &[f64], asked: &mut [f64])
     ensures { Rising times.now → asked.new ≡ map (discount_on kind times.now rates.now) asked.old }
 {

@@ -7,6 +7,7 @@ use crate::kinds::Kind;
 use crate::segments::Ends;
 
 // y0 + w·(y1-y0).
+#[tactic(auto, unfolding(crate::specs::Formulas::along_yields))]
 fn along_yields(e: Ends, t: f64) -> f64
     ensures { result ≡ along_yields (record { t0 = e.t0; t1 = e.t1; r0 = e.r0; r1 = e.r1 }) t }
 {
@@ -14,6 +15,7 @@ fn along_yields(e: Ends, t: f64) -> f64
 }
 
 // z0·(1-w) + z1·w.
+#[tactic(auto, unfolding(crate::specs::Formulas::along_zeros, crate::specs::Formulas::share))]
 fn along_zeros(e: Ends, t: f64) -> f64
     ensures { result ≡ along_zeros (record { t0 = e.t0; t1 = e.t1; r0 = e.r0; r1 = e.r1 }) t }
 {
@@ -22,6 +24,7 @@ fn along_zeros(e: Ends, t: f64) -> f64
 }
 
 // r0 + (r1-r0)·(t-t0)/(t1-t0), left to right.
+#[tactic(auto, unfolding(crate::specs::Formulas::along_rates))]
 fn along_rates(e: Ends, t: f64) -> f64
     ensures { result ≡ along_rates (record { t0 = e.t0; t1 = e.t1; r0 = e.r0; r1 = e.r1 }) t }
 {
@@ -29,6 +32,7 @@ fn along_rates(e: Ends, t: f64) -> f64
 }
 
 // By the kind of curve.
+#[tactic(auto, unfolding(crate::specs::Kinds::along))]
 pub fn along(kind: Kind, e: Ends, t: f64) -> f64
     ensures { result ≡ along kind (record { t0 = e.t0; t1 = e.t1; r0 = e.r0; r1 = e.r1 }) t }
 {

@@ -9,6 +9,7 @@ use crate::segments::{ends_of, knot_at, last_knot};
 use elementary::exp::exp;
 
 // The rate at a time.
+#[tactic(auto, unfolding(crate::specs::Kinds::rate_on, crate::specs::Segments::flat_outside))]
 pub fn rate_of(kind: Kind, times: &[f64], rates: &[f64], t: f64) -> f64
     ensures { Rising times.now → result ≡ rate_on kind times.now rates.now t }
 {
@@ -22,17 +23,18 @@ pub fn rate_of(kind: Kind, times: &[f64], rates: &[f64], t: f64) -> f64
 }
 
 // What the discount factor at a time is the exp of, by the rate there.
+#[tactic(auto, unfolding(crate::specs::Kinds::exponent_at))]
 pub fn exponent_at(kind: Kind, rate: f64, t: f64) -> f64
     ensures { result ≡ exponent_at kind rate t }
 {
     match kind {
-        Kind::YieldCurve => -rate * t,
-        Kind::DiscountCurve => { if t <= 0.0 { 0.0 } else { -rate * t } }
-        Kind::SpreadCurve => -rate * t,
+        Kind::DiscountCurve if t <= 0.0 => 0.0,
+        Kind::YieldCurve | Kind::DiscountCurve | Kind::SpreadCurve => -rate * t,
     }
 }
 
 // The discount factor at a time.
+#[tactic(auto, using(crate::proofs::Answers::exp_of_exponent), unfolding(crate::specs::Kinds::discount_on))]
 pub fn discount_of(kind: Kind, times: &[f64], rates: &[f64], t: f64) -> f64
     ensures { Rising times.now → result ≡ discount_on kind times.now rates.now t }
 {

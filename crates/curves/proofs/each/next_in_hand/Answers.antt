@@ -10,6 +10,3 @@ returns-then-passes_on c rises past ends =
       still_on a.kind a.times.now a.hand.time a.t a.hand.segment a.hand.ends.t1 ends.1 c.if-hand-t.true past (sym c.passes_on.ensures ∙ c.if-passes_on.true),
       ends,
     )
-
-pub returns : goal.returns
-returns c rises past ends = (refl, c.next_segment-segment.ensures rises past, c.ends_of.ensures)

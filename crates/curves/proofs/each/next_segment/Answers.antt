@@ -7,6 +7,3 @@ pub returns-then-before-t : goal.returns-then-before-t
 returns-then-before-t c rises past =
     let a = c.args in
     c.onward_on.ensures (later_too (rule_of a.kind) a.times.now a.before a.t a.segment c.if-before-t.true past)
-
-pub returns-else-before-t : goal.returns-else-before-t
-returns-else-before-t c rises past = c.segment_on.ensures rises
