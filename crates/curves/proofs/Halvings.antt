@@ -121,4 +121,5 @@ module _ (rule : Rule) (times : List Float) where
 
 -- what the searches cite
 pub ruleset one_lane = (lane_start, lane_inside, lane_next, lane_end)
+
 pub ruleset eight_lanes = (all_start, partly_start, partly_next, partly_end, lane_bound, all_end, lane_inside)
