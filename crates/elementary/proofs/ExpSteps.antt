@@ -1,14 +1,18 @@
 -- exp's definition step by step, and case by case in the order of its tests. Assumes nothing.
 use mathlib.Core.Path.{◌≡◌, refl, sym, ap, ◌∙◌, subst}
 use mathlib.Core.Bool.{Bool, true, false, not, ◌&&◌, ◌||◌, beq}
-use Prim.Native.Nat.{ℕ, ◌*◌, ◌≤◌, ◌<◌}
+use mathlib.Core.List.{List, [], ◌∷◌}
+use Prim.Native.Nat.{ℕ, zero, suc, ◌*◌, ◌≤◌, ◌<◌}
+use native.Mathlib.Nat.{le_of_suc-le-suc, not-suc-le-zero}
 use native.Mathlib.Omega.{arith}
 use borrow.Author.Tests.{le-ltb, eq-eqb}
 use lib.IntN.{ℤ}
+use lib.ListN.{length, get_or}
 use lib.Dec.{T, ltb, eqb, ltb→lt, eqb→eq}
 use lib.Ieee.{Float, nan, inf, fin, binary64, up, down, neg, mul, lt, le, eq, ne, of_bits}
 use lib.Ieee.Fits.{and_l, and_r}
 use lib.Ieee.Compare.{differs_from_itself, nan_differs}
+use Rattle.std.specs.List.{fold}
 use Rattle.numbers.specs.Literals.{seven_hundred_nine, minus_seven_hundred_eight}
 use Rattle.numbers.specs.Clamps.{plus_zero}
 use Rattle.numbers.proofs.Amounts.{passes}
@@ -56,6 +60,21 @@ within_ends (fin false m e) a b = (equals_itself false m e, not_less (m * up e *
 pub further_inside : (before : Bool) (x : Float) → ((before && le x seven_hundred_nine) && le minus_seven_hundred_eight x) ≡ true → (before ≡ true) × Inside x
 further_inside true x h = (refl, within_ends x (and_l (le x seven_hundred_nine) (le minus_seven_hundred_eight x) (passes h)) (and_r (le x seven_hundred_nine) (le minus_seven_hundred_eight x) (passes h)))
 further_inside false x h = absurd (passes h)
+
+-- the same of each number of a row, where one after the other is asked
+abbrev pub still_inside : Bool → Float → Bool
+still_inside before x = (before && le x seven_hundred_nine) && le (neg (of_bits binary64 0x4086_2000_0000_0000)) x
+
+pub all_inside : (before : Bool) (xs : List Float) → fold still_inside before xs ≡ true → (before ≡ true) × ((k : ℕ) → k < length xs → Inside (get_or xs k nan))
+all_inside before [] e = (e, λ k h. absurd (not-suc-le-zero h))
+all_inside before (x ∷ xs) e =
+    let behind = all_inside (still_inside before x) xs e in
+    let here = further_inside before x (rw minus_708 at behind.0) in
+    (here.0, each here.1 behind.1)
+  where
+    each : Inside x → ((k : ℕ) → k < length xs → Inside (get_or xs k nan)) → (k : ℕ) → k < suc (length xs) → Inside (get_or (x ∷ xs) k nan)
+    each here behind zero h = here
+    each here behind (suc k) h = behind k (le_of_suc-le-suc h)
 
 -- ---- the cases
 pub at_nan : (x : Float) → ne x x ≡ true → x ≡ exp x

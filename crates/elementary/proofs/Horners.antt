@@ -1,47 +1,41 @@
--- Horner's rule from the top, turn by turn: from the last coefficient down to the first. Assumes nothing.
-use mathlib.Core.Path.{◌≡◌, refl, sym, ap, ap₂, ◌∙◌}
-use Prim.Native.Nat.{ℕ, suc, ◌+◌, ◌-◌, ◌≤◌, ◌<◌}
-use native.Mathlib.Omega.{arith}
-use lib.Ieee.{Float, binary64, add, mul}
+-- Horner's rule from the top: the last coefficient, and the others folded in, the highest first. Assumes nothing.
+use Rattle.std.proofs.Common.{◌≡◌, refl, sym, ap, ap₂, ◌∙◌, ℕ, zero, suc, ◌+◌, ◌≤◌, ◌<◌, arith, List, [], ◌∷◌, ◌++◌, length, get_or, take, reverse, fold}
+use native.Mathlib.Nat.{le_of_suc-le-suc, not-suc-le-zero}
+use Rattle.std.proofs.lemmas.List.{reverse-append}
+use Rattle.std.proofs.lemmas.List.Sums.{fold-append}
+use Rattle.std.specs.Float.{nan, binary64}
+use Rattle.std.specs.Float.Ieee.{Float, add, mul}
 use Rattle.elementary.specs.Horner.{horner}
+use Rattle.elementary.proofs.Tables.{row, entry}
 
-module _ (a : ℕ → Float) (x : Float) where
-  -- the sum over the coefficients from j to the top n
-  abbrev pub down_to : ℕ → ℕ → Float
-  down_to n j = horner a x j (n - j)
+-- the coefficients of a table
+abbrev pub of_table : List Float → ℕ → Float
+of_table cs k = get_or cs k nan
 
-  pub at_top : (n : ℕ) → a n ≡ down_to n n
+module _ (x : Float) where
+  abbrev pub onto : Float → Float → Float
+  onto sum c = add binary64 (mul binary64 sum x) c
+
+  further_on : (a : ℕ → Float) (j m : ℕ) → horner a x (suc j) m ≡ horner (λ k. a (suc k)) x j m
   unfolding horner
-  at_top n = ap (horner a x n) (none n)
-    where
-      none : (n : ℕ) → 0 ≡ n - n
-      none n = omega arith
+  further_on a j zero = refl
+  further_on a j (suc m) = ap (λ (sum : Float). onto sum (a (suc j))) (further_on a (suc j) m)
 
-  one_more : (j m : ℕ) → add binary64 (mul binary64 (horner a x (suc j) m) x) (a j) ≡ horner a x j (suc m)
+  pub folded : (cs : List Float) (n : ℕ) → n < length cs → fold onto (get_or cs n nan) (reverse (take n cs)) ≡ horner (of_table cs) x 0 n
   unfolding horner
-  one_more j m = refl
+  folded [] n h = absurd (not-suc-le-zero h)
+  folded (c ∷ cs) zero h = refl
+  folded (c ∷ cs) (suc n) h =
+      ap (fold onto (get_or cs n nan)) (reverse-append (c ∷ []) (take n cs))
+      ∙ fold-append onto (get_or cs n nan) (reverse (take n cs)) (c ∷ [])
+      ∙ ap (λ (sum : Float). onto sum c) (folded cs n (le_of_suc-le-suc h))
+      ∙ ap (λ (sum : Float). onto sum c) (sym (further_on (of_table (c ∷ cs)) 0 n))
 
-  pub turn : (n j : ℕ) (sum c : Float) → 0 < j → j ≤ n → sum ≡ down_to n j → c ≡ a (j - 1) → add binary64 (mul binary64 sum x) c ≡ down_to n (j - 1)
-  turn n j sum c h l s e =
-      ap₂ (λ (y z : Float). add binary64 (mul binary64 y x) z) (s ∙ ap (λ (i : ℕ). horner a x i (n - j)) (next j h)) e
-      ∙ one_more (j - 1) (n - j)
-      ∙ ap (horner a x (j - 1)) (left n j h l)
-    where
-      next : (j : ℕ) → 0 < j → j ≡ suc (j - 1)
-      next j h = omega arith
+  -- the coefficients up to the last one are all that counts
+  alike : (a b : ℕ → Float) (j m : ℕ) → ((k : ℕ) → k ≤ j + m → a k ≡ b k) → horner a x j m ≡ horner b x j m
+  unfolding horner
+  alike a b j zero e = e j (omega arith)
+  alike a b j (suc m) e = ap₂ onto (alike a b (suc j) m (λ k h. e k (omega arith))) (e j (omega arith))
 
-      left : (n j : ℕ) → 0 < j → j ≤ n → suc (n - j) ≡ n - (j - 1)
-      left n j h l = omega arith
-
-  -- the same, by the coefficient's own place
-  pub turn_at : (n j : ℕ) (sum c : Float) → j < n → sum ≡ down_to n (j + 1) → c ≡ a j → add binary64 (mul binary64 sum x) c ≡ down_to n j
-  turn_at n j sum c h s e = turn n (j + 1) sum c (omega arith) (omega arith) s (e ∙ ap a (sym (back j))) ∙ ap (down_to n) (back j)
-    where
-      back : (j : ℕ) → j + 1 - 1 ≡ j
-      back j = omega arith
-
-  pub ended : (n j : ℕ) → j ≡ 0 → down_to n j ≡ horner a x 0 n
-  ended n j z = ap (down_to n) z ∙ ap (horner a x 0) (whole n)
-    where
-      whole : (n : ℕ) → n - 0 ≡ n
-      whole n = omega arith
+  pub by_table : (rule : ℕ → Float) (table : List Float) (n : ℕ) → table ≡ row rule 0 (suc n) → horner (of_table table) x 0 n ≡ horner rule x 0 n
+  by_table rule table n is = alike (of_table table) rule 0 n (λ k h. entry rule table (suc n) is k (omega arith))

@@ -14,6 +14,7 @@ pub mod NearestSmall
 pub mod Multiples
 pub mod ExpSteps
 pub mod ExpFinite
+pub mod InPlace
 pub mod PartWay
 pub mod Lanes
 pub mod InARow

@@ -1,6 +1,7 @@
 -- ln's definition case by case, and its m and e by the bit pattern of x, or of x * 2 ^ 54 for a subnormal. Assumes nothing.
 use mathlib.Core.Path.{◌≡◌, refl, ap, ap₂, ◌∙◌, subst}
 use mathlib.Core.Bool.{true, false, not}
+use mathlib.Core.Logic.{◌⊎◌, inl, inr}
 use Prim.Native.Nat.{ℕ, zero, suc, ◌+◌, ◌*◌, ◌/◌, ◌%◌, ◌^◌, ◌≤◌, ◌<◌}
 use native.Mathlib.Nat.{mul-one, mul-pos, mul-div_cancel, zero-lt-suc, lt_of_lt_of_le}
 use native.Mathlib.Omega.{arith}
@@ -122,3 +123,11 @@ ln_normal = above_zero (λ x. lt x smallest_normal ≡ false → LnBy x (to_bits
 
 pub ln_subnormal : (x : Float) → fits binary64 x ≡ true → lt plus_zero x ≡ true → finite x ≡ true → lt x smallest_normal ≡ true → LnBy x (to_bits binary64 (mul binary64 x scale)) 1077
 ln_subnormal = above_zero (λ x. lt x smallest_normal ≡ true → LnBy x (to_bits binary64 (mul binary64 x scale)) 1077) (λ n k p h. ln_by_lem n k (to_bits binary64 (mul binary64 (fin false (suc n) k) scale)) 1077 (read_subnormal n k p h))
+
+-- the number that is read, with its bias: x itself, or x times 2 ^ 54 where it is a subnormal
+abbrev pub Scaled : Float → Float × ℕ → Type 0
+Scaled v y = ((lt v smallest_normal ≡ true) × (y ≡ (mul binary64 v scale, 1077))) ⊎ ((lt v smallest_normal ≡ false) × (y ≡ (v, 1023)))
+
+pub ln_scaled : (x : Float) → fits binary64 x ≡ true → lt plus_zero x ≡ true → finite x ≡ true → (p : ℕ) (y : Float × ℕ) → p ≡ to_bits binary64 y.0 → Scaled x y → LnBy x p y.1
+ln_scaled v f h g p y e (inl w) = rw (e, w.1) (ln_subnormal v f h g w.0)
+ln_scaled v f h g p y e (inr w) = rw (e, w.1) (ln_normal v f h g w.0)

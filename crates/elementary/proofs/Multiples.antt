@@ -142,6 +142,16 @@ module _ (x : Float) (number : ne x x ≡ false) (not_above_lem : lt seven_hundr
       (λ w. ap nearby w.0 ∙ zero_as_it_is ∙ ap (λ (z : Float). of_int binary64 (pos (nearest_whole (absolute z)))) (sym w.1))
       cases
 
+-- the sign taken off before, and put back after
+pub signed_as_it_is : (x : Float) → ne x x ≡ false → lt seven_hundred_nine x ≡ false → lt x minus_seven_hundred_eight ≡ false
+    → (sign : Bool) → below x ≡ sign → (a k : Float) → a ≡ cond sign (neg (mul binary64 x inverse_ln2)) (mul binary64 x inverse_ln2)
+    → le (add binary64 (nearby a) half) a ≡ false → k ≡ cond sign (neg (nearby a)) (nearby a) → k ≡ signed (below x) (halvings x)
+unfolding below
+signed_as_it_is x number not_above not_beneath true is a k size none back =
+    back ∙ ap neg (size_as_it_is x number not_above not_beneath a (inl (is, size)) none) ∙ sym (ap (λ (s : Bool). signed s (halvings x)) is)
+signed_as_it_is x number not_above not_beneath false is a k size none back =
+    back ∙ size_as_it_is x number not_above not_beneath a (inr (is, size)) none ∙ sym (ap (λ (s : Bool). signed s (halvings x)) is)
+
 -- ---- 2 to the power k: 2 ^ 52 + 1023 is added, and the exponent's field 1023 + k stands in the last digits
 abbrev pub field_lift : Float
 field_lift = of_bits binary64 0x4330_0000_0000_03ff

@@ -1,11 +1,12 @@
 // exp: the nearest multiple of ln 2 is taken off, then Horner's rule over the rest, times the power of two.
-ghost use Rattle.std.specs.Prelude.{◌≡◌, true, false, map, ℕ, ◌<◌, ◌≤◌, ◌%◌, length, get_or, pos};
+ghost use Rattle.std.specs.Prelude.{◌≡◌, true, false, cond, map, ℕ, ◌<◌, ◌≤◌, ◌%◌, length, get_or, pos};
 ghost use Rattle.std.specs.Float.{nan, binary64};
-ghost use Rattle.std.specs.Float.Ieee.{lt, ne, of_int};
+ghost use Rattle.std.specs.Float.Ieee.{neg, lt, ne, of_int};
 ghost use Rattle.numbers.specs.Literals.{seven_hundred_nine, minus_seven_hundred_eight};
 ghost use Rattle.elementary.specs.Horner.{horner};
 ghost use Rattle.elementary.specs.Exp.{inverse_factorial, signed, two_to, reduced, below, halvings, exp};
 
+use crate::horner::horner;
 use numbers::sizes::infinity;
 
 // 1/k! for k from 0 to 13, each rounded once.
@@ -26,24 +27,10 @@ const INVERSE_FACTORIALS: [f64; 14] = [
     1.6059043836821613e-10,
 ];
 
-fn inverse_factorial(k: usize) -> f64
-    requires { k < 14 }
-    ensures { result ≡ inverse_factorial k }
-{
-    INVERSE_FACTORIALS[k]
-}
-
-// Horner from the top.
 fn series(r: f64) -> f64
     ensures { result ≡ horner inverse_factorial r 0 13 }
 {
-    let mut sum = inverse_factorial(13);
-    let mut k: usize = 13;
-    while k > 0 {
-        k -= 1;
-        sum = sum * r + inverse_factorial(k);
-    }
-    sum
+    horner(&INVERSE_FACTORIALS, r)
 }
 
 // x less k times ln 2, in two parts.
@@ -101,29 +88,23 @@ fn between_ends(x: f64) -> f64
     by_multiple(x, multiple_of(x))
 }
 
-// The same where x / ln 2 is below zero: nothing waits for the test for a half, which is rare.
-fn below_zero(x: f64) -> f64
-    requires { (ne x x ≡ false) × (lt seven_hundred_nine x ≡ false) × (lt x minus_seven_hundred_eight ≡ false) × (below x ≡ true) }
-    ensures { result ≡ exp x }
+fn with_sign<const BELOW: bool>(y: f64) -> f64
+    ensures { result ≡ cond BELOW (neg y) y }
 {
-    let a = -(x * 1.4426950408889634);
-    let n = (a + 4503599627370496.0) - 4503599627370496.0;
-    if a >= n + 0.5 {
-        return between_ends(x);
-    }
-    by_multiple(x, -n)
+    if BELOW { -y } else { y }
 }
 
-fn not_below_zero(x: f64) -> f64
-    requires { (ne x x ≡ false) × (lt seven_hundred_nine x ≡ false) × (lt x minus_seven_hundred_eight ≡ false) × (below x ≡ false) }
+// The same where it is known whether x / ln 2 is below zero: nothing waits for the test for a half, which is rare.
+fn on_side<const BELOW: bool>(x: f64) -> f64
+    requires { (ne x x ≡ false) × (lt seven_hundred_nine x ≡ false) × (lt x minus_seven_hundred_eight ≡ false) × (below x ≡ BELOW) }
     ensures { result ≡ exp x }
 {
-    let a = x * 1.4426950408889634;
+    let a = with_sign::<BELOW>(x * 1.4426950408889634);
     let n = (a + 4503599627370496.0) - 4503599627370496.0;
     if a >= n + 0.5 {
         return between_ends(x);
     }
-    by_multiple(x, n)
+    by_multiple(x, with_sign::<BELOW>(n))
 }
 
 pub fn exp(x: f64) -> f64
@@ -139,9 +120,9 @@ pub fn exp(x: f64) -> f64
         return 0.0;
     }
     if x * 1.4426950408889634 < 0.0 {
-        return below_zero(x);
+        return on_side::<true>(x);
     }
-    not_below_zero(x)
+    on_side::<false>(x)
 }
 
 // Whether each is a number between the ends; all are asked alike, so that several are asked at once.
@@ -151,91 +132,40 @@ fn all_inside(numbers: &[f64]) -> bool
         × (lt seven_hundred_nine (get_or numbers.now k nan) ≡ false)
         × (lt (get_or numbers.now k nan) minus_seven_hundred_eight ≡ false) }
 {
-    let mut inside = true;
-    let mut j: usize = 0;
-    while j < numbers.len() {
-        let x = numbers[j];
-        inside = inside & (x <= 709.0) & (x >= -708.0);
-        j += 1;
-    }
-    inside
+    numbers
+        .iter()
+        .fold(true, |inside, x| inside & (*x <= 709.0) & (*x >= -708.0))
 }
 
 // Each number's exp in its place, one at a time.
 fn exp_one_by_one(numbers: &mut [f64])
     ensures { numbers.new ≡ map exp numbers.old }
 {
-    let mut j: usize = 0;
-    while j < numbers.len() {
-        numbers[j] = exp(numbers[j]);
-        j += 1;
+    for x in numbers.iter_mut() {
+        *x = exp(*x);
     }
 }
 
-// Sixteen at once, where each is a number between the ends.
-fn exp_sixteen(numbers: &mut [f64])
-    requires { length numbers.old ≡ 16 }
+// N at once, where each is a number between the ends.
+fn exp_block<const N: usize>(numbers: &mut [f64])
+    requires { length numbers.old ≡ N }
     ensures { numbers.new ≡ map exp numbers.old }
 {
-    if all_inside(numbers) {
-        let mut rests = [0.0; 16];
-        let mut scales = [0.0; 16];
-        let mut j: usize = 0;
-        while j < 16 {
-            let x = numbers[j];
-            let k = multiple_of(x);
-            rests[j] = taken_off(x, k);
-            scales[j] = scale_of(x, k);
-            j += 1;
-        }
-        let mut i: usize = 0;
-        while i < 16 {
-            numbers[i] = series(rests[i]) * scales[i];
-            i += 1;
-        }
-    } else {
+    if !all_inside(numbers) {
         exp_one_by_one(numbers);
+        return;
     }
-}
-
-// Eight at once, where each is a number between the ends.
-fn exp_eight(numbers: &mut [f64])
-    requires { length numbers.old ≡ 8 }
-    ensures { numbers.new ≡ map exp numbers.old }
-{
-    if all_inside(numbers) {
-        let mut rests = [0.0; 8];
-        let mut scales = [0.0; 8];
-        let mut j: usize = 0;
-        while j < 8 {
-            let x = numbers[j];
-            let k = multiple_of(x);
-            rests[j] = taken_off(x, k);
-            scales[j] = scale_of(x, k);
-            j += 1;
-        }
-        let mut i: usize = 0;
-        while i < 8 {
-            numbers[i] = series(rests[i]) * scales[i];
-            i += 1;
-        }
-    } else {
-        exp_one_by_one(numbers);
+    let mut rests = [0.0; N];
+    let mut scales = [0.0; N];
+    for j in 0..N {
+        let x = numbers[j];
+        let k = multiple_of(x);
+        rests[j] = taken_off(x, k);
+        scales[j] = scale_of(x, k);
     }
-}
-
-// The numbers, and zeros behind them.
-fn filled_up(numbers: &[f64]) -> [f64; 16]
-    requires { length numbers.now ≤ 16 }
-    ensures { (length result ≡ 16) × ((k : ℕ) → k < length numbers.now → get_or result k nan ≡ get_or numbers.now k nan) }
-{
-    let mut room = [0.0; 16];
-    let mut j: usize = 0;
-    while j < numbers.len() {
-        room[j] = numbers[j];
-        j += 1;
+    for i in 0..N {
+        numbers[i] = series(rests[i]) * scales[i];
     }
-    room
 }
 
 // Whole blocks of sixteen.
@@ -243,11 +173,9 @@ fn exp_blocks(numbers: &mut [f64])
     requires { length numbers.old % 16 ≡ 0 }
     ensures { numbers.new ≡ map exp numbers.old }
 {
-    let mut at: usize = 0;
-    while at < numbers.len() {
-        let end = at + 16;
-        exp_sixteen(&mut numbers[at..end]);
-        at = end;
+    for k in 0..numbers.len() / 16 {
+        let at = 16 * k;
+        exp_block::<16>(&mut numbers[at..at + 16]);
     }
 }
 
@@ -256,13 +184,11 @@ fn exp_few(numbers: &mut [f64])
     requires { length numbers.old ≤ 16 }
     ensures { numbers.new ≡ map exp numbers.old }
 {
-    let mut room = filled_up(numbers);
-    exp_blocks(&mut room);
-    let mut j: usize = 0;
-    while j < numbers.len() {
-        numbers[j] = room[j];
-        j += 1;
-    }
+    let mut room = [0.0; 16];
+    let end = numbers.len();
+    room[..end].copy_from_slice(numbers);
+    exp_block::<16>(&mut room);
+    numbers.copy_from_slice(&room[..end]);
 }
 
 // Fewer than sixteen: up to four are quicker one by one, and eight, which a search asks for again and again, have a block of their own.
@@ -271,7 +197,7 @@ fn exp_last(numbers: &mut [f64])
     ensures { numbers.new ≡ map exp numbers.old }
 {
     if numbers.len() == 8 {
-        exp_eight(numbers);
+        exp_block::<8>(numbers);
     } else if numbers.len() <= 4 {
         exp_one_by_one(numbers);
     } else {
@@ -283,8 +209,8 @@ fn exp_last(numbers: &mut [f64])
 pub fn exp_each(numbers: &mut [f64])
     ensures { numbers.new ≡ map exp numbers.old }
 {
-    let start: usize = 0;
     let end = numbers.len() - numbers.len() % 16;
-    exp_blocks(&mut numbers[start..end]);
-    exp_last(&mut numbers[end..]);
+    let (blocks, last) = numbers.split_at_mut(end);
+    exp_blocks(blocks);
+    exp_last(last);
 }

@@ -2,6 +2,7 @@
 #![tactic(auto)]
 
 pub mod exp;
+mod horner;
 pub mod ln;
 pub mod power;
 pub mod powers;

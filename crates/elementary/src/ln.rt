@@ -9,6 +9,7 @@ ghost use Rattle.numbers.specs.Clamps.{plus_zero};
 ghost use Rattle.elementary.specs.Horner.{horner};
 ghost use Rattle.elementary.specs.Ln.{inverse_odd, slope, ln_of, ln_by, ln};
 
+use crate::horner::horner;
 use numbers::patterns::pattern_of;
 use numbers::sizes::{infinity, is_finite};
 
@@ -27,24 +28,10 @@ const INVERSE_ODDS: [f64; 11] = [
     0.047619047619047616,
 ];
 
-fn inverse_odd(j: usize) -> f64
-    requires { j < 11 }
-    ensures { result ≡ inverse_odd j }
-{
-    INVERSE_ODDS[j]
-}
-
-// Horner from the top.
 fn series(w: f64) -> f64
     ensures { result ≡ horner inverse_odd w 0 10 }
 {
-    let mut sum = inverse_odd(10);
-    let mut j: usize = 10;
-    while j > 0 {
-        j -= 1;
-        sum = sum * w + inverse_odd(j);
-    }
-    sum
+    horner(&INVERSE_ODDS, w)
 }
 
 fn slope_of(m: f64) -> f64
@@ -83,12 +70,11 @@ fn ln_above_zero(x: f64) -> f64
     requires { (lt plus_zero x ≡ true) × (finite x ≡ true) }
     ensures { result ≡ ln x }
 {
-    let mut y = x;
-    let mut bias: u32 = 1023;
-    if x < 2.2250738585072014e-308 {
-        y = x * 18014398509481984.0;
-        bias = 1077;
-    }
+    let (y, bias) = if x < 2.2250738585072014e-308 {
+        (x * 18014398509481984.0, 1077)
+    } else {
+        (x, 1023)
+    };
     let pattern = pattern_of(y);
     let m = f64::from_bits(0x3ff0_0000_0000_0000 + pattern % 0x10_0000_0000_0000);
     ln_of_parts(m, (pattern / 0x10_0000_0000_0000) as u32, bias)

@@ -44,10 +44,8 @@ fn first_sixteen(base: f64) -> [f64; 16]
 fn multiply_each(numbers: &mut [f64], by: f64)
     ensures { numbers.new ≡ map (λ x. mul binary64 x by) numbers.old }
 {
-    let mut i: usize = 0;
-    while i < numbers.len() {
-        numbers[i] = numbers[i] * by;
-        i += 1;
+    for x in numbers.iter_mut() {
+        *x *= by;
     }
 }
 

@@ -13,16 +13,10 @@ returns-then-x-2 c = c.infinity.ensures ∙ above c.args.x c.if-x.false c.if-x-2
 pub returns-then-x-3 : goal.returns-then-x-3
 returns-then-x-3 c = beneath c.args.x c.if-x.false c.if-x-2.false (rw minus_708 at c.if-x-3.true)
 
-pub below_zero-requires : goal.below_zero-requires
+pub on_side-requires : goal.on_side-requires
 unfolding below
-below_zero-requires c = (c.if-x.false, c.if-x-2.false, rw minus_708 at c.if-x-3.false, c.if-x-4.true)
+on_side-requires c = (c.if-x.false, c.if-x-2.false, rw minus_708 at c.if-x-3.false, c.if-x-4.true)
 
-pub returns-then-x-4 : goal.returns-then-x-4
-returns-then-x-4 c = c.below_zero.ensures
-
-pub not_below_zero-requires : goal.not_below_zero-requires
+pub on_side-requires-2 : goal.on_side-requires-2
 unfolding below
-not_below_zero-requires c = (c.if-x.false, c.if-x-2.false, rw minus_708 at c.if-x-3.false, c.if-x-4.false)
-
-pub returns : goal.returns
-returns c = c.not_below_zero.ensures
+on_side-requires-2 c = (c.if-x.false, c.if-x-2.false, rw minus_708 at c.if-x-3.false, c.if-x-4.false)
