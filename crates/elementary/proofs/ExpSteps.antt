@@ -18,15 +18,12 @@ use Rattle.numbers.specs.Clamps.{plus_zero}
 use Rattle.numbers.proofs.Amounts.{passes}
 use Rattle.elementary.specs.Horner.{horner}
 use Rattle.elementary.specs.Exp.{inverse_factorial, below, halvings, signed, two_to, reduced, exp_within, exp_not_above, exp_of, exp}
+use Rattle.elementary.specs.inner.Ends.{Inside}
 
 -- -708 as the program writes it
 pub minus_708 : neg (of_bits binary64 0x4086_2000_0000_0000) ≡ minus_seven_hundred_eight
 unfolding neg of_bits
 minus_708 = refl
-
--- neither a NaN nor beyond an end
-abbrev pub Inside : Float → Type 0
-Inside x = (ne x x ≡ false) × (lt seven_hundred_nine x ≡ false) × (lt x minus_seven_hundred_eight ≡ false)
 
 -- two tests tell as much: a NaN passes neither
 not_less : (a b : ℕ) (same t : Bool) → (T same → a ≡ b) → T (ltb a b || (same && t)) → ltb b a ≡ false
@@ -100,7 +97,7 @@ unfolding exp_not_above
 beneath x n h l = sym (not_above_lem x n h ∙ ap (λ (b : Bool). exp_not_above b x) l)
 
 -- the steps, each by what the program has of the one before
-pub steps : (x : Float) → ne x x ≡ false → lt seven_hundred_nine x ≡ false → lt x minus_seven_hundred_eight ≡ false → (r p t : Float)
+pub steps : (x : Float) → Inside x → (r p t : Float)
     → r ≡ reduced x (signed (below x) (halvings x)) → p ≡ horner inverse_factorial r 0 13 → t ≡ two_to (below x) (halvings x) → mul binary64 p t ≡ exp x
 unfolding exp_not_above exp_within
-steps x n h l r p t er ep et = rw (ep, er, et) (sym (not_above_lem x n h ∙ ap (λ (b : Bool). exp_not_above b x) l))
+steps x inside r p t er ep et = rw (ep, er, et) (sym (not_above_lem x inside.0 inside.1 ∙ ap (λ (b : Bool). exp_not_above b x) inside.2))

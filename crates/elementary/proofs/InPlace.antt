@@ -1,5 +1,5 @@
 -- A list that f has gone over up to place a, and then over its part from there to place b at once. Assumes nothing.
-use Rattle.std.proofs.Common.{◌≡◌, refl, sym, ap, ap₂, ◌∙◌, ℕ, ◌+◌, ◌-◌, ◌≤◌, ◌<◌, arith, List, ◌++◌, length, get_or, set, map, take, drop, append_assoc, length-take-le}
+use Rattle.std.proofs.Common.{◌≡◌, sym, ap, ◌∙◌, ℕ, ◌+◌, ◌-◌, ◌≤◌, ◌<◌, arith, List, ◌++◌, length, get_or, set, map, take, drop, append_assoc, length-take-le}
 use borrow.Rule.Slice.PartMut.{put_mid}
 use Rattle.std.proofs.lemmas.List.{map-append, length-map, take_at, drop_at, drop-drop}
 use Rattle.std.proofs.lemmas.List.Edits.{map_over_more}

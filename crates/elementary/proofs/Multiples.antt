@@ -1,6 +1,6 @@
 -- exp's k as the program finds it, where x passes neither end: its size by the nearest whole number to a small size, and 2 to its power by the last digits of a float over 2 ^ 52.
 -- Assumes nothing.
-use mathlib.Core.Path.{◌≡◌, refl, sym, ap, ◌∙◌, subst}
+use mathlib.Core.Path.{◌≡◌, refl, sym, ap, ap₂, ◌∙◌, subst}
 use mathlib.Core.Bool.{Bool, true, false, not, cond}
 use mathlib.Core.Logic.{◌⊎◌, inl, inr, ⊎_elim}
 use Prim.Native.Nat.{ℕ, ◌+◌, ◌-◌, ◌*◌, ◌/◌, ◌%◌, ◌^◌, ◌≤◌, ◌<◌}
@@ -22,6 +22,7 @@ use Rattle.numbers.specs.Units.{units}
 use Rattle.numbers.specs.Whole.{nearest_whole}
 use Rattle.numbers.proofs.Amounts.{passes, amount, counts}
 use Rattle.elementary.specs.Exp.{below, halvings, signed, two_to}
+use Rattle.elementary.specs.inner.Ends.{Inside}
 use Rattle.elementary.proofs.Bounds.{Within, round_within}
 use Rattle.elementary.proofs.Halvings.{numerator, product_size, in_range, few_halvings}
 use Rattle.elementary.proofs.NearestSmall.{lift, goes_up, stays}
@@ -78,10 +79,6 @@ as_it_is nan p h = absurd p.0
 as_it_is (inf s) p h = absurd p.0
 as_it_is (fin s m e) p h = stays m e p.0 p.1 h
 
--- the size as the program has it: below zero the number turned round, else the number itself, which may be -0
-abbrev pub Sized : Float → Float → Type 0
-Sized y a = ((lt y plus_zero ≡ true) × (a ≡ neg y)) ⊎ ((lt y plus_zero ≡ false) × (a ≡ y))
-
 minus_zero : Float
 minus_zero = fin true 0 (pos 0)
 
@@ -107,9 +104,9 @@ kept (fin true m e) f h = inr (whole_unique binary64 (fin true m e) (fin true 0 
     none : (a d : ℕ) → a + 0 * 1 * d ≤ 0 → a ≡ 0 * d
     none a d h = omega arith
 
-sized : (y a : Float) → T (fits binary64 y) → Sized y a → (a ≡ absolute y) ⊎ ((a ≡ minus_zero) × (y ≡ minus_zero))
-sized y a f (inl w) = inl (w.1 ∙ turned y w.0)
-sized y a f (inr w) = ⊎_elim (λ h. inl (w.1 ∙ h)) (λ h. inr (w.1 ∙ h, h)) (kept y f w.0)
+sized : (y a : Float) (sign : Bool) → T (fits binary64 y) → lt y plus_zero ≡ sign → a ≡ cond sign (neg y) y → (a ≡ absolute y) ⊎ ((a ≡ minus_zero) × (y ≡ minus_zero))
+sized y a true f s e = inl (e ∙ turned y s)
+sized y a false f s e = ⊎_elim (λ h. inl (e ∙ h)) (λ h. inr (e ∙ h, h)) (kept y f s)
 
 zero_stays : le (add binary64 (nearby minus_zero) half) minus_zero ≡ false
 unfolding le lt eq add sub of_bits minus_zero
@@ -119,38 +116,35 @@ zero_as_it_is : nearby minus_zero ≡ of_int binary64 (pos (nearest_whole (absol
 unfolding add sub of_bits of_int nearest_whole absolute minus_zero
 zero_as_it_is = refl
 
-module _ (x : Float) (number : ne x x ≡ false) (not_above_lem : lt seven_hundred_nine x ≡ false) (not_beneath : lt x minus_seven_hundred_eight ≡ false) (a : Float) (is : Sized (mul binary64 x inverse_ln2) a) where
+module _ (x : Float) (inside : Inside x) where
   abbrev y : Float
   y = mul binary64 x inverse_ln2
 
-  cases : (a ≡ absolute y) ⊎ ((a ≡ minus_zero) × (y ≡ minus_zero))
-  cases = sized y a (mul-fits binary64 x inverse_ln2) is
+  -- the size, whose sign is taken off as it is found or known: below zero the number turned round, else the number itself, which may be -0
+  module _ (sign : Bool) (is : below x ≡ sign) (a n : Float) (size : a ≡ cond sign (neg y) y) (near : n ≡ nearby a) where
+    cases : (a ≡ absolute y) ⊎ ((a ≡ minus_zero) × (y ≡ minus_zero))
+    unfolding below
+    cases = sized y a sign (mul-fits binary64 x inverse_ln2) is size
 
-  pub size_up : le (add binary64 (nearby a) half) a ≡ true → add binary64 (nearby a) one ≡ of_int binary64 (pos (halvings x))
-  unfolding halvings
-  size_up h =
-      ⊎_elim
-      (λ w. rw w (up_by_one y (small_size x number not_above_lem not_beneath) (rw w at h)))
-      (λ w. absurd (subst T (sym (rw w.0 at h) ∙ zero_stays) tt))
-      cases
+    pub size_up : le (add binary64 n half) a ≡ true → add binary64 n one ≡ of_int binary64 (pos (halvings x))
+    unfolding halvings
+    size_up h =
+        ⊎_elim
+        (λ w. rw near (rw w (up_by_one y (small_size x inside.0 inside.1 inside.2) (rw w at (rw near at h)))))
+        (λ w. absurd (subst T (sym (rw w.0 at (rw near at h)) ∙ zero_stays) tt))
+        cases
 
-  pub size_as_it_is : le (add binary64 (nearby a) half) a ≡ false → nearby a ≡ of_int binary64 (pos (halvings x))
-  unfolding halvings
-  size_as_it_is h =
-      ⊎_elim
-      (λ w. rw w (as_it_is y (small_size x number not_above_lem not_beneath) (rw w at h)))
-      (λ w. ap nearby w.0 ∙ zero_as_it_is ∙ ap (λ (z : Float). of_int binary64 (pos (nearest_whole (absolute z)))) (sym w.1))
-      cases
+    pub size_as_it_is : le (add binary64 n half) a ≡ false → n ≡ of_int binary64 (pos (halvings x))
+    unfolding halvings
+    size_as_it_is h =
+        ⊎_elim
+        (λ w. rw near (rw w (as_it_is y (small_size x inside.0 inside.1 inside.2) (rw w at (rw near at h)))))
+        (λ w. near ∙ ap nearby w.0 ∙ zero_as_it_is ∙ ap (λ (z : Float). of_int binary64 (pos (nearest_whole (absolute z)))) (sym w.1))
+        cases
 
--- the sign taken off before, and put back after
-pub signed_as_it_is : (x : Float) → ne x x ≡ false → lt seven_hundred_nine x ≡ false → lt x minus_seven_hundred_eight ≡ false
-    → (sign : Bool) → below x ≡ sign → (a k : Float) → a ≡ cond sign (neg (mul binary64 x inverse_ln2)) (mul binary64 x inverse_ln2)
-    → le (add binary64 (nearby a) half) a ≡ false → k ≡ cond sign (neg (nearby a)) (nearby a) → k ≡ signed (below x) (halvings x)
-unfolding below
-signed_as_it_is x number not_above not_beneath true is a k size none back =
-    back ∙ ap neg (size_as_it_is x number not_above not_beneath a (inl (is, size)) none) ∙ sym (ap (λ (s : Bool). signed s (halvings x)) is)
-signed_as_it_is x number not_above not_beneath false is a k size none back =
-    back ∙ size_as_it_is x number not_above not_beneath a (inr (is, size)) none ∙ sym (ap (λ (s : Bool). signed s (halvings x)) is)
+    -- the sign put back
+    pub signed_as_it_is : (k : Float) → le (add binary64 n half) a ≡ false → k ≡ cond sign (neg n) n → k ≡ signed (below x) (halvings x)
+    signed_as_it_is k h back = back ∙ ap₂ (λ (s : Bool) (m : Float). cond s (neg m) m) (sym is) (size_as_it_is h)
 
 -- ---- 2 to the power k: 2 ^ 52 + 1023 is added, and the exponent's field 1023 + k stands in the last digits
 abbrev pub field_lift : Float
@@ -244,5 +238,5 @@ scales true n h =
     turn : (n : ℕ) → n ≤ 1022 → 2 ^ 52 + 1023 - n ≡ 2 ^ 52 + (1023 - n)
     turn n h = omega arith
 
-pub scales_of : (x k : Float) → lt seven_hundred_nine x ≡ false → lt x minus_seven_hundred_eight ≡ false → k ≡ signed (below x) (halvings x) → Scales k (below x) (halvings x)
-scales_of x k a b e = rw e (scales (below x) (halvings x) (few_halvings x a b))
+pub scales_of : (x k : Float) → Inside x → k ≡ signed (below x) (halvings x) → Scales k (below x) (halvings x)
+scales_of x k inside e = rw e (scales (below x) (halvings x) (few_halvings x inside.1 inside.2))

@@ -83,22 +83,6 @@ module _ {f : Float → Float} {n : ℕ} {xs ys : List Float} {j : ℕ} (p : Pas
   pub all_passed : n ≤ j → ys ≡ map f xs
   all_passed h = p.so_far ∙ at_end_lem f (λ x. x) j xs (omega arith)
 
--- the same number at each place
-pub copies : (n : ℕ) (v : Float) (xs : List Float) → length xs ≡ n → replicate n v ≡ map (λ (x : Float). v) xs
-copies zero v [] e = refl
-copies zero v (x ∷ xs) e = absurd (none (length xs) e)
-  where
-    none : (n : ℕ) → suc n ≡ 0 → ⊥
-    none n e = omega arith
-copies (suc n) v [] e = absurd (none n e)
-  where
-    none : (n : ℕ) → 0 ≡ suc n → ⊥
-    none n e = omega arith
-copies (suc n) v (x ∷ xs) e = ap (λ (r : List Float). v ∷ r) (copies n v xs (less (length xs) n e))
-  where
-    less : (a b : ℕ) → suc a ≡ suc b → a ≡ b
-    less a b e = omega arith
-
 -- ---- places copied one by one
 pub copied_further : (xs ys : List Float) (j : ℕ) → j < length ys → ((k : ℕ) → k < j → get_or ys k nan ≡ get_or xs k nan)
     → (k : ℕ) → k < j + 1 → get_or (set ys j (get_or xs j nan)) k nan ≡ get_or xs k nan

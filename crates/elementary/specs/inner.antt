@@ -1,2 +1,3 @@
 -- What the helpers of this crate promise one another, and no public function: nothing here need be believed.
+pub mod Ends
 pub mod Squared

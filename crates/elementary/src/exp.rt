@@ -1,10 +1,10 @@
 // exp: the nearest multiple of ln 2 is taken off, then Horner's rule over the rest, times the power of two.
-ghost use Rattle.std.specs.Prelude.{◌≡◌, true, false, cond, map, ℕ, ◌<◌, ◌≤◌, ◌%◌, length, get_or, pos};
+ghost use Rattle.std.specs.Prelude.{◌≡◌, true, cond, map, ℕ, ◌<◌, ◌≤◌, ◌%◌, length, get_or, pos};
 ghost use Rattle.std.specs.Float.{nan, binary64};
-ghost use Rattle.std.specs.Float.Ieee.{neg, lt, ne, of_int};
-ghost use Rattle.numbers.specs.Literals.{seven_hundred_nine, minus_seven_hundred_eight};
+ghost use Rattle.std.specs.Float.Ieee.{add, sub, neg, of_int};
 ghost use Rattle.elementary.specs.Horner.{horner};
 ghost use Rattle.elementary.specs.Exp.{inverse_factorial, signed, two_to, reduced, below, halvings, exp};
+ghost use Rattle.elementary.specs.inner.Ends.{Inside};
 
 use crate::horner::horner;
 use numbers::sizes::infinity;
@@ -33,6 +33,8 @@ fn series(r: f64) -> f64
     horner(&INVERSE_FACTORIALS, r)
 }
 
+const INVERSE_LN2: f64 = 1.4426950408889634;
+
 // x less k times ln 2, in two parts.
 fn taken_off(x: f64, k: f64) -> f64
     ensures { result ≡ reduced x k }
@@ -40,71 +42,78 @@ fn taken_off(x: f64, k: f64) -> f64
     (x - k * 6.93147180369123816490e-01) - k * 1.90821492927058770002e-10
 }
 
-// The size of k, the nearest whole number to x / ln 2, where x passes neither end.
-// 2^52 added and taken off leaves the nearest, halves to even; where a half was left off, it goes up.
+fn negated_if(below: bool, y: f64) -> f64
+    ensures { result ≡ cond below (neg y) y }
+{
+    if below { -y } else { y }
+}
+
+const TWO_TO_52: f64 = 4503599627370496.0;
+
+// The nearest whole number to a size, halves to even: a float over 2^52 has no digit behind the point.
+fn nearest(a: f64) -> f64
+    ensures { result ≡ sub binary64 (add binary64 a TWO_TO_52) TWO_TO_52 }
+{
+    (a + TWO_TO_52) - TWO_TO_52
+}
+
+// The size of k, the nearest whole number to x / ln 2, where x passes neither end: where a half was left off, it goes up.
+// The sign goes as it comes back, by a test: by `absolute_value` eight at once take 6% more instructions.
 fn size_of(x: f64) -> f64
-    requires { (ne x x ≡ false) × (lt seven_hundred_nine x ≡ false) × (lt x minus_seven_hundred_eight ≡ false) }
+    requires { Inside x }
     ensures { result ≡ of_int binary64 (pos (halvings x)) }
 {
-    let y = x * 1.4426950408889634;
-    let a = if y < 0.0 { -y } else { y };
-    let n = (a + 4503599627370496.0) - 4503599627370496.0;
+    let y = x * INVERSE_LN2;
+    let a = negated_if(y < 0.0, y);
+    let n = nearest(a);
     if a >= n + 0.5 { n + 1.0 } else { n }
 }
 
 // k with its sign.
 fn multiple_of(x: f64) -> f64
-    requires { (ne x x ≡ false) × (lt seven_hundred_nine x ≡ false) × (lt x minus_seven_hundred_eight ≡ false) }
+    requires { Inside x }
     ensures { result ≡ signed (below x) (halvings x) }
 {
-    let size = size_of(x);
-    if x * 1.4426950408889634 < 0.0 {
-        -size
-    } else {
-        size
-    }
+    negated_if(x * INVERSE_LN2 < 0.0, size_of(x))
 }
 
 // 2 to the power k: over 2^52 the last digits of a float are a whole number, here the exponent's field.
 fn scale_of(x: f64, k: f64) -> f64
-    requires { (lt seven_hundred_nine x ≡ false) × (lt x minus_seven_hundred_eight ≡ false) × (k ≡ signed (below x) (halvings x)) }
+    requires inside { Inside x }
+    requires multiple { k ≡ signed (below x) (halvings x) }
     ensures { result ≡ two_to (below x) (halvings x) }
 {
-    f64::from_bits(f64::to_bits(k + 4503599627371519.0) << 52)
+    f64::from_bits((k + 4503599627371519.0).to_bits() << 52)
 }
 
 // The steps that follow from k.
 fn by_multiple(x: f64, k: f64) -> f64
-    requires { (ne x x ≡ false) × (lt seven_hundred_nine x ≡ false) × (lt x minus_seven_hundred_eight ≡ false) × (k ≡ signed (below x) (halvings x)) }
+    requires inside { Inside x }
+    requires multiple { k ≡ signed (below x) (halvings x) }
     ensures { result ≡ exp x }
 {
     series(taken_off(x, k)) * scale_of(x, k)
 }
 
 fn between_ends(x: f64) -> f64
-    requires { (ne x x ≡ false) × (lt seven_hundred_nine x ≡ false) × (lt x minus_seven_hundred_eight ≡ false) }
+    requires { Inside x }
     ensures { result ≡ exp x }
 {
     by_multiple(x, multiple_of(x))
 }
 
-fn with_sign<const BELOW: bool>(y: f64) -> f64
-    ensures { result ≡ cond BELOW (neg y) y }
-{
-    if BELOW { -y } else { y }
-}
-
 // The same where it is known whether x / ln 2 is below zero: nothing waits for the test for a half, which is rare.
 fn on_side<const BELOW: bool>(x: f64) -> f64
-    requires { (ne x x ≡ false) × (lt seven_hundred_nine x ≡ false) × (lt x minus_seven_hundred_eight ≡ false) × (below x ≡ BELOW) }
+    requires inside { Inside x }
+    requires side { below x ≡ BELOW }
     ensures { result ≡ exp x }
 {
-    let a = with_sign::<BELOW>(x * 1.4426950408889634);
-    let n = (a + 4503599627370496.0) - 4503599627370496.0;
+    let a = negated_if(BELOW, x * INVERSE_LN2);
+    let n = nearest(a);
     if a >= n + 0.5 {
         return between_ends(x);
     }
-    by_multiple(x, with_sign::<BELOW>(n))
+    by_multiple(x, negated_if(BELOW, n))
 }
 
 pub fn exp(x: f64) -> f64
@@ -119,7 +128,7 @@ pub fn exp(x: f64) -> f64
     if x < -708.0 {
         return 0.0;
     }
-    if x * 1.4426950408889634 < 0.0 {
+    if x * INVERSE_LN2 < 0.0 {
         return on_side::<true>(x);
     }
     on_side::<false>(x)
@@ -127,10 +136,7 @@ pub fn exp(x: f64) -> f64
 
 // Whether each is a number between the ends; all are asked alike, so that several are asked at once.
 fn all_inside(numbers: &[f64]) -> bool
-    ensures { result ≡ true → (k : ℕ) → k < length numbers.now
-        → (ne (get_or numbers.now k nan) (get_or numbers.now k nan) ≡ false)
-        × (lt seven_hundred_nine (get_or numbers.now k nan) ≡ false)
-        × (lt (get_or numbers.now k nan) minus_seven_hundred_eight ≡ false) }
+    ensures { result ≡ true → (k : ℕ) → k < length numbers.now → Inside (get_or numbers.now k nan) }
 {
     numbers
         .iter()
@@ -146,7 +152,7 @@ fn exp_one_by_one(numbers: &mut [f64])
     }
 }
 
-// N at once, where each is a number between the ends.
+// N at once, where each is a number between the ends. In a single loop, eight take 62% more instructions.
 fn exp_block<const N: usize>(numbers: &mut [f64])
     requires { length numbers.old ≡ N }
     ensures { numbers.new ≡ map exp numbers.old }

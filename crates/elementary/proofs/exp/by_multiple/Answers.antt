@@ -1,5 +1,5 @@
 -- `elementary::exp::by_multiple` meets its contract: the definition's steps from k. Assumes nothing.
-use mathlib.Core.Path.{ap, ◌∙◌}
+use Rattle.std.proofs.Common.{ap, ◌∙◌}
 use Rattle.elementary.specs.Exp.{reduced}
 use Rattle.elementary.proofs.ExpSteps.{steps}
 use Rattle.elementary.proofs.exp.by_multiple.Goals as goal
@@ -7,4 +7,4 @@ use Rattle.elementary.proofs.exp.by_multiple.Goals as goal
 pub returns : goal.returns
 returns c =
     let x = c.args.x in
-    steps x c.requires.0 c.requires.1 c.requires.2 _ _ _ (c.taken_off.ensures ∙ ap (reduced x) c.requires.3) c.series.ensures c.scale_of.ensures
+    steps x c.requires.inside _ _ _ (c.taken_off.ensures ∙ ap (reduced x) c.requires.multiple) c.series.ensures c.scale_of.ensures

@@ -13,10 +13,16 @@ returns-then-x-2 c = c.infinity.ensures ∙ above c.args.x c.if-x.false c.if-x-2
 pub returns-then-x-3 : goal.returns-then-x-3
 returns-then-x-3 c = beneath c.args.x c.if-x.false c.if-x-2.false (rw minus_708 at c.if-x-3.true)
 
-pub on_side-requires : goal.on_side-requires
-unfolding below
-on_side-requires c = (c.if-x.false, c.if-x-2.false, rw minus_708 at c.if-x-3.false, c.if-x-4.true)
+pub on_side-requires-clause-inside : goal.on_side-requires-clause-inside
+on_side-requires-clause-inside c = (c.if-x.false, c.if-x-2.false, rw minus_708 at c.if-x-3.false)
 
-pub on_side-requires-2 : goal.on_side-requires-2
+pub on_side-requires-clause-side : goal.on_side-requires-clause-side
 unfolding below
-on_side-requires-2 c = (c.if-x.false, c.if-x-2.false, rw minus_708 at c.if-x-3.false, c.if-x-4.false)
+on_side-requires-clause-side c = c.if-x-4.true
+
+pub on_side-requires-2-clause-inside : goal.on_side-requires-2-clause-inside
+on_side-requires-2-clause-inside c = (c.if-x.false, c.if-x-2.false, rw minus_708 at c.if-x-3.false)
+
+pub on_side-requires-2-clause-side : goal.on_side-requires-2-clause-side
+unfolding below
+on_side-requires-2-clause-side c = c.if-x-4.false

@@ -2,7 +2,6 @@
 use Rattle.elementary.proofs.Multiples.{signed_as_it_is}
 use Rattle.elementary.proofs.exp.on_side.Goals as goal
 
-pub by_multiple-requires : goal.by_multiple-requires
-by_multiple-requires g c =
-    let r = c.requires in
-    (r.0, r.1, r.2, signed_as_it_is c.args.x r.0 r.1 r.2 _ r.3 _ _ c.with_sign-a.ensures c.if-a-n.false c.with_sign.ensures)
+pub by_multiple-requires-clause-multiple : goal.by_multiple-requires-clause-multiple
+by_multiple-requires-clause-multiple g c =
+    signed_as_it_is c.args.x c.requires.inside _ c.requires.side _ _ c.negated_if-a.ensures c.nearest-n.ensures _ c.if-a-n.false c.negated_if.ensures
