@@ -7,6 +7,7 @@ ghost use Rattle.elementary.specs.Exp.{inverse_factorial, signed, two_to, reduce
 ghost use Rattle.elementary.specs.inner.Ends.{Inside};
 
 use crate::horner::horner;
+use crate::ln2::{INVERSE_LN2, LN2_HIGH, LN2_LOW};
 use numbers::sizes::infinity;
 
 // 1/k! for k from 0 to 13, each rounded once.
@@ -33,13 +34,11 @@ fn series(r: f64) -> f64
     horner(&INVERSE_FACTORIALS, r)
 }
 
-const INVERSE_LN2: f64 = 1.4426950408889634;
-
 // x less k times ln 2, in two parts.
 fn taken_off(x: f64, k: f64) -> f64
     ensures { result ≡ reduced x k }
 {
-    (x - k * 6.93147180369123816490e-01) - k * 1.90821492927058770002e-10
+    (x - k * LN2_HIGH) - k * LN2_LOW
 }
 
 fn negated_if(below: bool, y: f64) -> f64

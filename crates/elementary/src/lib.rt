@@ -4,6 +4,7 @@
 pub mod exp;
 mod horner;
 pub mod ln;
+mod ln2;
 pub mod power;
 pub mod powers;
 pub mod whole;

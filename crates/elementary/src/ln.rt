@@ -10,6 +10,7 @@ ghost use Rattle.elementary.specs.Horner.{horner};
 ghost use Rattle.elementary.specs.Ln.{inverse_odd, slope, ln_of, ln_by, ln};
 
 use crate::horner::horner;
+use crate::ln2::{LN2_HIGH, LN2_LOW};
 use numbers::patterns::pattern_of;
 use numbers::sizes::{infinity, is_finite};
 
@@ -43,14 +44,14 @@ fn slope_of(m: f64) -> f64
 fn answer(s: f64, e: f64) -> f64
     ensures { result ≡ ln_of s e }
 {
-    e * 6.93147180369123816490e-01 + (2.0 * s * series(s * s) + e * 1.90821492927058770002e-10)
+    e * LN2_HIGH + (2.0 * s * series(s * s) + e * LN2_LOW)
 }
 
 // The exponent as a float: its field in the pattern, less the bias.
 fn exponent_of(field: u32, bias: u32) -> f64
     ensures { result ≡ of_int binary64 (sub_ℕ field bias) }
 {
-    field as f64 - bias as f64
+    f64::from(field) - f64::from(bias)
 }
 
 // The answer for m·2^e, with m halved where it is above the root of 2.
@@ -70,7 +71,7 @@ fn ln_above_zero(x: f64) -> f64
     requires { (lt plus_zero x ≡ true) × (finite x ≡ true) }
     ensures { result ≡ ln x }
 {
-    let (y, bias) = if x < 2.2250738585072014e-308 {
+    let (y, bias) = if x < f64::MIN_POSITIVE {
         (x * 18014398509481984.0, 1077)
     } else {
         (x, 1023)

@@ -15,11 +15,7 @@ fn is_whole(y: f64) -> bool
     ensures { result ≡ is_whole y }
 {
     let size = absolute_value(y);
-    if size <= 1200.0 {
-        usually_whole(size) as f64 == size
-    } else {
-        false
-    }
+    size <= 1200.0 && f64::from(usually_whole(size)) == size
 }
 
 // x to the power of such a y.

@@ -59,8 +59,8 @@ fn raise_each(numbers: &mut [f64], base: f64, exponent: u32)
         if left % 2 == 1 {
             multiply_each(numbers, square);
         }
-        left = left / 2;
-        square = square * square;
+        left /= 2;
+        square *= square;
     }
 }
 

@@ -10,8 +10,8 @@ pub fn usually_whole(x: f64) -> u32
 {
     let shifted = x + 4503599627370496.0;
     if shifted > 0.0 {
-        let guess = (f64::to_bits(shifted) % 4294967296) as u32;
-        if guess as f64 == x {
+        let guess = (shifted.to_bits() % 4294967296) as u32;
+        if f64::from(guess) == x {
             return guess;
         }
     }

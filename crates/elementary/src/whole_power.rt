@@ -18,10 +18,10 @@ pub fn whole_power(base: f64, exponent: u32) -> f64
     let mut square = base;
     let mut left = exponent;
     while left != 0 {
-        product = product * factor_of(square, left);
-        left = left / 2;
+        product *= factor_of(square, left);
+        left /= 2;
         if left != 0 {
-            square = square * square;
+            square *= square;
         }
     }
     product

@@ -1,8 +1,8 @@
 -- `elementary::ln::exponent_of` meets its contract: 32 bits are fewer than a float's digits. Assumes nothing.
-use native.Mathlib.Omega.{arith}
-use lib.Ieee.{binary64}
+use Rattle.std.proofs.Common.{arith}
+use Rattle.std.specs.Float.{binary64}
 use Rattle.elementary.proofs.Wholes.{whole_difference}
 use Rattle.elementary.proofs.ln.exponent_of.Goals as goal
 
 pub returns : goal.returns
-returns c = whole_difference binary64 _ _ (omega arith) (omega arith)
+returns c = rw (c.from.ensures, c.from-2.ensures) (whole_difference binary64 _ _ (omega arith) (omega arith))

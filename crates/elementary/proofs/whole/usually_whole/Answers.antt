@@ -1,10 +1,7 @@
 -- `elementary::whole::usually_whole` meets its contract: wherever the guess comes from, one that is x itself is the nearest. Assumes nothing.
-use native.Mathlib.Omega.{arith}
-use Rattle.elementary.proofs.WholeExponents.{itself, above_zero}
+use Rattle.std.proofs.Common.{arith}
+use Rattle.elementary.proofs.WholeExponents.{itself}
 use Rattle.elementary.proofs.whole.usually_whole.Goals as goal
 
-pub float_to_bits-guess : goal.float_to_bits-guess
-float_to_bits-guess c = above_zero _ c.if-shifted.true
-
-pub returns-then-guess-x : goal.returns-then-guess-x
-returns-then-guess-x c = itself _ _ (omega arith) c.if-guess-x.true
+pub returns-then-from-x : goal.returns-then-from-x
+returns-then-from-x c = itself _ _ (omega arith) (rw c.from.ensures at c.if-from-x.true)
