@@ -9,7 +9,7 @@ use borrow.Author.Tests.{le-ltb, eq-eqb}
 use lib.IntN.{ℤ}
 use lib.ListN.{length, get_or}
 use lib.Dec.{T, ltb, eqb, ltb→lt, eqb→eq}
-use lib.Ieee.{Float, nan, inf, fin, binary64, up, down, neg, mul, lt, le, eq, ne, of_bits}
+use lib.Ieee.{Float, nan, inf, fin, binary64, up, down, neg, mul, lt, le, eq, ne, is_nan, of_bits}
 use lib.Ieee.Fits.{and_l, and_r}
 use lib.Ieee.Compare.{differs_from_itself, nan_differs}
 use Rattle.std.specs.List.{fold}
@@ -44,6 +44,14 @@ equals_itself s m e = go s (m * up e * down e)
     go : (s : Bool) (a : ℕ) → not (eqb a a && (beq s s || eqb a 0)) ≡ false
     go true a = rw (eq-eqb a a refl) refl
     go false a = rw (eq-eqb a a refl) refl
+
+-- a NaN alone differs from itself
+pub nan_alone : (x : Float) → is_nan x ≡ ne x x
+unfolding is_nan ne eq
+nan_alone nan = refl
+nan_alone (inf true) = refl
+nan_alone (inf false) = refl
+nan_alone (fin s m e) = sym (equals_itself s m e)
 
 within_ends : (x : Float) → T (le x seven_hundred_nine) → T (le minus_seven_hundred_eight x) → Inside x
 unfolding le lt eq of_bits

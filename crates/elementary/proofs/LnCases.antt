@@ -7,7 +7,7 @@ use native.Mathlib.Omega.{arith}
 use borrow.Author.Tests.{ltb-true, ltb-false, lt-ltb}
 use lib.IntN.{ℤ}
 use lib.Dec.{T, eqb, eqb→eq}
-use lib.Ieee.{Float, nan, inf, fin, binary64, up, down, neg, div, lt, eq, ne, of_bits}
+use lib.Ieee.{Float, nan, inf, fin, up, down, lt, eq, ne, of_bits}
 use lib.Ieee.Compare.{differs_from_itself, nan_differs}
 use lib.Ieee.Fits.{up_pos, and_l, and_i, eq→eqb}
 use lib.Ieee.Scale.{finite}
@@ -19,30 +19,26 @@ pub at_nan : (x : Float) → ne x x ≡ true → x ≡ ln x
 unfolding ln
 at_nan x h = differs_from_itself x (passes h) ∙ sym (ap ln (differs_from_itself x (passes h)))
 
-zero_by_zero : div binary64 plus_zero plus_zero ≡ nan
-unfolding div of_bits
-zero_by_zero = refl
-
 nothing_below : (u d : ℕ) → 0 < 0 * u * 1 + 0 * 1 * d → ⊥
 nothing_below u d h = omega arith
 
 some : (n : ℕ) (k : ℤ) → 0 < suc n * up k * 1
 some n k = mul-pos (mul-pos (zero-lt-suc n) (up_pos k)) (zero-lt-suc 0)
 
-pub below_zero : (x : Float) → lt x plus_zero ≡ true → div binary64 plus_zero plus_zero ≡ ln x
+pub below_zero : (x : Float) → lt x plus_zero ≡ true → nan ≡ ln x
 unfolding lt of_bits ln
 below_zero nan h = absurd (passes h)
-below_zero (inf true) h = zero_by_zero
+below_zero (inf true) h = refl
 below_zero (inf false) h = absurd (passes h)
 below_zero (fin false m k) h = absurd (no (m * up k * 1) (down k) (ltb-true (m * up k * 1) (0 * 1 * down k) h))
   where
     no : (a d : ℕ) → a < 0 * 1 * d → ⊥
     no a d h = omega arith
 below_zero (fin true zero k) h = absurd (nothing_below (up k) (down k) (ltb-true 0 (0 * up k * 1 + 0 * 1 * down k) h))
-below_zero (fin true (suc n) k) h = zero_by_zero
+below_zero (fin true (suc n) k) h = refl
 
-pub at_zero : (x : Float) → eq x plus_zero ≡ true → neg (inf false) ≡ ln x
-unfolding eq of_bits ln neg
+pub at_zero : (x : Float) → eq x plus_zero ≡ true → inf true ≡ ln x
+unfolding eq of_bits ln
 at_zero nan h = absurd (passes h)
 at_zero (inf s) h = absurd (passes h)
 at_zero (fin s zero k) h = refl

@@ -7,7 +7,7 @@ use native.Mathlib.Numerals.{add-one}
 use native.Mathlib.Omega.{arith}
 use borrow.Author.Count.{below_more}
 use borrow.Rule.Slice.PartMut.{same_len_mid}
-use lib.ListN.{length, length-map, length-set, get_or, set, take, drop}
+use lib.ListN.{length, length-map, length-set, get_or, set, take, drop, replicate}
 use lib.Seq.{get_or-set_same, get_or-set_other}
 use lib.Ieee.{Float, nan}
 
@@ -82,6 +82,22 @@ module _ {f : Float → Float} {n : ℕ} {xs ys : List Float} {j : ℕ} (p : Pas
 
   pub all_passed : n ≤ j → ys ≡ map f xs
   all_passed h = p.so_far ∙ at_end_lem f (λ x. x) j xs (omega arith)
+
+-- the same number at each place
+pub copies : (n : ℕ) (v : Float) (xs : List Float) → length xs ≡ n → replicate n v ≡ map (λ (x : Float). v) xs
+copies zero v [] e = refl
+copies zero v (x ∷ xs) e = absurd (none (length xs) e)
+  where
+    none : (n : ℕ) → suc n ≡ 0 → ⊥
+    none n e = omega arith
+copies (suc n) v [] e = absurd (none n e)
+  where
+    none : (n : ℕ) → 0 ≡ suc n → ⊥
+    none n e = omega arith
+copies (suc n) v (x ∷ xs) e = ap (λ (r : List Float). v ∷ r) (copies n v xs (less (length xs) n e))
+  where
+    less : (a b : ℕ) → suc a ≡ suc b → a ≡ b
+    less a b e = omega arith
 
 -- ---- places copied one by one
 pub copied_further : (xs ys : List Float) (j : ℕ) → j < length ys → ((k : ℕ) → k < j → get_or ys k nan ≡ get_or xs k nan)

@@ -8,7 +8,6 @@ ghost use Rattle.elementary.specs.inner.Ends.{Inside};
 
 use crate::horner::horner;
 use crate::ln2::{INVERSE_LN2, LN2_HIGH, LN2_LOW};
-use numbers::sizes::infinity;
 
 // 1/k! for k from 0 to 13, each rounded once.
 const INVERSE_FACTORIALS: [f64; 14] = [
@@ -118,11 +117,11 @@ fn on_side<const BELOW: bool>(x: f64) -> f64
 pub fn exp(x: f64) -> f64
     ensures { result ≡ exp x }
 {
-    if x != x {
+    if x.is_nan() {
         return x;
     }
     if x > 709.0 {
-        return infinity();
+        return f64::INFINITY;
     }
     if x < -708.0 {
         return 0.0;

@@ -12,7 +12,7 @@ ghost use Rattle.elementary.specs.Ln.{inverse_odd, slope, ln_of, ln_by, ln};
 use crate::horner::horner;
 use crate::ln2::{LN2_HIGH, LN2_LOW};
 use numbers::patterns::pattern_of;
-use numbers::sizes::{infinity, is_finite};
+use numbers::sizes::is_finite;
 
 // 1/(2j+1) for j from 0 to 10, each rounded once.
 const INVERSE_ODDS: [f64; 11] = [
@@ -84,14 +84,14 @@ fn ln_above_zero(x: f64) -> f64
 pub fn ln(x: f64) -> f64
     ensures { result ≡ ln x }
 {
-    if x != x {
+    if x.is_nan() {
         return x;
     }
     if x < 0.0 {
-        return 0.0 / 0.0;
+        return f64::NAN;
     }
     if x == 0.0 {
-        return -infinity();
+        return f64::NEG_INFINITY;
     }
     if is_finite(x) { ln_above_zero(x) } else { x }
 }

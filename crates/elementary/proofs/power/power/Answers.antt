@@ -1,10 +1,6 @@
 -- `elementary::power::power` meets its contract. Assumes nothing.
-use mathlib.Core.Path.{sym, ◌∙◌}
 use Rattle.elementary.specs.Power.{power_by, power}
 use Rattle.elementary.proofs.power.power.Goals as goal
-
-pub by_sign-requires : goal.by_sign-requires
-by_sign-requires c = sym c.is_whole.ensures ∙ c.if-is_whole.true
 
 pub returns-then-is_whole : goal.returns-then-is_whole
 unfolding power power_by
