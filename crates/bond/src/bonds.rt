@@ -29,6 +29,7 @@ fn bad_numbers(coupon: f64, beside: f64) -> bool
 }
 
 // Lines 1, 7 and 9 of a face, a verdict on the maturity, a coupon, and one number beside them.
+#[tactic(auto, unfolding(refusals::specs::Outcome::judged, refusals::specs::Outcome::first_or))]
 pub fn judge_numbers(face: f64, bad_maturity: bool, coupon: f64, beside: f64) -> Result<(), Refusal>
     ensures { outcome result ≡ judged (number_lines face bad_maturity coupon beside) tt }
 {
@@ -46,6 +47,7 @@ pub fn judge_numbers(face: f64, bad_maturity: bool, coupon: f64, beside: f64) ->
 
 impl Worked {
     // Line 7: a maturity that is not finite, or gives more than 1,200 periods.
+    #[tactic(auto, unfolding(crate::specs::Bonds::bad_maturity, refusals::specs::Table::bad_time, refusals::specs::Table::too_many_periods))]
     fn bad_maturity(self) -> bool
         ensures { result ≡ bad_maturity self.bond }
     {
@@ -53,6 +55,7 @@ impl Worked {
     }
 
     // Whether nothing is wrong with a bond and the number beside it: one sum is finite only where each of its numbers is.
+    #[tactic(auto, using(crate::proofs::SumTests::none_wrong))]
     fn all_right(self, beside: f64) -> bool
         ensures { result ≡ true → ◌≡◌ {A = Outcome Unit} (judged (bond_lines self.bond beside) tt) (accepted tt) }
     {

@@ -33,6 +33,7 @@ pub struct Fraction {
 
 impl Search {
     // Where the errors at b and c have one sign, c is the last a.
+    #[tactic(auto, unfolding(crate::specs::Brent::rebracketed))]
     fn rebracketed(self) -> Search
         ensures { result ≡ rebracketed self }
     {
@@ -50,6 +51,7 @@ impl Search {
     }
 
     // b is the end with the smaller error.
+    #[tactic(auto, unfolding(crate::specs::Brent::exchanged))]
     fn exchanged(self) -> Search
         ensures { result ≡ exchanged self }
     {
@@ -68,6 +70,7 @@ impl Search {
     }
 
     // A pass begins: the bracket and its better end.
+    #[tactic(auto, unfolding(crate::specs::Yield::readied))]
     pub(crate) fn readied(self) -> Search
         ensures { result ≡ readied self }
     {
@@ -75,6 +78,7 @@ impl Search {
     }
 
     // The least step that b moves by, below which b is the answer.
+    #[tactic(auto, unfolding(crate::specs::Brent::least_step))]
     fn least_step(self) -> f64
         ensures { result ≡ least_step self }
     {
@@ -82,6 +86,7 @@ impl Search {
     }
 
     // Half the way from b to c.
+    #[tactic(auto, unfolding(crate::specs::Brent::midway))]
     fn midway(self) -> f64
         ensures { result ≡ midway self }
     {
@@ -89,6 +94,7 @@ impl Search {
     }
 
     // Whether b is the answer.
+    #[tactic(auto, unfolding(crate::specs::Brent::settled))]
     pub(crate) fn settled(self) -> bool
         ensures { result ≡ settled self }
     {
@@ -96,6 +102,7 @@ impl Search {
     }
 
     // The step of the secant, where a is c, else of the inverse parabola.
+    #[tactic(auto, unfolding(crate::specs::Brent::rise, crate::specs::Brent::run, crate::specs::Brent::secant_only, crate::specs::Brent::ratio_b_a, crate::specs::Brent::ratio_a_c, crate::specs::Brent::ratio_b_c))]
     fn fraction_of(self) -> Fraction
         ensures { result ≡ record { rise = rise self; run = run self } }
     {
@@ -116,6 +123,7 @@ impl Search {
     }
 
     // The same fraction with its rise at or above 0.
+    #[tactic(auto, unfolding(crate::specs::Brent::rise_up, crate::specs::Brent::run_up))]
     fn fraction_up(self) -> Fraction
         ensures { result ≡ record { rise = rise_up self; run = run_up self } }
     {
@@ -133,6 +141,7 @@ impl Search {
     }
 
     // Whether a fraction may be tried: the step before last was long enough, and the error has shrunk.
+    #[tactic(auto, unfolding(crate::specs::Brent::tried))]
     fn tried(self) -> bool
         ensures { result ≡ tried self }
     {
@@ -141,6 +150,7 @@ impl Search {
     }
 
     // Whether the fraction stays inside the bracket and is less than half the step before last.
+    #[tactic(auto, unfolding(crate::specs::Brent::safe))]
     fn safe(self, up: Fraction) -> bool
         requires { up ≡ record { rise = rise_up self; run = run_up self } }
         ensures { result ≡ safe self }
@@ -156,6 +166,7 @@ impl Search {
     }
 
     // The steps of this pass: the fraction where it is tried and safe, else half the way to c.
+    #[tactic(auto, unfolding(crate::specs::Brent::chosen))]
     pub(crate) fn chosen(self) -> Search
         ensures { result ≡ chosen self }
     {
@@ -170,6 +181,7 @@ impl Search {
     }
 
     // How far b moves: by d, or by the least step toward c where d is shorter.
+    #[tactic(auto, unfolding(crate::specs::Brent::shift))]
     fn shift(self) -> f64
         ensures { result ≡ shift self }
     {
@@ -184,6 +196,7 @@ impl Search {
     }
 
     // The next search, whose error at the new b is still to be worked out.
+    #[tactic(auto, unfolding(crate::specs::Brent::moved))]
     pub(crate) fn moved(self) -> Search
         ensures { result ≡ moved self }
     {
@@ -196,6 +209,7 @@ impl Search {
     }
 
     // Both ends err to one side.
+    #[tactic(auto, unfolding(refusals::specs::Table::one_sided))]
     pub(crate) fn one_sided(self) -> bool
         ensures { result ≡ one_sided self.fa self.fb }
     {

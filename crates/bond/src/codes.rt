@@ -7,6 +7,7 @@ use crate::Frequency;
 use refusals::{Cause, Refusal};
 
 // The frequency of a code; one outside the set is line 11.
+#[tactic(auto, using(refusals::proofs::Verdicts::refused_as), unfolding(crate::specs::Codes::frequency_of, crate::specs::Codes::frequency_at, refusals::specs::Table::bad_code, refusals::specs::Outcome::judged, refusals::specs::Outcome::first_or))]
 pub fn frequency_of(code: u8) -> Result<Frequency, Refusal>
     ensures { outcome result ≡ frequency_of code }
 {

@@ -29,6 +29,7 @@ fn block_end(t: u32, last: u32) -> u32
 
 impl Worked {
     // What the flow of the period t is worth: the coupon, with the face in the last period.
+    #[tactic(auto, unfolding(crate::specs::Durations::worth, crate::specs::Durations::flow_of))]
     fn flow_worth(self, r: f64, t: u32) -> f64
         ensures { result ≡ worth self.bond r t }
     {

@@ -14,6 +14,7 @@ use refusals::{Cause, Refusal};
 
 impl Worked {
     // The rate of a period.
+    #[tactic(auto, unfolding(crate::specs::Price::period_rate))]
     pub(crate) fn period_rate(self, ytm: f64) -> f64
         ensures { result ≡ period_rate self.bond ytm }
     {
@@ -21,6 +22,7 @@ impl Worked {
     }
 
     // At no yield the flows are added as they are.
+    #[tactic(auto, unfolding(crate::specs::Price::undiscounted))]
     fn undiscounted_price(self) -> f64
         ensures { result ≡ undiscounted self.bond }
     {
@@ -28,6 +30,7 @@ impl Worked {
     }
 
     // The coupons as an annuity, and the face, both discounted.
+    #[tactic(auto, unfolding(crate::specs::Price::discounted))]
     fn discounted_price(self, r: f64, discount: f64) -> f64
         ensures { result ≡ discounted self.bond r discount }
     {
@@ -35,6 +38,7 @@ impl Worked {
     }
 
     // The price at a yield, whatever the bond is.
+    #[tactic(auto, unfolding(crate::specs::Price::price_of, crate::specs::Price::discount))]
     pub(crate) fn price_at(self, ytm: f64) -> f64
         ensures { result ≡ price_of self.bond ytm }
     {
@@ -85,6 +89,7 @@ pub fn current_yield(market: f64, bond: Bond) -> Result<f64, Refusal>
 }
 
 // The price of a bond of face 1 without coupons. It has no periods, so line 7 is for a maturity that is not finite alone.
+#[tactic(auto, unfolding(crate::specs::Price::zero_coupon_price, refusals::specs::Outcome::judged, refusals::specs::Outcome::first_or, refusals::specs::Table::bad_number))]
 pub fn zero_coupon_bond_price(ytm: f64, maturity: f64) -> Result<f64, Refusal>
     ensures { outcome result ≡ zero_coupon_price ytm maturity }
 {

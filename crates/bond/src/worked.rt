@@ -41,6 +41,7 @@ fn coupons_a_year(bond: Bond) -> f64
 }
 
 // The coupon of a period.
+#[tactic(auto, unfolding(crate::specs::Bonds::period_coupon))]
 fn period_coupon(bond: Bond) -> f64
     ensures { result ≡ period_coupon bond }
 {
@@ -48,6 +49,7 @@ fn period_coupon(bond: Bond) -> f64
 }
 
 // The number of periods, to the nearest whole number, halves away from zero.
+#[tactic(auto, unfolding(crate::specs::Bonds::periods))]
 fn periods(bond: Bond) -> u32
     ensures { result ≡ periods bond }
 {

@@ -13,6 +13,7 @@ const PASSES: u32 = 200;
 
 impl Worked {
     // The error of a yield: its price less the market's.
+    #[tactic(auto, unfolding(crate::specs::Yield::error))]
     fn error(self, market: f64, ytm: f64) -> f64
         ensures { result ≡ error self.bond market ytm }
     {
@@ -20,6 +21,7 @@ impl Worked {
     }
 
     // The search starts in a bracket.
+    #[tactic(auto, unfolding(crate::specs::Yield::start_in))]
     fn start_in(self, market: f64, low: f64, high: f64) -> Search
         ensures { result ≡ start_in self.bond market low high }
     {
@@ -37,6 +39,7 @@ impl Worked {
         }
     }
 
+    #[tactic(auto, unfolding(crate::specs::Yield::with_error))]
     fn with_error(self, market: f64, search: Search) -> Search
         ensures { result ≡ with_error self.bond market search }
     {
@@ -47,6 +50,7 @@ impl Worked {
     }
 
     // A pass from its test on: one price is worked out.
+    #[tactic(auto, unfolding(crate::specs::Yield::passed))]
     fn passed(self, market: f64, search: Search) -> Search
         ensures { result ≡ passed self.bond market search }
     {
