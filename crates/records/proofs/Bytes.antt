@@ -1,11 +1,15 @@
 -- Numbers and their little-endian bytes: each gives the other back, and a field of j + k bytes is its low j and its high k. Assumes nothing.
-use mathlib.Core.Path.{◌≡◌, refl, ap}
-use mathlib.Core.List.{List, [], ◌∷◌, ◌++◌}
-use Prim.Native.Nat.{ℕ, zero, suc, ◌+◌, ◌*◌, ◌/◌, ◌%◌, ◌^◌, ◌≤◌, ◌<◌}
+use mathlib.Core.Path.{◌≡◌, refl, sym, ap, ◌∙◌}
+use mathlib.Core.List.{List, [], ◌∷◌, ◌++◌, append_assoc}
+use Prim.Native.Nat.{ℕ, zero, suc, ◌+◌, ◌-◌, ◌*◌, ◌/◌, ◌%◌, ◌^◌, ◌≤◌, ◌<◌}
 use native.Mathlib.Omega.{arith}
-use native.Mathlib.Nat.{pow-succ', mul_assoc, zero-add, suc-add}
-use lib.ListN.{length, drop, get_or, set, length-drop}
-use lib.Seq.{length-take-le, take-add, drop-drop, drop-cons, sets}
+use native.Mathlib.Nat.{pow-suc, mul_comm, pow-succ', mul_assoc, zero-add, suc-add}
+use lib.ListN.{length, take, drop, get_or, set, length-drop}
+use lib.Seq.{length-take-le, take-add, take-suc, take-length, drop-drop, drop-cons, sets, sets-eq}
+use borrow.Rule.Slice.PartMut.{put_mid}
+use Rattle.std.proofs.Math.Nat.{div-div-eq-div-mul}
+use Rattle.std.specs.Prelude.{slice_index}
+use Rattle.std.specs.Int.{byte_at, byte_worth, bytes_low_first, sum_through}
 use Rattle.steps.proofs.Rooms.{sets_append}
 use Rattle.records.specs.Bytes.{value_of, bytes_of, field}
 use Rattle.records.specs.OneNan.{AreBytes}
@@ -61,6 +65,30 @@ bytes_append (suc j) k low high h =
     let rest : (low + 256 ^ suc j * high) / 256 ≡ low / 256 + 256 ^ j * high = omega arith in
     rw (suc-add, first, rest, bytes_append j k (low / 256) high (omega arith))
 
+-- ---- as the library has them
+low_byte : (i n : ℕ) → byte_at i n ≡ n / 256 ^ i % 256
+low_byte zero n = omega arith
+low_byte (suc i) n = refl
+
+low_bytes : (i k n : ℕ) → bytes_low_first i k n ≡ bytes_of k (n / 256 ^ i)
+unfolding bytes_of
+low_bytes i zero n = refl
+low_bytes i (suc k) n =
+    let next : n / 256 ^ i / 256 ≡ n / 256 ^ suc i = div-div-eq-div-mul n (256 ^ i) 256 ∙ ap (λ (m : ℕ). n / m) (sym (pow-suc 256 i)) in
+    rw (low_byte i n, low_bytes (suc i) k n, next)
+
+pub to_le : (k n : ℕ) → bytes_low_first 0 k n ≡ bytes_of k n
+to_le k n = let e : n / 256 ^ 0 ≡ n = omega arith in low_bytes 0 k n ∙ ap (bytes_of k) e
+
+pub from_le : (k : ℕ) (bytes : List ℕ) → k < length bytes → sum_through (λ (i : ℕ). byte_worth i (slice_index bytes i)) k ≡ value_of (take (suc k) bytes)
+unfolding value_of
+from_le zero (b ∷ bytes) h = omega arith
+from_le zero [] h = absurd (omega arith)
+from_le (suc k) bytes h =
+    let front : length (take (suc k) bytes) ≡ suc k = length-take-le (suc k) bytes (omega arith) in
+    let last : value_of (get_or bytes (suc k) 0 ∷ []) ≡ get_or bytes (suc k) 0 = omega arith in
+    rw (take-suc bytes (suc k) 0 h, value_append, front, last, from_le k bytes (omega arith), mul_comm (get_or bytes (suc k) 0))
+
 -- ---- reading
 
 pub read_halves : (j k at : ℕ) (bytes : List ℕ) {low high : ℕ} → at + j ≤ length bytes
@@ -74,7 +102,22 @@ pub read_byte : (at : ℕ) (bytes : List ℕ) → at < length bytes → get_or b
 unfolding value_of
 read_byte at bytes h = rw (drop-cons bytes at 0 h) (omega arith)
 
+-- what the library makes of so many bytes, read from a place
+pub read_bytes : (k at : ℕ) (bytes : List ℕ) {part : List ℕ} → at + suc k ≤ length bytes → part ≡ field at (suc k) bytes
+    → sum_through (λ (i : ℕ). byte_worth i (slice_index part i)) k ≡ value_of (field at (suc k) bytes)
+read_bytes k at bytes {part} room is =
+    let long : length (field at (suc k) bytes) ≡ suc k = length-take-le (suc k) (drop at bytes) (simp length-drop (omega arith)) in
+    let size : length part ≡ suc k = ap length is ∙ long in
+    let all : take (suc k) part ≡ part = rw (← size) (take-length part) in
+    from_le k part (omega arith) ∙ ap value_of (all ∙ is)
+
 -- ---- writing
+
+pub put_bytes : (k at n : ℕ) (out : List ℕ) {new : List ℕ} → at + k ≤ length out → new ≡ bytes_low_first 0 k n → put_mid at (at + k - at) out new ≡ sets out at (bytes_of k n)
+put_bytes k at n out room is_new =
+    let long : length (bytes_of k n) ≡ k = length_bytes k n in
+    let size : at + k - at ≡ k = omega arith in
+    rw (is_new, to_le k n, sets-eq (bytes_of k n) out at (omega arith), long, size, drop-drop, append_assoc)
 
 pub write_halves : (j k at n low high : ℕ) (out : List ℕ) {once twice : List ℕ} → low < 256 ^ j → n ≡ low + 256 ^ j * high
     → once ≡ sets out at (bytes_of j low) → twice ≡ sets once (at + j) (bytes_of k high) → twice ≡ sets out at (bytes_of (j + k) n)

@@ -194,6 +194,5 @@ sets_whole : (out all : List ℕ) → length all ≡ length out → sets out 0 a
 sets_whole out all room = sets-eq all out 0 (omega arith) ∙ rw (zero-add, room, drop-length) (append-nil all)
 
 -- behind a record's byte of kind, they fill an array of its length
-pub filled : (out : List ℕ) (kind : ℕ) (fs : List Field) (held : HeldByAll fs) → length out ≡ suc (size_of_all fs) → puts (set out 0 kind) 1 fs held ≡ kind ∷ bytes_in_all fs held
-filled out kind fs held l =
-    puts_is (set out 0 kind) 1 fs held ∙ sets_whole out (kind ∷ bytes_in_all fs held) (ap suc (length_fields fs held) ∙ sym l)
+pub filled : (out : List ℕ) (kind : ℕ) (fs : List Field) (held : HeldByAll fs) → length out ≡ suc (size_of_all fs) → sets (set out 0 kind) 1 (bytes_in_all fs held) ≡ kind ∷ bytes_in_all fs held
+filled out kind fs held l = sets_whole out (kind ∷ bytes_in_all fs held) (ap suc (length_fields fs held) ∙ sym l)

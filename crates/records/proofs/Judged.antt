@@ -11,7 +11,7 @@ use lib.ListN.{length, get_or}
 use Rattle.refusals.specs.Outcome.{refused, accepted, line, first_or, judged}
 use Rattle.refusals.specs.Table.{bad_record, bad_code}
 use Rattle.refusals.proofs.Causes.{or_true, or_false}
-use Rattle.records.specs.Fields.{held_from, any_bad_code}
+use Rattle.records.specs.Fields.{HeldByAll, held_from, any_bad_code}
 use Rattle.records.specs.Kinds.{Layout, record_size, value_in, read_as, read_uncoded}
 
 both : (a b : Bool) → not (a && b) ≡ false → (a ≡ true) × (b ≡ true)
@@ -58,6 +58,15 @@ module _ {Value : Type 0} (v : Value) (a b : Bool) where
       go false true e = let z : ◌≡◌ {A = ℕ} 0 1 = cc in absurd (omega arith)
       go false false e = (refl, cc)
 
+  -- what is refused whatever a says is refused still
+  judged_still : (k p : ℕ) → refused k p ≡ judged (line 11 b ∷ []) v → refused k p ≡ judged (line 11 (a || b) ∷ []) v
+  unfolding judged first_or
+  judged_still k p = go a b
+    where
+      go : (c d : Bool) → refused k p ≡ cond d (refused 11 0) (accepted v) → refused k p ≡ cond (c || d) (refused 11 0) (accepted v)
+      go c true e = rw or_true e
+      go c false e = cc
+
 -- of a kind with one code: the code of the value that was read is the only one
 pub code_is : {Value : Type 0} (code_of : Value → ℕ) (highest : ℕ) {v w : Value} {bad : Bool} → v ≡ w → bad_code highest (code_of v) ≡ bad → (bad_code highest (code_of w) || false) ≡ bad
 code_is code_of highest {v} {w} e h = or_false (bad_code highest (code_of w)) ∙ ap (λ (u : _). bad_code highest (code_of u)) (sym e) ∙ h
@@ -86,3 +95,20 @@ module _ {Value : Type 0} (l : Layout Value) (bytes : List ℕ) where
 
     pub accepts_uncoded : is_bad ≡ false → accepted v ≡ read_uncoded l bytes
     accepts_uncoded h = rw is (judged_accepts (value_in l bytes) false is_bad refl h)
+
+  -- ---- what is read whatever its codes, and its codes then
+  pub refused_still : (k p : ℕ) → refused k p ≡ read_uncoded l bytes → refused k p ≡ read_as l bytes
+  refused_still k p = judged_still (value_in l bytes) code_is_bad is_bad k p
+
+  uncoded_only : (v : Value) → accepted v ≡ read_uncoded l bytes → (is_bad ≡ false) × (value_in l bytes ≡ v)
+  uncoded_only v e = judged_only (value_in l bytes) false is_bad v (sym e)
+
+  module _ (held_again : (h : HeldByAll l.fields) → l.held_of (l.value_of h) ≡ h) (v : Value) (is : accepted v ≡ read_uncoded l bytes) where
+    same_code : any_bad_code l.fields (l.held_of v) ≡ code_is_bad
+    same_code = ap (any_bad_code l.fields) (ap l.held_of (sym (uncoded_only v is).1) ∙ held_again (held_from l.fields 1 bytes))
+
+    pub refuses_code : {number place : ℕ} → (number ≡ 11) × (place ≡ 0) → any_bad_code l.fields (l.held_of v) ≡ true → refused number place ≡ read_as l bytes
+    refuses_code r h = refuses r (inl (sym same_code ∙ h))
+
+    pub accepts_code : any_bad_code l.fields (l.held_of v) ≡ false → accepted v ≡ read_as l bytes
+    accepts_code h = let u = uncoded_only v is in accepts (sym u.1) (sym same_code ∙ h) u.0

@@ -196,4 +196,3 @@ read_dated_swap = read_as dated_swap_layout
 unfoldable pub read_dated_swap_uncoded : List ℕ → Outcome DatedSwapRecord
 unfolding dated_swap_in
 read_dated_swap_uncoded = read_uncoded dated_swap_layout
-

@@ -1,84 +1,75 @@
 // Kind 2, a bond: 26 bytes.
-ghost use Rattle.std.specs.Prelude.{◌≡◌, length};
+ghost use Rattle.std.specs.Prelude.{◌≡◌, refl};
 ghost use Rattle.refusals.specs.Answers.{outcome};
-ghost use Rattle.records.specs.Kinds.{bond_size, bond_in, read_bond_uncoded, read_bond, bond_bytes};
+ghost use Rattle.records.specs.Kinds.{bond_layout, read_bond_uncoded, read_bond, bond_bytes};
 
-use crate::{BondRecord, bad_record, fields};
-use numbers::patterns::is_nan;
-use refusals::{Cause, Refusal};
+use crate::record::{Record, read, read_uncoded, write};
+use crate::{BondRecord, fields};
+use refusals::Refusal;
 
 pub const BOND_KIND: u8 = 2;
 
 pub const BOND_SIZE: usize = 26;
 
+impl Record for BondRecord {
+    ghost layout = { bond_layout };
+
+    const KIND: u8 = BOND_KIND;
+
+    ghost KIND = { 2 };
+
+    const SIZE: usize = BOND_SIZE;
+
+    ghost SIZE = { 26 };
+
+    fn held(bytes: &[u8]) -> BondRecord {
+        BondRecord {
+            face: fields::float_at(bytes, 1),
+            coupon: fields::float_at(bytes, 9),
+            maturity: fields::float_at(bytes, 17),
+            frequency: bytes[25],
+        }
+    }
+
+    #[tactic(auto, using(refusals::proofs::Causes::or_false), unfolding(refusals::specs::Table::bad_code))]
+    fn has_bad_code(self) -> bool {
+        self.frequency > 3
+    }
+
+    fn put(self, out: &mut [u8]) {
+        fields::put_float(out, 1, self.face);
+        fields::put_float(out, 9, self.coupon);
+        fields::put_float(out, 17, self.maturity);
+        out[25] = self.frequency;
+    }
+
+    ghost kind_is = { refl };
+
+    ghost size_is = { refl };
+
+    ghost held_again = { λ h. refl };
+}
+
 // The bond that the bytes hold, or refusal 11 for another kind or length, or a frequency code outside 0 to 3.
+#[tactic(auto, unfolding(crate::specs::Kinds::read_bond))]
 pub fn read_bond(bytes: &[u8]) -> Result<BondRecord, Refusal>
     ensures { outcome result ≡ read_bond bytes.now }
 {
-    if bad_record(BOND_KIND, BOND_SIZE, bytes) {
-        return Err(refusals::refuse(Cause::Record));
-    }
-    let bond = bond_in(bytes);
-    if bond.frequency > 3 {
-        return Err(refusals::refuse(Cause::Record));
-    }
-    Ok(bond)
+    read(bytes)
 }
 
 // The bond that the bytes hold, whatever its frequency's code: refusal 11 is for another kind or length alone.
+#[tactic(auto, unfolding(crate::specs::Kinds::read_bond_uncoded))]
 pub fn read_bond_uncoded(bytes: &[u8]) -> Result<BondRecord, Refusal>
     ensures { outcome result ≡ read_bond_uncoded bytes.now }
 {
-    if bad_record(BOND_KIND, BOND_SIZE, bytes) {
-        return Err(refusals::refuse(Cause::Record));
-    }
-    Ok(bond_in(bytes))
-}
-
-// Where no number is a NaN the patterns are the numbers, and the three tests come before anything is done with one.
-fn bond_in(bytes: &[u8]) -> BondRecord
-    requires { length bytes.now ≡ bond_size }
-    ensures { result ≡ bond_in bytes.now }
-{
-    let face = fields::pattern_at(bytes, 1);
-    let coupon = fields::pattern_at(bytes, 9);
-    let maturity = fields::pattern_at(bytes, 17);
-    if is_nan(face) {
-        return any_bond_in(bytes);
-    }
-    if is_nan(coupon) {
-        return any_bond_in(bytes);
-    }
-    if is_nan(maturity) {
-        return any_bond_in(bytes);
-    }
-    BondRecord {
-        face: f64::from_bits(face),
-        coupon: f64::from_bits(coupon),
-        maturity: f64::from_bits(maturity),
-        frequency: bytes[25],
-    }
-}
-
-fn any_bond_in(bytes: &[u8]) -> BondRecord
-    requires { length bytes.now ≡ bond_size }
-    ensures { result ≡ bond_in bytes.now }
-{
-    BondRecord {
-        face: fields::float_at(bytes, 1),
-        coupon: fields::float_at(bytes, 9),
-        maturity: fields::float_at(bytes, 17),
-        frequency: bytes[25],
-    }
+    read_uncoded(bytes)
 }
 
 // The record of the bond, in an array of its own length: nothing is refused.
+#[tactic(auto, unfolding(crate::specs::Kinds::bond_bytes))]
 pub fn write_bond(bond: BondRecord, out: &mut [u8; BOND_SIZE])
     ensures { out.new ≡ bond_bytes bond }
 {
-    out[0] = BOND_KIND;
-    fields::put_float(out, 1, bond.face);
-    fields::put_float(out, 9, bond.coupon);
-    fields::put_float(out, 17, bond.maturity);
-    out[25] = bond.frequency;
+    write(bond, out);
 }

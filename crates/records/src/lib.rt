@@ -7,6 +7,7 @@ ghost use Rattle.refusals.specs.Table.{bad_record};
 pub mod bond_record;
 pub mod dated_swap_record;
 mod fields;
+mod record;
 pub mod row_record;
 pub mod swap_record;
 pub mod terms_record;

@@ -1,9 +1,9 @@
 -- `records::fields::whole_at` meets its contract. Assumes nothing.
-use native.Mathlib.Omega.{arith}
-use Rattle.records.specs.Bytes.{pair_at, whole_at}
-use Rattle.records.proofs.Bytes.{read_halves}
+use Rattle.std.proofs.Common.{◌∙◌}
+use Rattle.records.specs.Bytes.{whole_at}
+use Rattle.records.proofs.Bytes.{read_bytes}
 use Rattle.records.proofs.fields.whole_at.Goals as goal
 
 pub returns : goal.returns
-unfolding whole_at pair_at
-returns c = read_halves 2 2 c.args.at c.args.bytes.now (omega arith) c.pair_at-low.ensures c.pair_at-high.ensures
+unfolding whole_at
+returns c = c.from_le_bytes.ensures ∙ read_bytes 3 c.args.at c.args.bytes.now c.requires c.bytes_at.ensures
