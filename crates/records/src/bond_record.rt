@@ -32,7 +32,7 @@ impl Record for BondRecord {
     }
 
     #[tactic(auto, using(refusals::proofs::Causes::or_false), unfolding(refusals::specs::Table::bad_code))]
-    fn has_bad_code(self) -> bool {
+    fn has_bad_code(&self) -> bool {
         self.frequency > 3
     }
 

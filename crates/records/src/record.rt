@@ -25,8 +25,8 @@ pub(crate) trait Record: Copy {
         requires { length bytes.now ≡ record_size layout }
         ensures { result ≡ value_in layout bytes.now };
 
-    fn has_bad_code(self) -> bool
-        ensures { result ≡ any_bad_code layout.fields (layout.held_of self) };
+    fn has_bad_code(&self) -> bool
+        ensures { result ≡ any_bad_code layout.fields (layout.held_of self.now) };
 
     // The fields in their places behind the kind.
     fn put(self, out: &mut [u8])

@@ -32,7 +32,7 @@ impl Record for Row {
         }
     }
 
-    fn has_bad_code(self) -> bool {
+    fn has_bad_code(&self) -> bool {
         false
     }
 

@@ -30,7 +30,7 @@ impl Record for Terms {
         }
     }
 
-    fn has_bad_code(self) -> bool {
+    fn has_bad_code(&self) -> bool {
         false
     }
 
