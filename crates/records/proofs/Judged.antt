@@ -10,6 +10,7 @@ use lib.Dec.{eqb}
 use lib.ListN.{length, get_or}
 use Rattle.refusals.specs.Outcome.{refused, accepted, line, first_or, judged}
 use Rattle.refusals.specs.Table.{bad_record, bad_code}
+use Rattle.refusals.proofs.Verdicts.{verdict}
 use Rattle.refusals.proofs.Causes.{or_true, or_false}
 use Rattle.records.specs.Fields.{HeldByAll, held_from, any_bad_code}
 use Rattle.records.specs.Kinds.{Layout, record_size, value_in, read_as, read_uncoded}
@@ -36,6 +37,15 @@ module _ (kind size : ℕ) (bytes : List ℕ) where
   pub good_only : bad_record kind size bytes ≡ false → (length bytes ≡ size) × (get_or bytes 0 0 ≡ kind)
   unfolding bad_record
   good_only h = let is = both (eqb (length bytes) size) (eqb (get_or bytes 0 0) kind) h in (eqb-true _ _ is.0, eqb-true _ _ is.1)
+
+-- ---- the line, judging no value
+pub bad_line : {b : Bool} {number place : ℕ} → (number ≡ 11) × (place ≡ 0) → b ≡ true → refused number place ≡ verdict (line 11 b ∷ [])
+unfolding judged first_or
+bad_line is h = rw (is.0, is.1, h)
+
+pub good_line : {b : Bool} → b ≡ false → accepted tt ≡ verdict (line 11 b ∷ [])
+unfolding judged first_or
+good_line h = rw h
 
 -- ---- what a reader answers, of any kind
 module _ {Value : Type 0} (v : Value) (a b : Bool) where
@@ -96,19 +106,22 @@ module _ {Value : Type 0} (l : Layout Value) (bytes : List ℕ) where
     pub accepts_uncoded : is_bad ≡ false → accepted v ≡ read_uncoded l bytes
     accepts_uncoded h = rw is (judged_accepts (value_in l bytes) false is_bad refl h)
 
-  -- ---- what is read whatever its codes, and its codes then
+  -- ---- what is refused whatever its codes, and what its codes are
   pub refused_still : (k p : ℕ) → refused k p ≡ read_uncoded l bytes → refused k p ≡ read_as l bytes
   refused_still k p = judged_still (value_in l bytes) code_is_bad is_bad k p
 
-  uncoded_only : (v : Value) → accepted v ≡ read_uncoded l bytes → (is_bad ≡ false) × (value_in l bytes ≡ v)
-  uncoded_only v e = judged_only (value_in l bytes) false is_bad v (sym e)
+  pub not_bad : accepted tt ≡ verdict (line 11 is_bad ∷ []) → is_bad ≡ false
+  not_bad e = (judged_only tt false is_bad tt (sym e)).0
 
-  module _ (held_again : (h : HeldByAll l.fields) → l.held_of (l.value_of h) ≡ h) (v : Value) (is : accepted v ≡ read_uncoded l bytes) where
+  pub its_length : accepted tt ≡ verdict (line 11 is_bad ∷ []) → length bytes ≡ record_size l
+  its_length e = (good_only l.kind (record_size l) bytes (not_bad e)).0
+
+  module _ (held_again : (h : HeldByAll l.fields) → l.held_of (l.value_of h) ≡ h) (v : Value) (is : v ≡ value_in l bytes) where
     same_code : any_bad_code l.fields (l.held_of v) ≡ code_is_bad
-    same_code = ap (any_bad_code l.fields) (ap l.held_of (sym (uncoded_only v is).1) ∙ held_again (held_from l.fields 1 bytes))
+    same_code = ap (any_bad_code l.fields) (ap l.held_of is ∙ held_again (held_from l.fields 1 bytes))
 
     pub refuses_code : {number place : ℕ} → (number ≡ 11) × (place ≡ 0) → any_bad_code l.fields (l.held_of v) ≡ true → refused number place ≡ read_as l bytes
     refuses_code r h = refuses r (inl (sym same_code ∙ h))
 
-    pub accepts_code : any_bad_code l.fields (l.held_of v) ≡ false → accepted v ≡ read_as l bytes
-    accepts_code h = let u = uncoded_only v is in accepts (sym u.1) (sym same_code ∙ h) u.0
+    pub accepts_code : is_bad ≡ false → any_bad_code l.fields (l.held_of v) ≡ false → accepted v ≡ read_as l bytes
+    accepts_code g h = accepts is (sym same_code ∙ h) g

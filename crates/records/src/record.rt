@@ -1,7 +1,9 @@
 // A kind of record: its number, its length and its fields; and the reading and the writing of any of them.
-ghost use Rattle.std.specs.Prelude.{◌≡◌, ℕ, length};
+ghost use Rattle.std.specs.Prelude.{◌≡◌, ℕ, [], ◌∷◌, length};
 ghost use Rattle.std.proofs.lemmas.List.Edits.{sets};
 ghost use Rattle.refusals.specs.Answers.{outcome};
+ghost use Rattle.refusals.specs.Outcome.{line, judged};
+ghost use Rattle.refusals.specs.Table.{bad_record};
 ghost use Rattle.records.specs.Fields.{HeldByAll, bytes_in_all, any_bad_code};
 ghost use Rattle.records.specs.Kinds.{Layout, record_size, record_of, value_in, read_as, read_uncoded};
 
@@ -40,11 +42,22 @@ pub(crate) trait Record: Copy {
     ghost held_again: { (h : HeldByAll layout.fields) → layout.held_of (layout.value_of h) ≡ h };
 }
 
+// Line 11 of a record of another kind or length.
+fn judge_record<R: Record>(bytes: &[u8]) -> Result<(), Refusal>
+    ensures { outcome result ≡ judged (line 11 (bad_record R.layout.kind (record_size R.layout) bytes.now) ∷ []) tt }
+{
+    if bad_record(R::KIND, R::SIZE, bytes) {
+        return Err(refuse(Cause::Record));
+    }
+    Ok(())
+}
+
 // The value of the record, or refusal 11 for another kind or length, or a code outside its set.
 pub(crate) fn read<R: Record>(bytes: &[u8]) -> Result<R, Refusal>
     ensures { outcome result ≡ read_as R.layout bytes.now }
 {
-    let value: R = read_uncoded(bytes)?;
+    judge_record::<R>(bytes)?;
+    let value = R::held(bytes);
     if value.has_bad_code() {
         return Err(refuse(Cause::Record));
     }
@@ -55,9 +68,7 @@ pub(crate) fn read<R: Record>(bytes: &[u8]) -> Result<R, Refusal>
 pub(crate) fn read_uncoded<R: Record>(bytes: &[u8]) -> Result<R, Refusal>
     ensures { outcome result ≡ read_uncoded R.layout bytes.now }
 {
-    if bad_record(R::KIND, R::SIZE, bytes) {
-        return Err(refuse(Cause::Record));
-    }
+    judge_record::<R>(bytes)?;
     Ok(R::held(bytes))
 }
 

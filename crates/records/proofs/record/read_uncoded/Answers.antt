@@ -1,23 +1,13 @@
 -- `records::record::read_uncoded` meets its contract. Assumes nothing.
-use Rattle.std.proofs.Common.{◌≡◌, Bool, true, false}
-use Rattle.records.specs.Kinds.{Layout}
-use Rattle.records.proofs.Judged.{good_only, is_bad, refuses_uncoded, accepts_uncoded}
+use Rattle.refusals.proofs.Verdicts.{refused_on}
+use Rattle.records.proofs.Judged.{its_length, accepts_uncoded, not_bad}
 use Rattle.records.proofs.record.read_uncoded.Goals as goal
 
-pub returns-then-bad_record : goal.returns-then-bad_record
-returns-then-bad_record g c =
-    let l = g.R.Record.layout in
-    let bad : is_bad l c.args.bytes.now ≡ true = cc (g.met.R.Record.kind_is, g.met.R.Record.size_is) in
-    refuses_uncoded l _ c.refuse.ensures bad
+pub returns-in_err-judge_record : goal.returns-in_err-judge_record
+returns-in_err-judge_record g c = refused_on _ _ _ c.from_residual.ensures.1 c.in_err-judge_record.was c.judge_record.ensures
 
 pub held-requires : goal.held-requires
-held-requires g c =
-    let l = g.R.Record.layout in
-    let good : is_bad l c.args.bytes.now ≡ false = cc (g.met.R.Record.kind_is, g.met.R.Record.size_is) in
-    (good_only _ _ _ good).0
+held-requires g c = its_length g.R.Record.layout c.args.bytes.now c.in_ok-judge_record.ensures
 
 pub returns : goal.returns
-returns g c =
-    let l = g.R.Record.layout in
-    let good : is_bad l c.args.bytes.now ≡ false = cc (g.met.R.Record.kind_is, g.met.R.Record.size_is) in
-    accepts_uncoded l _ c.held.ensures good
+returns g c = accepts_uncoded g.R.Record.layout _ c.held.ensures (not_bad g.R.Record.layout _ c.in_ok-judge_record.ensures)
