@@ -1,16 +1,15 @@
--- Numbers and their little-endian bytes: each gives the other back, and a field of j + k bytes is its low j and its high k. Assumes nothing.
+-- Numbers and their little-endian bytes: each gives the other back, and the library's words for both mean the same. Assumes nothing.
 use mathlib.Core.Path.{◌≡◌, refl, sym, ap, ◌∙◌}
 use mathlib.Core.List.{List, [], ◌∷◌, ◌++◌, append_assoc}
 use Prim.Native.Nat.{ℕ, zero, suc, ◌+◌, ◌-◌, ◌*◌, ◌/◌, ◌%◌, ◌^◌, ◌≤◌, ◌<◌}
 use native.Mathlib.Omega.{arith}
-use native.Mathlib.Nat.{pow-suc, mul_comm, pow-succ', mul_assoc, zero-add, suc-add}
-use lib.ListN.{length, take, drop, get_or, set, length-drop}
-use lib.Seq.{length-take-le, take-add, take-suc, take-length, drop-drop, drop-cons, sets, sets-eq}
+use native.Mathlib.Nat.{pow-suc, mul_comm, pow-succ', mul_assoc}
+use lib.ListN.{length, take, drop, get_or, length-drop}
+use lib.Seq.{length-take-le, take-suc, take-length, drop-drop, sets, sets-eq}
 use borrow.Rule.Slice.PartMut.{put_mid}
 use Rattle.std.proofs.Math.Nat.{div-div-eq-div-mul}
 use Rattle.std.specs.Prelude.{slice_index}
 use Rattle.std.specs.Int.{byte_at, byte_worth, bytes_low_first, sum_through}
-use Rattle.steps.proofs.Rooms.{sets_append}
 use Rattle.records.specs.Bytes.{value_of, bytes_of, field}
 use Rattle.records.specs.OneNan.{AreBytes}
 
@@ -44,28 +43,14 @@ bytes_of_value (b ∷ bytes) small =
     let high : (b + 256 * value_of bytes) / 256 ≡ value_of bytes = omega (arith, small 0) in
     rw (low, high, bytes_of_value bytes (λ i. small (suc i)))
 
--- ---- halves
-
-pub value_append : (low high : List ℕ) → value_of (low ++ high) ≡ value_of low + 256 ^ length low * value_of high
+-- ---- as the library has them
+value_append : (low high : List ℕ) → value_of (low ++ high) ≡ value_of low + 256 ^ length low * value_of high
 unfolding value_of
 value_append [] high = omega arith
 value_append (b ∷ low) high =
     let e : 256 * 256 ^ length low * value_of high ≡ 256 * (256 ^ length low * value_of high) = mul_assoc 256 (256 ^ length low) (value_of high) in
     rw (value_append low high, pow-succ') (omega arith)
 
-pub bytes_append : (j k low high : ℕ) → low < 256 ^ j → bytes_of (j + k) (low + 256 ^ j * high) ≡ bytes_of j low ++ bytes_of k high
-unfolding bytes_of
-bytes_append zero k low high h =
-    let e : low + 1 * high ≡ high = omega arith in
-    rw (zero-add, e)
-bytes_append (suc j) k low high h =
-    let below : low < 256 * 256 ^ j = rw pow-succ' at h in
-    let e : 256 ^ suc j * high ≡ 256 * (256 ^ j * high) = rw pow-succ' (mul_assoc 256 (256 ^ j) high) in
-    let first : (low + 256 ^ suc j * high) % 256 ≡ low % 256 = omega arith in
-    let rest : (low + 256 ^ suc j * high) / 256 ≡ low / 256 + 256 ^ j * high = omega arith in
-    rw (suc-add, first, rest, bytes_append j k (low / 256) high (omega arith))
-
--- ---- as the library has them
 low_byte : (i n : ℕ) → byte_at i n ≡ n / 256 ^ i % 256
 low_byte zero n = omega arith
 low_byte (suc i) n = refl
@@ -77,10 +62,10 @@ low_bytes i (suc k) n =
     let next : n / 256 ^ i / 256 ≡ n / 256 ^ suc i = div-div-eq-div-mul n (256 ^ i) 256 ∙ ap (λ (m : ℕ). n / m) (sym (pow-suc 256 i)) in
     rw (low_byte i n, low_bytes (suc i) k n, next)
 
-pub to_le : (k n : ℕ) → bytes_low_first 0 k n ≡ bytes_of k n
+to_le : (k n : ℕ) → bytes_low_first 0 k n ≡ bytes_of k n
 to_le k n = let e : n / 256 ^ 0 ≡ n = omega arith in low_bytes 0 k n ∙ ap (bytes_of k) e
 
-pub from_le : (k : ℕ) (bytes : List ℕ) → k < length bytes → sum_through (λ (i : ℕ). byte_worth i (slice_index bytes i)) k ≡ value_of (take (suc k) bytes)
+from_le : (k : ℕ) (bytes : List ℕ) → k < length bytes → sum_through (λ (i : ℕ). byte_worth i (slice_index bytes i)) k ≡ value_of (take (suc k) bytes)
 unfolding value_of
 from_le zero (b ∷ bytes) h = omega arith
 from_le zero [] h = absurd (omega arith)
@@ -88,19 +73,6 @@ from_le (suc k) bytes h =
     let front : length (take (suc k) bytes) ≡ suc k = length-take-le (suc k) bytes (omega arith) in
     let last : value_of (get_or bytes (suc k) 0 ∷ []) ≡ get_or bytes (suc k) 0 = omega arith in
     rw (take-suc bytes (suc k) 0 h, value_append, front, last, from_le k bytes (omega arith), mul_comm (get_or bytes (suc k) 0))
-
--- ---- reading
-
-pub read_halves : (j k at : ℕ) (bytes : List ℕ) {low high : ℕ} → at + j ≤ length bytes
-    → low ≡ value_of (field at j bytes) → high ≡ value_of (field (at + j) k bytes) → low + 256 ^ j * high ≡ value_of (field at (j + k) bytes)
-read_halves j k at bytes {low} {high} room is_low is_high =
-    let whole : length (field at j bytes) ≡ j = length-take-le j (drop at bytes) (simp length-drop (omega arith)) in
-    rw (is_low, is_high, take-add, drop-drop, value_append, whole)
-
--- a field of one byte has that byte's value
-pub read_byte : (at : ℕ) (bytes : List ℕ) → at < length bytes → get_or bytes at 0 ≡ value_of (field at 1 bytes)
-unfolding value_of
-read_byte at bytes h = rw (drop-cons bytes at 0 h) (omega arith)
 
 -- what the library makes of so many bytes, read from a place
 pub read_bytes : (k at : ℕ) (bytes : List ℕ) {part : List ℕ} → at + suc k ≤ length bytes → part ≡ field at (suc k) bytes
@@ -111,22 +83,9 @@ read_bytes k at bytes {part} room is =
     let all : take (suc k) part ≡ part = rw (← size) (take-length part) in
     from_le k part (omega arith) ∙ ap value_of (all ∙ is)
 
--- ---- writing
-
+-- what it leaves where the bytes of a number are put
 pub put_bytes : (k at n : ℕ) (out : List ℕ) {new : List ℕ} → at + k ≤ length out → new ≡ bytes_low_first 0 k n → put_mid at (at + k - at) out new ≡ sets out at (bytes_of k n)
 put_bytes k at n out room is_new =
     let long : length (bytes_of k n) ≡ k = length_bytes k n in
     let size : at + k - at ≡ k = omega arith in
     rw (is_new, to_le k n, sets-eq (bytes_of k n) out at (omega arith), long, size, drop-drop, append_assoc)
-
-pub write_halves : (j k at n low high : ℕ) (out : List ℕ) {once twice : List ℕ} → low < 256 ^ j → n ≡ low + 256 ^ j * high
-    → once ≡ sets out at (bytes_of j low) → twice ≡ sets once (at + j) (bytes_of k high) → twice ≡ sets out at (bytes_of (j + k) n)
-write_halves j k at n low high out h parts is_once is_twice =
-    rw (parts, bytes_append j k low high h, ← sets_append (bytes_of j low) (bytes_of k high) out at, length_bytes, is_twice, is_once)
-
-pub write_pair : (at n : ℕ) (out : List ℕ) → n < 256 ^ 2 → set (set out at (n % 256)) (at + 1) (n / 256) ≡ sets out at (bytes_of 2 n)
-unfolding bytes_of
-write_pair at n out h =
-    let e : n / 256 % 256 ≡ n / 256 = omega arith in
-    let s : at + 1 ≡ suc at = omega arith in
-    rw (e, s)

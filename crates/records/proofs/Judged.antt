@@ -5,13 +5,13 @@ use mathlib.Core.Bool.{Bool, true, false, not, cond, ◌&&◌, ◌||◌}
 use mathlib.Core.List.{List, [], ◌∷◌}
 use Prim.Native.Nat.{ℕ}
 use native.Mathlib.Omega.{arith}
-use borrow.Author.Tests.{eq-eqb, ne_eqb, eqb-true}
+use borrow.Author.Tests.{eq-eqb, eqb-true}
 use lib.Dec.{eqb}
 use lib.ListN.{length, get_or}
 use Rattle.refusals.specs.Outcome.{refused, accepted, line, first_or, judged}
-use Rattle.refusals.specs.Table.{bad_record, bad_code}
+use Rattle.refusals.specs.Table.{bad_record}
 use Rattle.refusals.proofs.Verdicts.{verdict}
-use Rattle.refusals.proofs.Causes.{or_true, or_false}
+use Rattle.refusals.proofs.Causes.{or_true}
 use Rattle.records.specs.Fields.{HeldByAll, held_from, any_bad_code}
 use Rattle.records.specs.Kinds.{Layout, record_size, value_in, read_as, read_uncoded}
 
@@ -21,14 +21,6 @@ both true false h = (cc, cc)
 both false b h = (cc, cc)
 
 module _ (kind size : ℕ) (bytes : List ℕ) where
-  pub other_length : (length bytes ≡ size → ⊥) → true ≡ bad_record kind size bytes
-  unfolding bad_record
-  other_length h = simp (ne_eqb _ _ h)
-
-  pub by_kind : length bytes ≡ size → not (eqb (get_or bytes 0 0) kind) ≡ bad_record kind size bytes
-  unfolding bad_record
-  by_kind h = simp (eq-eqb _ _ h)
-
   -- a record is good exactly where length and kind are right
   pub good : length bytes ≡ size → get_or bytes 0 0 ≡ kind → bad_record kind size bytes ≡ false
   unfolding bad_record
@@ -77,10 +69,6 @@ module _ {Value : Type 0} (v : Value) (a b : Bool) where
       go c true e = rw or_true e
       go c false e = cc
 
--- of a kind with one code: the code of the value that was read is the only one
-pub code_is : {Value : Type 0} (code_of : Value → ℕ) (highest : ℕ) {v w : Value} {bad : Bool} → v ≡ w → bad_code highest (code_of v) ≡ bad → (bad_code highest (code_of w) || false) ≡ bad
-code_is code_of highest {v} {w} e h = or_false (bad_code highest (code_of w)) ∙ ap (λ (u : _). bad_code highest (code_of u)) (sym e) ∙ h
-
 module _ {Value : Type 0} (l : Layout Value) (bytes : List ℕ) where
   -- whether a code of the record is outside its set, and whether the record is of another kind or length
   abbrev pub code_is_bad : Bool
@@ -95,9 +83,6 @@ module _ {Value : Type 0} (l : Layout Value) (bytes : List ℕ) where
   module _ {number place : ℕ} (is : (number ≡ 11) × (place ≡ 0)) where
     pub refuses : (code_is_bad ≡ true) ⊎ (is_bad ≡ true) → refused number place ≡ read_as l bytes
     refuses h = rw (is.0, is.1) (judged_refuses (value_in l bytes) code_is_bad is_bad h)
-
-    pub refuses_uncoded : is_bad ≡ true → refused number place ≡ read_uncoded l bytes
-    refuses_uncoded h = rw (is.0, is.1) (judged_refuses (value_in l bytes) false is_bad (inr h))
 
   module _ {v : Value} (is : v ≡ value_in l bytes) where
     pub accepts : code_is_bad ≡ false → is_bad ≡ false → accepted v ≡ read_as l bytes

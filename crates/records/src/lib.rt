@@ -62,12 +62,10 @@ pub struct DatedSwapRecord {
 }
 
 // Line 11: a record of another kind or another length.
+#[tactic(auto, unfolding(refusals::specs::Table::bad_record))]
 fn bad_record(kind: u8, size: usize, bytes: &[u8]) -> bool
     requires { 0 < size }
     ensures { result ≡ bad_record kind size bytes.now }
 {
-    if bytes.len() != size {
-        return true;
-    }
-    bytes[0] != kind
+    bytes.len() != size || bytes[0] != kind
 }

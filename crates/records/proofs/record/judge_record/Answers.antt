@@ -1,5 +1,5 @@
 -- `records::record::judge_record` meets its contract. Assumes nothing.
-use Rattle.std.proofs.Common.{◌≡◌, Bool, true, false}
+use Rattle.std.proofs.Common.{◌≡◌, true, false}
 use Rattle.records.proofs.Judged.{is_bad, bad_line, good_line}
 use Rattle.records.proofs.record.judge_record.Goals as goal
 

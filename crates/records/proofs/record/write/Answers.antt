@@ -1,5 +1,4 @@
 -- `records::record::write` meets its contract: behind the kind the fields fill the array. Assumes nothing.
-use Rattle.std.proofs.Common.{◌≡◌, set}
 use Rattle.records.proofs.FieldLists.{filled}
 use Rattle.records.proofs.record.write.Goals as goal
 
