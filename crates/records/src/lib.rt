@@ -1,9 +1,6 @@
 // Records for a host: bytes to values and back, little-endian, one byte of kind and then a fixed body.
 #![tactic(auto)]
 
-ghost use Rattle.std.specs.Prelude.{◌≡◌, ◌<◌};
-ghost use Rattle.refusals.specs.Table.{bad_record};
-
 pub mod bond_record;
 pub mod dated_swap_record;
 mod fields;
@@ -59,13 +56,4 @@ pub struct DatedSwapRecord {
     pub first: dates::Date,
     pub second: dates::Date,
     pub count: u8,
-}
-
-// Line 11: a record of another kind or another length.
-#[tactic(auto, unfolding(refusals::specs::Table::bad_record))]
-fn bad_record(kind: u8, size: usize, bytes: &[u8]) -> bool
-    requires { 0 < size }
-    ensures { result ≡ bad_record kind size bytes.now }
-{
-    bytes.len() != size || bytes[0] != kind
 }

@@ -1,5 +1,5 @@
 // A kind of record: its number, its length and its fields; and the reading and the writing of any of them.
-ghost use Rattle.std.specs.Prelude.{◌≡◌, ℕ, [], ◌∷◌, length};
+ghost use Rattle.std.specs.Prelude.{◌≡◌, ℕ, [], ◌∷◌, ◌<◌, length};
 ghost use Rattle.std.proofs.lemmas.List.Edits.{sets};
 ghost use Rattle.refusals.specs.Answers.{outcome};
 ghost use Rattle.refusals.specs.Outcome.{line, judged};
@@ -7,7 +7,6 @@ ghost use Rattle.refusals.specs.Table.{bad_record};
 ghost use Rattle.records.specs.Fields.{HeldByAll, bytes_in_all, any_bad_code};
 ghost use Rattle.records.specs.Kinds.{Layout, record_size, record_of, value_in, read_as, read_uncoded};
 
-use crate::bad_record;
 use refusals::{Cause, Refusal, refuse};
 
 pub(crate) trait Record: Copy {
@@ -27,6 +26,7 @@ pub(crate) trait Record: Copy {
         requires { length bytes.now ≡ record_size layout }
         ensures { result ≡ value_in layout bytes.now };
 
+    // Whether a code is outside its set.
     fn has_bad_code(&self) -> bool
         ensures { result ≡ any_bad_code layout.fields (layout.held_of self.now) };
 
@@ -35,6 +35,7 @@ pub(crate) trait Record: Copy {
         requires { length out.old ≡ record_size layout }
         ensures { out.new ≡ sets out.old 1 (bytes_in_all layout.fields (layout.held_of self)) };
 
+    // What a kind must show: number and length are its layout's, and the layout holds a value as it gives it.
     ghost kind_is: { KIND ≡ layout.kind };
 
     ghost size_is: { SIZE ≡ record_size layout };
@@ -42,7 +43,15 @@ pub(crate) trait Record: Copy {
     ghost held_again: { (h : HeldByAll layout.fields) → layout.held_of (layout.value_of h) ≡ h };
 }
 
-// Line 11 of a record of another kind or length.
+// Line 11: a record of another kind or another length.
+#[tactic(auto, unfolding(refusals::specs::Table::bad_record))]
+fn bad_record(kind: u8, size: usize, bytes: &[u8]) -> bool
+    requires { 0 < size }
+    ensures { result ≡ bad_record kind size bytes.now }
+{
+    bytes.len() != size || bytes[0] != kind
+}
+
 fn judge_record<R: Record>(bytes: &[u8]) -> Result<(), Refusal>
     ensures { outcome result ≡ judged (line 11 (bad_record R.layout.kind (record_size R.layout) bytes.now) ∷ []) tt }
 {
