@@ -118,10 +118,10 @@ module _ (P : Float → Type 0) (at : (n : ℕ) (k : ℤ) → T (amount binary64
       no u d h = omega arith
   above_zero (fin false (suc n) k) f h g = at n k (passes f)
 
-pub ln_normal : (x : Float) → fits binary64 x ≡ true → lt plus_zero x ≡ true → finite x ≡ true → lt x smallest_normal ≡ false → LnBy x (to_bits binary64 x) 1023
+ln_normal : (x : Float) → fits binary64 x ≡ true → lt plus_zero x ≡ true → finite x ≡ true → lt x smallest_normal ≡ false → LnBy x (to_bits binary64 x) 1023
 ln_normal = above_zero (λ x. lt x smallest_normal ≡ false → LnBy x (to_bits binary64 x) 1023) (λ n k p h. ln_by_lem n k (to_bits binary64 (fin false (suc n) k)) 1023 (read_normal n k p h))
 
-pub ln_subnormal : (x : Float) → fits binary64 x ≡ true → lt plus_zero x ≡ true → finite x ≡ true → lt x smallest_normal ≡ true → LnBy x (to_bits binary64 (mul binary64 x scale)) 1077
+ln_subnormal : (x : Float) → fits binary64 x ≡ true → lt plus_zero x ≡ true → finite x ≡ true → lt x smallest_normal ≡ true → LnBy x (to_bits binary64 (mul binary64 x scale)) 1077
 ln_subnormal = above_zero (λ x. lt x smallest_normal ≡ true → LnBy x (to_bits binary64 (mul binary64 x scale)) 1077) (λ n k p h. ln_by_lem n k (to_bits binary64 (mul binary64 (fin false (suc n) k) scale)) 1077 (read_subnormal n k p h))
 
 -- the number that is read, with its bias: x itself, or x times 2 ^ 54 where it is a subnormal

@@ -1,13 +1,13 @@
 -- Whole exponents: the program's tests are the definition's, and the nearest whole number of a whole number is that number. Assumes nothing.
 use mathlib.Core.Path.{◌≡◌, refl, sym, ap, ◌∙◌, subst}
-use mathlib.Core.Bool.{Bool, true, false, not, ◌&&◌, ◌||◌, true≢false}
+use mathlib.Core.Bool.{Bool, true, false, ◌&&◌, ◌||◌, true≢false}
 use Prim.Native.Nat.{ℕ, ◌+◌, ◌*◌, ◌/◌, ◌%◌, ◌≤◌, ◌<◌, min}
 use native.Mathlib.Nat.{zero-div, div-add-mod', mul-le-mul_right, mul-mod_left, mul-one, le_trans, div-le_of_le-mul, eq_of_mul-eq-mul_right, zero-lt-suc}
 use native.Mathlib.Omega.{arith}
 use borrow.Author.Tests.{ltb-true, ltb-false, eq-eqb, le-leb, lt-leb}
 use lib.IntN.{ℤ, pos}
 use lib.Dec.{T, ltb, leb, eqb, lt→ltb, leb→le, eqb→eq, lit≤}
-use lib.Ieee.{Float, nan, inf, fin, binary64, up, down, round, lt, le, eq, is_nan, of_int, of_bits, div}
+use lib.Ieee.{Float, nan, inf, fin, binary64, up, down, round, lt, le, eq, of_int, of_bits, div}
 use lib.Ieee.Back.{round_whole}
 use lib.Ieee.Exact.{HasValue}
 use lib.Ieee.Fits.{down_pos, and_l, and_r, and_i, eq→eqb}
@@ -145,12 +145,6 @@ at_value (fin false p g) (fin false m k) n h v e =
 
 pub itself : (x : Float) (n : ℕ) → n ≤ largest → eq (of_int binary64 (pos n)) x ≡ true → n ≡ nearest_whole x
 itself x n h e = at_value (of_int binary64 (pos n)) x n h (as_float n h) e
-
-pub above_zero : (x : Float) → lt plus_zero x ≡ true → T (not (is_nan x))
-unfolding is_nan lt of_bits
-above_zero nan h = absurd (passes h)
-above_zero (inf s) h = tt
-above_zero (fin s m e) h = tt
 
 -- ---- the program's test
 pub within : (y : Float) (n : ℕ) → le (absolute y) most ≡ true → n ≡ nearest_whole (absolute y) → eq (of_int binary64 (pos n)) (absolute y) ≡ is_whole y
