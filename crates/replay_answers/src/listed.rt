@@ -1,8 +1,7 @@
 // Questions over lists: eight words of numbers, the counts of four lists, and then the items of each.
-ghost use Rattle.std.specs.Prelude.{◌≡◌, ◌≤◌, length};
+ghost use Rattle.std.specs.Prelude.{◌≤◌, IfOk};
 
-use replaying::word_at;
-use refusals::Refusal;
+use replaying::{Unanswered, word_at};
 
 // The words before the items, and the most items that a list may have.
 const HEAD: usize = 17;
@@ -10,31 +9,21 @@ const HEAD: usize = 17;
 const MOST: usize = 64;
 
 // The items from a word on, as many as a list may have; only so many of them as the list counts are looked at.
-fn items(case: &[u8], from: usize) -> [f64; 64]
+fn items(case: &[u8], from: usize) -> [f64; MOST]
     requires { from ≤ 1000 }
-    ensures { 64 ≡ length result }
 {
-    let mut list = [0.0; 64];
-    let mut k: usize = 0;
-    while k < MOST {
-        list[k] = replaying::float_at(case, from + k);
-        k += 1;
-    }
-    list
+    std::array::from_fn(|k| replaying::float_at(case, from + k))
 }
 
-// A count that no list may have where the word is larger than any.
-fn count_at(case: &[u8], k: usize) -> usize
-    ensures { result ≤ 65 }
+// How many items a list has; with more than a list may have, it is no question.
+fn count_at(case: &[u8], k: usize) -> Result<usize, Unanswered>
+    ensures { IfOk result (λ count. count ≤ 64) }
 {
     let count = word_at(case, k);
-    if count <= 64 { count as usize } else { 65 }
-}
-
-fn larger(a: usize, b: usize) -> usize
-    ensures { (a ≤ result) × (b ≤ result) }
-{
-    if a < b { b } else { a }
+    if count > MOST as u64 {
+        return Err(Unanswered::NoQuestion);
+    }
+    Ok(count as usize)
 }
 
 // The items of the four lists; a curve alone has two.
@@ -45,7 +34,7 @@ fn over(
     second: &[f64],
     third: &[f64],
     fourth: &[f64],
-) -> Result<f64, Refusal> {
+) -> Result<f64, Unanswered> {
     match question / 100 {
         5 => crate::curve_lookups::answer(question, case, first, second),
         6 => crate::swap_values::answer(question, case, first, second),
@@ -54,18 +43,15 @@ fn over(
     }
 }
 
-pub(crate) fn answer(question: u64, case: &[u8]) -> Result<f64, Refusal> {
-    let first = count_at(case, 13);
-    let second = count_at(case, 14);
-    let third = count_at(case, 15);
-    let fourth = count_at(case, 16);
+pub(crate) fn answer(question: u64, case: &[u8]) -> Result<f64, Unanswered> {
+    let first = count_at(case, 13)?;
+    let second = count_at(case, 14)?;
+    let third = count_at(case, 15)?;
+    let fourth = count_at(case, 16)?;
     let second_from = HEAD + first;
     let third_from = second_from + second;
     let fourth_from = third_from + third;
     if case.len() != (fourth_from + fourth) * 8 {
-        return replaying::no_answer();
-    }
-    if larger(larger(first, second), larger(third, fourth)) > MOST {
         return replaying::no_answer();
     }
     let a = items(case, HEAD);

@@ -14,16 +14,21 @@ mod rows;
 mod spreads;
 mod swap_values;
 
-use replaying::{QUESTION, Tally};
+use refusals::{Cause, Refusal};
+use replaying::{QUESTION, Tally, Unanswered};
 use std::io;
 use std::io::{Cursor, Read};
-use refusals::Refusal;
 
 // Room for the list; a longer one is cut short, and says so by its tally.
 const ROOM: usize = 400000;
 
-// The hundreds of a question say what it is about.
-fn answer(question: u64, case: &[u8]) -> Result<f64, Refusal> {
+// A code is one byte, so that a larger word is outside any set.
+fn code_at(case: &[u8], k: usize) -> Result<u8, Refusal> {
+    u8::try_from(replaying::word_at(case, k)).map_err(|_| refusals::refuse(Cause::Record))
+}
+
+// The hundreds of a question say what it is about. Questions go by the list's numbers: each is asked at one place, where the call beside it says what it is.
+fn answer(question: u64, case: &[u8]) -> Result<f64, Unanswered> {
     match question / 100 {
         1 => powers::answer(question, case),
         2 => loans::answer(question, case),
@@ -40,20 +45,16 @@ fn is_agreed(case: &[u8]) -> bool {
 
 // Every case of a list. One that is cut short is apart, and is the last.
 fn replay(list: &[u8]) -> Tally {
-    let mut tally = Tally {
-        replayed: 0,
-        apart: 0,
-    };
-    let mut at: usize = 0;
-    while at < list.len() {
-        let size = replaying::first_case(&list[at..]);
+    let mut tally = Tally::default();
+    let mut left = list;
+    while !left.is_empty() {
+        let size = replaying::first_case(left);
         if size == 0 {
-            tally = replaying::count_case(tally, false);
-            break;
+            return replaying::count_case(tally, false);
         }
-        let end = at + size;
-        tally = replaying::count_case(tally, is_agreed(&list[at..end]));
-        at = end;
+        let (case, rest) = left.split_at(size);
+        tally = replaying::count_case(tally, is_agreed(case));
+        left = rest;
     }
     tally
 }

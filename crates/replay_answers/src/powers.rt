@@ -1,10 +1,9 @@
 // exp, ln and powers: of x, and of x to the power of y.
-use replaying::float_at;
-use refusals::Refusal;
+use replaying::{Unanswered, float_at};
 
 const BYTES: usize = 7 * 8;
 
-pub(crate) fn answer(question: u64, case: &[u8]) -> Result<f64, Refusal> {
+pub(crate) fn answer(question: u64, case: &[u8]) -> Result<f64, Unanswered> {
     if case.len() != BYTES {
         return replaying::no_answer();
     }
