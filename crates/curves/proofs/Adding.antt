@@ -1,12 +1,16 @@
 -- Sums that are added left to right: one term more, and a sum that is carried on over terms that come after others. Assumes nothing.
 use mathlib.Core.Path.{◌≡◌, refl, sym, ap, ◌∙◌, subst}
-use Prim.Native.Nat.{ℕ, ◌+◌, ◌<◌}
+use mathlib.Core.List.{List, [], ◌∷◌}
+use Prim.Native.Nat.{ℕ, suc, ◌+◌, ◌<◌}
 use native.Mathlib.Nat.{add-zero, zero-add}
 use native.Mathlib.Numerals.{add-one}
 use native.Mathlib.Omega.{arith}
+use lib.ListN.{length}
 use lib.Ieee.{Float, binary64, add}
+use Rattle.std.specs.Prelude.{fold}
 use Rattle.numbers.specs.Clamps.{plus_zero}
 use Rattle.numbers.specs.Sums.{added_up}
+use Rattle.curves.specs.Segments.{knot}
 
 pub one_more : (f : ℕ → Float) (k : ℕ) (sum term : Float) → sum ≡ added_up f k → term ≡ f k → add binary64 sum term ≡ added_up f (k + 1)
 unfolding added_up
@@ -29,6 +33,15 @@ module _ (before : Float) (t : ℕ → Float) where
 
   pub all_of : (sum : Float) (i n : ℕ) → i ≡ n → Carried before sum t i → Carried before sum t n
   all_of sum i n e = subst (Carried before sum t) e
+
+-- numbers added to those before by a fold
+pub numbers_carried : (xs : List Float) (before : Float) → Carried before (fold (add binary64) before xs) (knot xs) (length xs)
+numbers_carried [] before = nothing_yet_lem before (knot [])
+numbers_carried (x ∷ xs) before = λ term k b t.
+    let here : k + 0 ≡ k = omega arith in
+    let later : (i : ℕ) → k + suc i ≡ k + 1 + i = λ i. omega arith in
+    numbers_carried xs (add binary64 before x) term (k + 1) (one_more term k before x b (t 0 (omega arith) ∙ ap term here))
+    (λ i l. t (suc i) (omega arith) ∙ ap term (later i)) ∙ ap (added_up term) (sym (later (length xs)))
 
 -- with no terms before
 pub from_nothing : (sum : Float) (t : ℕ → Float) (n : ℕ) → Carried plus_zero sum t n → sum ≡ added_up t n

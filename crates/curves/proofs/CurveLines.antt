@@ -71,6 +71,9 @@ module _ (times rates : List Float) where
   pub accepted_at_most_120 : (ms : List Line) → accepted tt ≡ verdict (curve_lines times rates ++ ms) → length times ≤ 120
   accepted_at_most_120 ms e = at_most_120 (length times) (none_is (passed tt tt _ _ (passed tt tt _ _ e).1).0 0)
 
+  pub accepted_of_120 : (ms : List Line) (x : Result Unit Refusal) → outcome x ≡ verdict (curve_lines times rates ++ ms) → x ≡ (Ok tt) → length times ≤ 120
+  accepted_of_120 ms x e h = accepted_at_most_120 ms (sym (ap outcome h) ∙ e)
+
   -- ---- the answer of a function that asks line 7 after the curve: the verdict's refusal, or the value
   module _ {Value : Type 0} (v : Value) (x : Result Unit Refusal) (asked bad : Bool) (is_asked : asked ≡ bad) (judge : outcome x ≡ verdict (curve_lines times rates ++ line 7 asked ∷ [])) where
     by_bad : outcome x ≡ verdict (curve_lines times rates ++ line 7 bad ∷ [])

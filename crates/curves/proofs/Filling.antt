@@ -13,9 +13,6 @@ use borrow.Author.Tests.{eqb-true, eqb-false}
 abbrev pub Holds : List Float → (ℕ → Float) → ℕ → Type 0
 Holds l f n = (j : ℕ) → j < n → get_or l j nan ≡ f j
 
-pub one_place : (l : List Float) (f : ℕ → Float) → get_or l 0 nan ≡ f 0 → Holds l f 1
-one_place l f e j h = let z : j ≡ 0 = omega arith in rw z e
-
 pub placed : (l : List Float) (f : ℕ → Float) (n : ℕ) (v : Float) → n < length l → Holds l f n → v ≡ f n → Holds (set l n v) f (n + 1)
 placed l f n v h held e j less = go (eqb j n) (eqb-true j n) (eqb-false j n)
   where

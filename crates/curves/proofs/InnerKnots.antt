@@ -105,12 +105,6 @@ mul_nan nan = refl
 mul_nan (inf s) = refl
 mul_nan (fin s m e) = refl
 
-sub_nan : (x : Float) → sub binary64 x nan ≡ nan
-unfolding sub
-sub_nan nan = refl
-sub_nan (inf s) = refl
-sub_nan (fin s m e) = refl
-
 nan_sub : (x : Float) → sub binary64 nan x ≡ nan
 unfolding sub
 nan_sub x = refl

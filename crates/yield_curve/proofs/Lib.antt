@@ -1,7 +1,5 @@
 pub mod YieldKind
-pub mod Forwards
 pub mod Pars
-pub mod Pivots
 pub mod Points
 pub mod Splines
 pub mod Outside

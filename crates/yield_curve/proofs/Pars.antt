@@ -1,24 +1,19 @@
--- The three ways of a par yield: no half year, a sum too small to divide by, and the quotient. Assumes nothing.
+-- The quotient of a par yield. Assumes nothing.
 use mathlib.Core.Path.{◌≡◌, sym, ap, ◌∙◌}
-use mathlib.Core.Bool.{true, false}
+use mathlib.Core.Bool.{false}
 use mathlib.Core.List.{List}
 use Prim.Native.Nat.{ℕ, suc}
 use lib.Dec.{eqb}
 use lib.IntN.{pos}
 use lib.Ieee.{Float, binary64, sub, mul, div, lt, of_int}
-use borrow.Author.Tests.{eq-eqb, ne_eqb}
+use borrow.Author.Tests.{ne_eqb}
 use Rattle.numbers.specs.Literals.{one, tiny}
-use Rattle.numbers.specs.Clamps.{plus_zero}
 use Rattle.numbers.specs.Sizes.{absolute}
 use Rattle.numbers.specs.Sums.{added_up}
-use Rattle.yield_curve.specs.Linear.{yield_of, discount_of, half_years, half_year, discount_sum, par_of}
-use Rattle.curves.proofs.Choices.{taken, left}
+use Rattle.yield_curve.specs.Linear.{discount_of, half_years, half_year, discount_sum, par_of}
+use Rattle.curves.proofs.Choices.{left}
 
 module _ (times rates : List Float) (t : Float) (count : ℕ) (is_count : count ≡ half_years t) where
-  pub no_half_year : (r : Float) → r ≡ yield_of times rates t → count ≡ 0 → r ≡ par_of times rates t
-  unfolding par_of
-  no_half_year r e z = e ∙ taken _ _ _ (eq-eqb _ 0 (sym is_count ∙ z))
-
   abbrev period : Float
   period = div binary64 t (of_int binary64 (pos count))
 
@@ -38,10 +33,6 @@ module _ (times rates : List Float) (t : Float) (count : ℕ) (is_count : count 
     module _ (size : Float) (is_size : size ≡ absolute sum) where
       size_is : size ≡ absolute (discount_sum times rates t)
       size_is = is_size ∙ ap absolute sum_is
-
-      pub too_small : lt size tiny ≡ true → plus_zero ≡ par_of times rates t
-      unfolding par_of
-      too_small h = taken _ _ _ (ap (λ (x : Float). lt x tiny) (sym size_is) ∙ h) ∙ left _ _ _ none_is
 
       pub quotient : (df : Float) → df ≡ discount_of times rates t → lt size tiny ≡ false
           → div binary64 (sub binary64 one df) (mul binary64 period sum) ≡ par_of times rates t

@@ -1,5 +1,5 @@
 -- The sums of an equation of the least squares, one point after the other. Assumes nothing.
-use mathlib.Core.Path.{◌≡◌, refl}
+use mathlib.Core.Path.{◌≡◌, refl, ap, ◌∙◌}
 use mathlib.Core.List.{List}
 use Prim.Native.Nat.{ℕ, ◌+◌}
 use lib.ListN.{length}
@@ -26,9 +26,9 @@ module _ (times rates : List Float) (g : Float → Float) where
   unfolding added_up
   no_point = refl
 
-  pub all_points : up_to (length times) ≡ against times rates g
+  pub all_points : (k : ℕ) → k ≡ length times → (e : Equation) → e ≡ up_to k → e ≡ against times rates g
   unfolding against
-  all_points = refl
+  all_points k all e h = h ∙ ap up_to all
 
   -- the point k has the loading a against the three, which are 1, s and h, and the rate r
   pub one_point_more : (k : ℕ) (e : Equation) → e ≡ up_to k → (a s h r : Float) → a ≡ g (knot times k) → s ≡ slope_at (knot times k) → h ≡ hump_at (knot times k) → r ≡ knot rates k
@@ -39,3 +39,6 @@ module _ (times rates : List Float) (g : Float → Float) where
       let fz : add binary64 e.z (mul binary64 a h) ≡ (up_to (k + 1)).z = one_more _ k _ _ (rw ih) (rw (ea, eh)) in
       let fi : add binary64 e.is (mul binary64 a r) ≡ (up_to (k + 1)).is = one_more _ k _ _ (rw ih) (rw (ea, er)) in
       rw (fx, fy, fz, fi)
+
+-- what the sums of the points cite
+pub ruleset point_by_point = (no_point, one_point_more)

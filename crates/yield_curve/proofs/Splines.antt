@@ -1,35 +1,15 @@
--- The steps of the spline: up from the first knot, down from the last, and where there is no segment. Assumes nothing.
+-- The steps of the spline down from the last knot, and where there is no segment. Assumes nothing.
 use mathlib.Core.Path.{◌≡◌, refl, sym, ap, ◌∙◌}
-use mathlib.Core.Bool.{cond}
 use mathlib.Core.List.{List}
 use Prim.Native.Nat.{ℕ, suc, ◌+◌, ◌-◌, ◌<◌, ◌≤◌}
-use native.Mathlib.Numerals.{add-one}
 use native.Mathlib.Omega.{arith}
 use lib.ListN.{length, get_or-eq_default}
-use lib.Ieee.{Float, nan, inf, fin, binary64, neg, add, sub, mul, div, lt}
-use Rattle.numbers.specs.Literals.{two}
+use lib.Ieee.{Float, nan, inf, fin, binary64, neg, add, sub, mul, div}
 use Rattle.numbers.specs.Clamps.{plus_zero}
-use Rattle.numbers.specs.Sizes.{absolute}
 use Rattle.curves.specs.Segments.{knot}
-use Rattle.yield_curve.specs.Spline.{guard, long, slope, bend, guarded, pivot, mu, z, c, c_at, b, cubic}
+use Rattle.yield_curve.specs.Spline.{long, slope, mu, z, c, c_at, b, cubic}
 
 module _ (times rates : List Float) where
-  -- ---- up: mu and z of the knot after i, from what is read of the lists
-  module _ (i : ℕ) (h far near : Float) (is_h : h ≡ sub binary64 (knot times (suc i)) (knot times i)) (is_far : far ≡ knot times (suc (i + 1))) (is_near : near ≡ knot times i)
-      (m p : Float) (is_p : p ≡ cond (lt (absolute (sub binary64 (mul binary64 two (sub binary64 far near)) (mul binary64 h m))) guard) guard (sub binary64 (mul binary64 two (sub binary64 far near)) (mul binary64 h m))) where
-    pivot_is : p ≡ pivot times rates m i
-    unfolding pivot guarded long
-    pivot_is = is_p ∙ rw (is_h, is_far, is_near, add-one i)
-
-    pub mu_next : m ≡ mu times rates i → (g : Float) → g ≡ sub binary64 (knot times (suc (i + 1))) (knot times (i + 1)) → div binary64 g p ≡ mu times rates (suc i)
-    unfolding mu long
-    mu_next is_m g is_g = rw (pivot_is, is_g, is_m, add-one i)
-
-    pub z_next : m ≡ mu times rates i → (y : Float) → y ≡ z times rates i → (a : Float) → a ≡ bend times rates i
-        → div binary64 (sub binary64 a (mul binary64 h y)) p ≡ z times rates (suc i)
-    unfolding z long
-    z_next is_m y is_y a is_a = rw (pivot_is, is_a, is_h, is_m, is_y)
-
   -- ---- down: c of a knot from that of the one after it
   c_of : (n k : ℕ) → n ≡ length times → suc k < n → c_at times rates k
       ≡ sub binary64 (z times rates k) (mul binary64 (mu times rates k) (c_at times rates (suc k)))

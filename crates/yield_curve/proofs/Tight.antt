@@ -1,5 +1,5 @@
 -- How tight the promises are: whatever a public function is given, any two results that its contract allows are equal. Assumes nothing.
-use mathlib.Core.Path.{◌≡◌, sym, ap, ◌∙◌}
+use mathlib.Core.Path.{sym, ap, ◌∙◌}
 use mathlib.Core.List.{List}
 use lib.Ieee.{Float}
 use Rattle.numbers.proofs.Determined.{Determined, Settled}
@@ -30,10 +30,6 @@ use Rattle.yield_curve.proofs.each.rate_at_each.Kinds as rate_at_each_kinds
 use Rattle.yield_curve.proofs.each.rate_at_each.Reads as rate_at_each
 use Rattle.yield_curve.proofs.each.discount_factor_at_each.Kinds as discount_factor_at_each_kinds
 use Rattle.yield_curve.proofs.each.discount_factor_at_each.Reads as discount_factor_at_each
-use Rattle.std.specs.declared.result.Result.TheVariants.{Ok, Err}
-use Rattle.std.specs.declared.result.Result.{Result}
-use Rattle.refusals.specs.declared.Refusal.{Refusal}
-use Rattle.refusals.specs.Answers.{outcome}
 
 -- ---- so each promise leaves one result
 pub linear_interpolate_determined : Determined 2 linear_interpolate_kinds.ps linear_interpolate_kinds.r linear_interpolate.Post

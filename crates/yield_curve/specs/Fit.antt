@@ -5,7 +5,7 @@ use Rattle.std.specs.Float.Ieee.{mul, lt}
 use Rattle.numbers.specs.Literals.{one, half}
 use Rattle.numbers.specs.Clamps.{plus_zero}
 use Rattle.numbers.specs.Sums.{added_up}
-use Rattle.refusals.specs.Outcome.{Outcome, refused, accepted, judged}
+use Rattle.refusals.specs.Outcome.{Outcome, judged}
 use Rattle.yield_curve.specs.declared.nelson_siegel.NelsonSiegel.{NelsonSiegel}
 use Rattle.yield_curve.specs.declared.solve.System.{System}
 use Rattle.yield_curve.specs.declared.solve.Equation.{Equation}
@@ -53,4 +53,3 @@ module _ (times rates : List Float) where
 
 unfoldable pub fit : List Float → List Float → Outcome NelsonSiegel
 fit times rates = judged (curve_lines times rates) (fitted times rates)
-

@@ -8,6 +8,7 @@ use curves::kinds::Kind;
 use refusals::Refusal;
 
 // The yield at each time.
+#[tactic(auto, unfolding(curves::specs::Kinds::rate_on, curves::specs::Kinds::served_by, curves::specs::Kinds::along, crate::specs::Linear::yield_of))]
 pub fn rate_at_each(times: &[f64], rates: &[f64], asked: &mut [f64]) -> Result<(), Refusal>
     ensures { (outcome result ≡ each_outcome times.now rates.now asked.old) × (asked.new ≡ each_after (yield_of times.now rates.now) times.now rates.now asked.old) }
 {
@@ -15,7 +16,12 @@ pub fn rate_at_each(times: &[f64], rates: &[f64], asked: &mut [f64]) -> Result<(
 }
 
 // The discount factor at each time.
-pub fn discount_factor_at_each(times: &[f64], rates: &[f64], asked: &mut [f64]) -> Result<(), Refusal>
+#[tactic(auto, unfolding(curves::specs::Kinds::discount_on, curves::specs::Kinds::discounted, curves::specs::Kinds::rate_on, curves::specs::Kinds::served_by, curves::specs::Kinds::along, crate::specs::Linear::discount_of, crate::specs::Linear::yield_of))]
+pub fn discount_factor_at_each(
+    times: &[f64],
+    rates: &[f64],
+    asked: &mut [f64],
+) -> Result<(), Refusal>
     ensures { (outcome result ≡ each_outcome times.now rates.now asked.old) × (asked.new ≡ each_after (discount_of times.now rates.now) times.now rates.now asked.old) }
 {
     curves::each::discount_factor_at_each(Kind::YieldCurve, times, rates, asked)

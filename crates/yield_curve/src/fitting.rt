@@ -9,8 +9,9 @@ ghost use Rattle.refusals.specs.Answers.{outcome};
 ghost use Rattle.yield_curve.specs.Fit.{slope_at, hump_at, least_squares, fitted, fit};
 ghost use Rattle.yield_curve.specs.inner.Loadings.{loading_exponent};
 
-use crate::nelson_siegel::{Loadings, NelsonSiegel};
+use crate::nelson_siegel::{Loadings, NelsonSiegel, loadings_by};
 use crate::solve::{Equation, System};
+use curves::curve::judge_curve;
 use curves::segments::knot_at;
 use elementary::exp::exp_each;
 use refusals::Refusal;
@@ -26,10 +27,8 @@ fn put_exponents(times: &[f64], room: &mut [f64])
     requires { length times.now ≤ length room.old }
     ensures { (i : ℕ) → i < length times.now → knot room.new i ≡ loading_exponent (knot times.now i) }
 {
-    let mut i: usize = 0;
-    while i < times.len() {
-        room[i] = exponent_at(times[i]);
-        i += 1;
+    for (i, &t) in times.iter().enumerate() {
+        room[i] = exponent_at(t);
     }
 }
 
@@ -39,11 +38,12 @@ fn put_decays(times: &[f64], room: &mut [f64])
     ensures { (i : ℕ) → i < length times.now → knot room.new i ≡ exp (loading_exponent (knot times.now i)) }
 {
     put_exponents(times, room);
-    let eights = (times.len() + 7) / 8 * 8;
+    let eights = times.len().next_multiple_of(8);
     exp_each(&mut room[..eights]);
 }
 
 // The loadings of a point's time, by the exp that they take.
+#[tactic(auto, unfolding(crate::specs::Fit::slope_at, crate::specs::Fit::hump_at))]
 fn loadings_at(t: f64, left: f64) -> Loadings
     requires { left ≡ exp (loading_exponent t) }
     ensures { (result.slope ≡ slope_at t) × (result.hump ≡ hump_at t) }
@@ -54,11 +54,7 @@ fn loadings_at(t: f64, left: f64) -> Loadings
             hump: 0.0,
         };
     }
-    let slope = (1.0 - left) / (t / 0.5);
-    Loadings {
-        slope,
-        hump: slope - left,
-    }
+    loadings_by(t / 0.5, left)
 }
 
 // An equation's sums with one point more, which has the loading g against the three.
@@ -74,6 +70,7 @@ fn with_point(e: Equation, g: f64, l: Loadings, rate: f64) -> Equation
 }
 
 // The sums of all points, one after the other.
+#[tactic(auto, using(crate::proofs::Points::point_by_point))]
 fn least_squares(times: &[f64], rates: &[f64]) -> System
     requires { length times.now ≤ 120 }
     ensures { result ≡ least_squares times.now rates.now }
@@ -89,14 +86,12 @@ fn least_squares(times: &[f64], rates: &[f64]) -> System
     let mut first = none;
     let mut second = none;
     let mut third = none;
-    let mut i: usize = 0;
-    while i < times.len() {
+    for (i, &t) in times.iter().enumerate() {
         let rate = knot_at(rates, i);
-        let l = loadings_at(times[i], decays[i]);
+        let l = loadings_at(t, decays[i]);
         first = with_point(first, 1.0, l, rate);
         second = with_point(second, l.slope, l, rate);
         third = with_point(third, l.hump, l, rate);
-        i += 1;
     }
     System {
         first,
@@ -106,6 +101,7 @@ fn least_squares(times: &[f64], rates: &[f64]) -> System
 }
 
 // The model of a curve of at most 120 points.
+#[tactic(auto, unfolding(crate::specs::Fit::fitted))]
 fn fit_points(times: &[f64], rates: &[f64]) -> NelsonSiegel
     requires { length times.now ≤ 120 }
     ensures { result ≡ fitted times.now rates.now }
@@ -127,11 +123,10 @@ fn fit_points(times: &[f64], rates: &[f64]) -> NelsonSiegel
     }
 }
 
+#[tactic(auto, using(refusals::proofs::Verdicts::accepted_by, curves::proofs::CurveLines::accepted_of_120), unfolding(crate::specs::Fit::fit))]
 pub fn fit(times: &[f64], rates: &[f64]) -> Result<NelsonSiegel, Refusal>
     ensures { outcome result ≡ fit times.now rates.now }
 {
-    match curves::curve::judge_curve(times, rates) {
-        Err(refusal) => Err(refusal),
-        Ok(()) => Ok(fit_points(times, rates)),
-    }
+    judge_curve(times, rates)?;
+    Ok(fit_points(times, rates))
 }

@@ -15,6 +15,7 @@ use numbers::sizes::absolute_value;
 use refusals::Refusal;
 
 // The yield at a time.
+#[tactic(auto, using(crate::proofs::YieldKind::yield_on_lem))]
 pub(crate) fn yield_of(times: &[f64], rates: &[f64], t: f64) -> f64
     requires { Rising times.now }
     ensures { result ≡ yield_of times.now rates.now t }
@@ -22,6 +23,7 @@ pub(crate) fn yield_of(times: &[f64], rates: &[f64], t: f64) -> f64
     curves::lookups::rate_of(Kind::YieldCurve, times, rates, t)
 }
 
+#[tactic(auto, using(crate::proofs::YieldKind::discount_on_lem))]
 fn discount_of(times: &[f64], rates: &[f64], t: f64) -> f64
     requires { Rising times.now }
     ensures { result ≡ discount_of times.now rates.now t }
@@ -29,6 +31,7 @@ fn discount_of(times: &[f64], rates: &[f64], t: f64) -> f64
     curves::lookups::discount_of(Kind::YieldCurve, times, rates, t)
 }
 
+#[tactic(auto, unfolding(crate::specs::Linear::forward_of))]
 fn forward_of(times: &[f64], rates: &[f64], t1: f64, t2: f64) -> f64
     requires { Rising times.now }
     ensures { result ≡ forward_of times.now rates.now t1 t2 }
@@ -40,24 +43,11 @@ fn forward_of(times: &[f64], rates: &[f64], t1: f64, t2: f64) -> f64
     (t2 * yield_of(times, rates, t2) - t1 * y1) / (t2 - t1)
 }
 
+#[tactic(auto, unfolding(crate::specs::Linear::half_years))]
 fn half_years(t: f64) -> u32
     ensures { result ≡ half_years t }
 {
     numbers::whole::nearest_whole(t * 2.0)
-}
-
-// So many numbers added left to right to the sum of the terms before.
-fn added_on(factors: &[f64], count: usize, before: f64) -> f64
-    requires { count ≤ length factors.now }
-    ensures { (term : ℕ → Float) (k : ℕ) → before ≡ added_up term k → ((j : ℕ) → j < count → knot factors.now j ≡ term (k + j)) → result ≡ added_up term (k + count) }
-{
-    let mut sum = before;
-    let mut j: usize = 0;
-    while j < count {
-        sum = sum + factors[j];
-        j += 1;
-    }
-    sum
 }
 
 // At most 64 discount factors more, of the dates after the first ones.
@@ -66,23 +56,32 @@ fn add_run(times: &[f64], rates: &[f64], dt: f64, sum: f64, first: u32, count: u
     ensures { result ≡ added_up (λ (i : ℕ). discount_of times.now rates.now (mul binary64 (of_int binary64 (pos (suc i))) dt)) (first + count) }
 {
     let factors = factors_after(Kind::YieldCurve, dt, times, rates, first, count);
-    added_on(&factors, count, sum)
+    factors[..count]
+        .iter()
+        .fold(sum, |sum, factor| sum + factor)
 }
 
 // The discount factors of so many dates, dt apart, added left to right from +0, 64 at a time.
+#[tactic(auto, unfolding(numbers::specs::Sums::added_up))]
 fn discount_sum(times: &[f64], rates: &[f64], dt: f64, count: u32) -> f64
     requires { Rising times.now }
     ensures { result ≡ added_up (λ (i : ℕ). discount_of times.now rates.now (mul binary64 (of_int binary64 (pos (suc i))) dt)) count }
 {
     let mut sum = 0.0;
-    let mut k: u32 = 0;
-    while count - k >= 64 {
-        sum = add_run(times, rates, dt, sum, k, 64);
-        k += 64;
+    for run in 0..count / 64 {
+        sum = add_run(times, rates, dt, sum, run * 64, 64);
     }
-    add_run(times, rates, dt, sum, k, (count - k) as usize)
+    add_run(
+        times,
+        rates,
+        dt,
+        sum,
+        count / 64 * 64,
+        (count % 64) as usize,
+    )
 }
 
+#[tactic(auto, using(crate::proofs::Pars::quotient), unfolding(crate::specs::Linear::par_of, crate::specs::Linear::half_year, crate::specs::Linear::discount_sum))]
 fn par_of(times: &[f64], rates: &[f64], t: f64) -> f64
     requires { Rising times.now }
     ensures { result ≡ par_of times.now rates.now t }
@@ -103,52 +102,45 @@ fn par_of(times: &[f64], rates: &[f64], t: f64) -> f64
 fn bad_times(t1: f64, t2: f64) -> bool
     ensures { result ≡ (bad_time t1 || bad_time t2) }
 {
-    if bad_time(t1) { true } else { bad_time(t2) }
+    bad_time(t1) || bad_time(t2)
 }
 
 // Line 7, of a par yield's maturity.
+#[tactic(auto, unfolding(refusals::specs::Table::too_many_periods))]
 fn bad_maturity(t: f64) -> bool
     ensures { result ≡ (bad_time t || too_many_periods (half_years t)) }
 {
-    if bad_time(t) {
-        true
-    } else {
-        half_years(t) > 1200
-    }
+    bad_time(t) || half_years(t) > 1200
 }
 
+#[tactic(auto, using(crate::proofs::YieldKind::asked_first), unfolding(crate::specs::Linear::linear_interpolate))]
 pub fn linear_interpolate(times: &[f64], rates: &[f64], t: f64) -> Result<f64, Refusal>
     ensures { outcome result ≡ linear_interpolate times.now rates.now t }
 {
-    match judge_asked(times, rates, bad_time(t)) {
-        Err(refusal) => Err(refusal),
-        Ok(()) => Ok(yield_of(times, rates, t)),
-    }
+    judge_asked(times, rates, bad_time(t))?;
+    Ok(yield_of(times, rates, t))
 }
 
+#[tactic(auto, using(crate::proofs::YieldKind::asked_first), unfolding(crate::specs::Linear::discount_factor))]
 pub fn discount_factor(times: &[f64], rates: &[f64], t: f64) -> Result<f64, Refusal>
     ensures { outcome result ≡ discount_factor times.now rates.now t }
 {
-    match judge_asked(times, rates, bad_time(t)) {
-        Err(refusal) => Err(refusal),
-        Ok(()) => Ok(discount_of(times, rates, t)),
-    }
+    judge_asked(times, rates, bad_time(t))?;
+    Ok(discount_of(times, rates, t))
 }
 
+#[tactic(auto, using(crate::proofs::YieldKind::asked_first), unfolding(crate::specs::Linear::forward_rate))]
 pub fn forward_rate(times: &[f64], rates: &[f64], t1: f64, t2: f64) -> Result<f64, Refusal>
     ensures { outcome result ≡ forward_rate times.now rates.now t1 t2 }
 {
-    match judge_asked(times, rates, bad_times(t1, t2)) {
-        Err(refusal) => Err(refusal),
-        Ok(()) => Ok(forward_of(times, rates, t1, t2)),
-    }
+    judge_asked(times, rates, bad_times(t1, t2))?;
+    Ok(forward_of(times, rates, t1, t2))
 }
 
+#[tactic(auto, using(crate::proofs::YieldKind::asked_first), unfolding(crate::specs::Linear::par_yield))]
 pub fn par_yield(times: &[f64], rates: &[f64], t: f64) -> Result<f64, Refusal>
     ensures { outcome result ≡ par_yield times.now rates.now t }
 {
-    match judge_asked(times, rates, bad_maturity(t)) {
-        Err(refusal) => Err(refusal),
-        Ok(()) => Ok(par_of(times, rates, t)),
-    }
+    judge_asked(times, rates, bad_maturity(t))?;
+    Ok(par_of(times, rates, t))
 }

@@ -42,54 +42,46 @@ fn is_small(x: f64) -> bool
 }
 
 // The largest x comes first, the earliest of equals.
+#[tactic(auto, unfolding(crate::specs::Solve::pivoted_a))]
 fn pivot_x(s: System) -> System
     ensures { result ≡ pivoted_a s }
 {
-    let first = s.first;
-    let second = s.second;
-    let third = s.third;
-    if is_larger(second.x, first.x) {
-        if is_larger(third.x, second.x) {
-            return System {
-                first: third,
-                second,
-                third: first,
-            };
-        }
+    let second_is_larger = is_larger(s.second.x, s.first.x);
+    let larger = if second_is_larger { s.second } else { s.first };
+    if is_larger(s.third.x, larger.x) {
         return System {
-            first: second,
-            second: first,
-            third,
+            first: s.third,
+            third: s.first,
+            ..s
         };
     }
-    if is_larger(third.x, first.x) {
+    if second_is_larger {
         return System {
-            first: third,
-            second,
-            third: first,
+            first: s.second,
+            second: s.first,
+            ..s
         };
     }
     s
 }
 
 // The larger y of the last two comes second.
+#[tactic(auto, unfolding(crate::specs::Solve::pivoted_b))]
 fn pivot_y(s: System) -> System
     ensures { result ≡ pivoted_b s }
 {
-    let first = s.first;
-    let second = s.second;
-    let third = s.third;
-    if is_larger(third.y, second.y) {
+    if is_larger(s.third.y, s.second.y) {
         return System {
-            first,
-            second: third,
-            third: second,
+            second: s.third,
+            third: s.second,
+            ..s
         };
     }
     s
 }
 
 // An equation less so many times another, from x on.
+#[tactic(auto, unfolding(crate::specs::Solve::less_a))]
 fn less_x(p: Equation, times: f64, e: Equation) -> Equation
     ensures { result ≡ less_a p times e }
 {
@@ -102,40 +94,34 @@ fn less_x(p: Equation, times: f64, e: Equation) -> Equation
 }
 
 // The same from y on.
+#[tactic(auto, unfolding(crate::specs::Solve::less_a, crate::specs::Solve::less_b))]
 fn less_y(p: Equation, times: f64, e: Equation) -> Equation
     ensures { result ≡ less_b p times e }
 {
     Equation {
         x: e.x,
-        y: e.y - p.y * times,
-        z: e.z - p.z * times,
-        is: e.is - p.is * times,
+        ..less_x(p, times, e)
     }
 }
 
+#[tactic(auto, unfolding(crate::specs::Solve::cleared_a))]
 fn clear_x(s: System) -> System
     ensures { result ≡ cleared_a s }
 {
-    let first = s.first;
-    let second = s.second;
-    let third = s.third;
     System {
-        first,
-        second: less_x(first, second.x / first.x, second),
-        third: less_x(first, third.x / first.x, third),
+        second: less_x(s.first, s.second.x / s.first.x, s.second),
+        third: less_x(s.first, s.third.x / s.first.x, s.third),
+        ..s
     }
 }
 
+#[tactic(auto, unfolding(crate::specs::Solve::cleared_b))]
 fn clear_y(s: System) -> System
     ensures { result ≡ cleared_b s }
 {
-    let first = s.first;
-    let second = s.second;
-    let third = s.third;
     System {
-        first,
-        second,
-        third: less_y(second, third.y / second.y, third),
+        third: less_y(s.second, s.third.y / s.second.y, s.third),
+        ..s
     }
 }
 
@@ -150,46 +136,44 @@ fn no_solution() -> Unknowns
 }
 
 // Back from the last: z, then y, then x, each less what is known.
+#[tactic(auto, unfolding(crate::specs::Solve::backed))]
 fn go_back(s: System) -> Unknowns
     ensures { result ≡ backed s }
 {
-    let first = s.first;
-    let second = s.second;
-    let third = s.third;
-    let z = third.is / third.z;
-    let y = (second.is - second.z * z) / second.y;
-    let x = (first.is - first.y * y - first.z * z) / first.x;
+    let z = s.third.is / s.third.z;
+    let y = (s.second.is - s.second.z * z) / s.second.y;
+    let x = (s.first.is - s.first.y * y - s.first.z * z) / s.first.x;
     Unknowns { x, y, z }
 }
 
 // With x and y cleared.
+#[tactic(auto, unfolding(crate::specs::Solve::solved_b))]
 fn solve_z(s: System) -> Unknowns
     ensures { result ≡ solved_b s }
 {
-    let third = s.third;
-    if is_small(third.z) {
+    if is_small(s.third.z) {
         return no_solution();
     }
     go_back(s)
 }
 
 // With x cleared and the pivot of y in its place.
+#[tactic(auto, unfolding(crate::specs::Solve::solved_a))]
 fn solve_y(s: System) -> Unknowns
     ensures { result ≡ solved_a s }
 {
-    let second = s.second;
-    if is_small(second.y) {
+    if is_small(s.second.y) {
         return no_solution();
     }
     solve_z(clear_y(s))
 }
 
+#[tactic(auto, unfolding(crate::specs::Solve::solved))]
 pub fn solve_system(s: System) -> Unknowns
     ensures { result ≡ solved s }
 {
     let p = pivot_x(s);
-    let first = p.first;
-    if is_small(first.x) {
+    if is_small(p.first.x) {
         return no_solution();
     }
     solve_y(pivot_y(clear_x(p)))

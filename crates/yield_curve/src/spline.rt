@@ -1,5 +1,5 @@
 // The natural cubic spline through a curve's knots.
-ghost use Rattle.std.specs.Prelude.{◌≡◌, cond, ℕ, suc, ◌<◌, ◌≤◌, length, get_or};
+ghost use Rattle.std.specs.Prelude.{◌≡◌, cond, ℕ, suc, ◌<◌, ◌≤◌, length, slice_index_or};
 ghost use Rattle.std.specs.Float.{nan, binary64};
 ghost use Rattle.std.specs.Float.Ieee.{sub, lt};
 ghost use Rattle.numbers.specs.Sizes.{absolute};
@@ -21,13 +21,6 @@ pub struct Swept {
     pub z: f64,
 }
 
-// mu and z of every knot but the last.
-#[derive(Clone, Copy)]
-pub struct SweptKnots {
-    pub mu: [f64; 120],
-    pub z: [f64; 120],
-}
-
 // c of the two ends of a segment.
 #[derive(Clone, Copy)]
 pub struct Bends {
@@ -42,6 +35,7 @@ fn rise(xs: &[f64], i: usize) -> f64
     knot_after(xs, i) - knot_at(xs, i)
 }
 
+#[tactic(auto, unfolding(crate::specs::Spline::slope, crate::specs::Spline::long))]
 fn slope(times: &[f64], rates: &[f64], i: usize) -> f64
     ensures { result ≡ slope times.now rates.now i }
 {
@@ -49,6 +43,7 @@ fn slope(times: &[f64], rates: &[f64], i: usize) -> f64
 }
 
 // How much the slope changes at the knot after i, three times.
+#[tactic(auto, unfolding(crate::specs::Spline::bend))]
 fn bend(times: &[f64], rates: &[f64], i: usize) -> f64
     requires { i < 120 }
     ensures { result ≡ bend times.now rates.now i }
@@ -64,6 +59,7 @@ fn guarded(x: f64) -> f64
 }
 
 // The sweep up: mu and z of the knot after i, by those of i.
+#[tactic(auto, unfolding(crate::specs::Spline::mu, crate::specs::Spline::z, crate::specs::Spline::pivot, crate::specs::Spline::guarded, crate::specs::Spline::long))]
 fn sweep_next(times: &[f64], rates: &[f64], i: usize, s: Swept) -> Swept
     requires { (i < 120) × (s.mu ≡ mu times.now rates.now i) × (s.z ≡ z times.now rates.now i) }
     ensures { (result.mu ≡ mu times.now rates.now (suc i)) × (result.z ≡ z times.now rates.now (suc i)) }
@@ -76,43 +72,41 @@ fn sweep_next(times: &[f64], rates: &[f64], i: usize, s: Swept) -> Swept
     }
 }
 
-// The whole sweep, from the first knot, where both are 0.
-fn sweep_up(times: &[f64], rates: &[f64]) -> SweptKnots
+// The whole sweep, from the first knot, where both are 0: mu and z of every knot but the last.
+#[tactic(auto, unfolding(crate::specs::Spline::mu, crate::specs::Spline::z))]
+fn sweep_up(times: &[f64], rates: &[f64]) -> [Swept; 120]
     requires { length times.now ≤ 120 }
-    ensures { (i : ℕ) → suc i < length times.now → (get_or result.mu i nan ≡ mu times.now rates.now i) × (get_or result.z i nan ≡ z times.now rates.now i) }
+    ensures len { length result ≡ 120 }
+    ensures each { (i : ℕ) (none : Swept) → suc i < length times.now → ((slice_index_or result i none).mu ≡ mu times.now rates.now i) × ((slice_index_or result i none).z ≡ z times.now rates.now i) }
 {
-    let mut mus = [0.0; 120];
-    let mut zs = [0.0; 120];
     let mut s = Swept { mu: 0.0, z: 0.0 };
-    let mut i: usize = 0;
-    while i + 2 < times.len() {
+    let mut swept = [s; 120];
+    for i in 0..times.len().saturating_sub(2) {
         s = sweep_next(times, rates, i, s);
-        i += 1;
-        mus[i] = s.mu;
-        zs[i] = s.z;
+        swept[i + 1] = s;
     }
-    SweptKnots { mu: mus, z: zs }
+    swept
 }
 
 // The way down: c from the last knot, where it is 0, to the two ends of the segment i.
+#[tactic(auto, using(crate::proofs::Splines::c_last))]
 fn bends_on(times: &[f64], rates: &[f64], i: usize) -> Bends
     requires { (suc i < length times.now) × (length times.now ≤ 120) }
     ensures { (result.here ≡ c_at times.now rates.now i) × (result.next ≡ c_at times.now rates.now (suc i)) }
 {
-    let s = sweep_up(times, rates);
+    let swept = sweep_up(times, rates);
     let mut c = 0.0;
-    let mut k = times.len() - 1;
-    while k > i + 1 {
-        k -= 1;
-        c = s.z[k] - s.mu[k] * c;
+    for k in (i + 1..times.len() - 1).rev() {
+        c = swept[k].z - swept[k].mu * c;
     }
     Bends {
-        here: s.z[i] - s.mu[i] * c,
+        here: swept[i].z - swept[i].mu * c,
         next: c,
     }
 }
 
 // a + b·dx + c·dx·dx + d·dx·dx·dx on the segment i.
+#[tactic(auto, unfolding(crate::specs::Spline::cubic, crate::specs::Spline::b, crate::specs::Spline::d, crate::specs::Spline::long))]
 fn cubic(times: &[f64], rates: &[f64], i: usize, t: f64) -> f64
     requires { (suc i < length times.now) × (length times.now ≤ 120) }
     ensures { result ≡ cubic times.now rates.now i (sub binary64 t (knot times.now i)) }
@@ -126,6 +120,7 @@ fn cubic(times: &[f64], rates: &[f64], i: usize, t: f64) -> f64
 }
 
 // The spline at a time, for at most 120 knots; fewer than three make a straight line.
+#[tactic(auto, using(crate::proofs::Splines::no_segment), unfolding(crate::specs::Spline::spline_of, curves::specs::Segments::flat_outside))]
 fn spline_of(times: &[f64], rates: &[f64], t: f64) -> f64
     requires { (length times.now ≤ 120) × Rising times.now }
     ensures { result ≡ spline_of times.now rates.now t }
@@ -146,11 +141,10 @@ fn spline_of(times: &[f64], rates: &[f64], t: f64) -> f64
     no_knot()
 }
 
+#[tactic(auto, using(crate::proofs::YieldKind::asked_first), unfolding(crate::specs::Spline::cubic_spline_interpolate))]
 pub fn cubic_spline_interpolate(times: &[f64], rates: &[f64], t: f64) -> Result<f64, Refusal>
     ensures { outcome result ≡ cubic_spline_interpolate times.now rates.now t }
 {
-    match judge_asked(times, rates, bad_time(t)) {
-        Err(refusal) => Err(refusal),
-        Ok(()) => Ok(spline_of(times, rates, t)),
-    }
+    judge_asked(times, rates, bad_time(t))?;
+    Ok(spline_of(times, rates, t))
 }
