@@ -101,17 +101,20 @@ fn between_ends(x: f64) -> f64
 }
 
 // The same where it is known whether x / ln 2 is below zero: nothing waits for the test for a half, which is rare.
+// A call of `negated_if` would hide from the compiler that -(x·c) is x·(-c): 3% more instructions.
 fn on_side<const BELOW: bool>(x: f64) -> f64
     requires inside { Inside x }
     requires side { below x ≡ BELOW }
     ensures { result ≡ exp x }
 {
-    let a = negated_if(BELOW, x * INVERSE_LN2);
+    let y = x * INVERSE_LN2;
+    let a = if BELOW { -y } else { y };
     let n = nearest(a);
     if a >= n + 0.5 {
         return between_ends(x);
     }
-    by_multiple(x, negated_if(BELOW, n))
+    let k = if BELOW { -n } else { n };
+    by_multiple(x, k)
 }
 
 pub fn exp(x: f64) -> f64
