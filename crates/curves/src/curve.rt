@@ -106,13 +106,9 @@ pub fn judge_curve(times: &[f64], rates: &[f64]) -> Result<(), Refusal>
 pub fn judge_asked(times: &[f64], rates: &[f64], bad: bool) -> Result<(), Refusal>
     ensures { outcome result ≡ judged (curve_lines times.now rates.now ++ line 7 bad ∷ []) tt }
 {
-    match judge_curve(times, rates) {
-        Err(refusal) => Err(refusal),
-        Ok(()) => {
-            if bad {
-                return Err(refuse(Cause::Time));
-            }
-            Ok(())
-        }
+    judge_curve(times, rates)?;
+    if bad {
+        return Err(refuse(Cause::Time));
     }
+    Ok(())
 }

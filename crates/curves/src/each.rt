@@ -1,5 +1,5 @@
 // A list of lookups on one curve: the curve and the times are judged once, and each time gives way to its answer.
-ghost use Rattle.std.specs.Prelude.{◌≡◌, true, cond, [], ◌∷◌, map, ℕ, ◌<◌, ◌≤◌, length, get_or, take, position};
+ghost use Rattle.std.specs.Prelude.{◌≡◌, true, cond, [], ◌∷◌, map, ℕ, ◌<◌, ◌≤◌, ◌%◌, length, get_or, position};
 ghost use Rattle.std.specs.Float.{nan};
 ghost use Rattle.std.specs.Float.Ieee.{le};
 ghost use Rattle.std.specs.Float.Ieee.Scale.{finite};
@@ -57,10 +57,8 @@ fn judge_times(asked: &[f64]) -> Result<(), Refusal>
 pub fn judge_each(times: &[f64], rates: &[f64], asked: &[f64]) -> Result<(), Refusal>
     ensures { outcome result ≡ each_outcome times.now rates.now asked.now }
 {
-    match judge_curve(times, rates) {
-        Err(refusal) => Err(refusal),
-        Ok(()) => judge_times(asked),
-    }
+    judge_curve(times, rates)?;
+    judge_times(asked)
 }
 
 // A rate, or what the discount factor at its time is the exp of.
@@ -106,25 +104,16 @@ fn answer_one_by_one(kind: Kind, exponents: bool, times: &[f64], rates: &[f64], 
     }
 }
 
-// The times, and zeros behind them.
-fn filled_up(asked: &[f64]) -> [f64; 8]
-    requires { length asked.now ≤ 8 }
-    ensures len { length result ≡ 8 }
-    ensures front { take (length asked.now) result ≡ asked.now }
-{
-    let mut room = [0.0; 8];
-    room[..asked.len()].copy_from_slice(asked);
-    room
-}
-
 // Up to eight answers at once, in room for eight.
 fn answer_few(kind: Kind, exponents: bool, times: &[f64], rates: &[f64], asked: &mut [f64])
     requires { (length asked.old ≤ 8) × (2 ≤ length times.now) × (length times.now ≤ length rates.now) }
     ensures { Rising times.now → asked.new ≡ map (answer_on kind exponents times.now rates.now) asked.old }
 {
-    let mut room = filled_up(asked);
+    let mut room = [0.0; 8];
+    let end = asked.len();
+    room[..end].copy_from_slice(asked);
     answer_eight(kind, exponents, times, rates, &mut room);
-    asked.copy_from_slice(&room[..asked.len()]);
+    asked.copy_from_slice(&room[..end]);
 }
 
 // Fewer than eight: one or two are quicker one by one.
@@ -139,18 +128,26 @@ fn answer_last(kind: Kind, exponents: bool, times: &[f64], rates: &[f64], asked:
     }
 }
 
+// Whole eights of answers.
+fn answer_eights(kind: Kind, exponents: bool, times: &[f64], rates: &[f64], asked: &mut [f64])
+    requires { (length asked.old % 8 ≡ 0) × (2 ≤ length times.now) × (length times.now ≤ length rates.now) }
+    ensures { Rising times.now → asked.new ≡ map (answer_on kind exponents times.now rates.now) asked.old }
+{
+    for k in 0..asked.len() / 8 {
+        let at = 8 * k;
+        answer_eight(kind, exponents, times, rates, &mut asked[at..at + 8]);
+    }
+}
+
 // All answers, eight at a time.
 fn answer_in_eights(kind: Kind, exponents: bool, times: &[f64], rates: &[f64], asked: &mut [f64])
     requires { (2 ≤ length times.now) × (length times.now ≤ length rates.now) }
     ensures { Rising times.now → asked.new ≡ map (answer_on kind exponents times.now rates.now) asked.old }
 {
-    let mut at: usize = 0;
-    while asked.len() - at >= 8 {
-        let end = at + 8;
-        answer_eight(kind, exponents, times, rates, &mut asked[at..end]);
-        at = end;
-    }
-    answer_last(kind, exponents, times, rates, &mut asked[at..]);
+    let end = asked.len() - asked.len() % 8;
+    let (eights, last) = asked.split_at_mut(end);
+    answer_eights(kind, exponents, times, rates, eights);
+    answer_last(kind, exponents, times, rates, last);
 }
 
 // All answers; a curve of one knot has no segment to look for.
@@ -258,13 +255,9 @@ pub fn rate_at_each(
 ) -> Result<(), Refusal>
     ensures { (outcome result ≡ each_outcome times.now rates.now asked.old) × (asked.new ≡ each_after (rate_on kind times.now rates.now) times.now rates.now asked.old) }
 {
-    match judge_each(times, rates, asked) {
-        Err(refusal) => Err(refusal),
-        Ok(()) => {
-            rates_of(kind, times, rates, asked);
-            Ok(())
-        }
-    }
+    judge_each(times, rates, asked)?;
+    rates_of(kind, times, rates, asked);
+    Ok(())
 }
 
 // The discount factor at each time.
@@ -276,11 +269,7 @@ pub fn discount_factor_at_each(
 ) -> Result<(), Refusal>
     ensures { (outcome result ≡ each_outcome times.now rates.now asked.old) × (asked.new ≡ each_after (discount_on kind times.now rates.now) times.now rates.now asked.old) }
 {
-    match judge_each(times, rates, asked) {
-        Err(refusal) => Err(refusal),
-        Ok(()) => {
-            discounts_of(kind, times, rates, asked);
-            Ok(())
-        }
-    }
+    judge_each(times, rates, asked)?;
+    discounts_of(kind, times, rates, asked);
+    Ok(())
 }

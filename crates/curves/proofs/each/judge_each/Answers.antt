@@ -1,20 +1,21 @@
 -- `curves::each::judge_each` meets its contract: line 7 is asked where the curve is accepted. Assumes nothing.
-use mathlib.Core.Path.{sym, ap, ◌∙◌}
-use native.Mathlib.Omega.{arith}
+use Rattle.std.proofs.Common.{sym, ap, ◌∙◌, arith}
+use Rattle.refusals.specs.Answers.{outcome}
 use Rattle.refusals.proofs.Placing.{refused_early, decided_late}
+use Rattle.refusals.proofs.Verdicts.{handed_on}
 use Rattle.curves.specs.Curve.{curve_lines}
 use Rattle.curves.specs.Lists.{each_outcome}
 use Rattle.curves.proofs.each.judge_each.Goals as goal
-use Rattle.refusals.specs.Answers.{outcome}
 
-pub returns-in-Err : goal.returns-in-Err
+pub returns-in_err-judge_curve : goal.returns-in_err-judge_curve
 unfolding each_outcome
-returns-in-Err c =
+returns-in_err-judge_curve c =
     let a = c.args in
-    refused_early (curve_lines a.times.now a.rates.now) _ _ _ (omega arith) (sym (ap outcome c.in-Err.is) ∙ c.judge_curve.ensures)
+    ap outcome (handed_on _ c.from_residual.ensures.1)
+    ∙ refused_early (curve_lines a.times.now a.rates.now) _ _ _ (omega arith) (sym (ap outcome c.in_err-judge_curve.was) ∙ c.judge_curve.ensures)
 
-pub returns-in-Ok : goal.returns-in-Ok
+pub returns : goal.returns
 unfolding each_outcome
-returns-in-Ok c =
+returns c =
     let a = c.args in
-    c.judge_times.ensures ∙ decided_late (curve_lines a.times.now a.rates.now) _ (sym (ap outcome c.in-Ok.is) ∙ c.judge_curve.ensures)
+    c.judge_times.ensures ∙ decided_late (curve_lines a.times.now a.rates.now) _ (sym (ap outcome c.in_ok-judge_curve.was) ∙ c.judge_curve.ensures)
