@@ -72,7 +72,11 @@ fn draw_planned(records: &[u8], plan: Plan, answers: &mut [u32], room: &mut [f64
 }
 
 // Draws the loans in order, each whole, as far as the room goes; a loan that is refused has its answer and no rows.
-pub fn draw_book(records: &[u8], answers: &mut [u32], room: &mut [f64]) -> Result<BookProgress, Refusal>
+pub fn draw_book(
+    records: &[u8],
+    answers: &mut [u32],
+    room: &mut [f64],
+) -> Result<BookProgress, Refusal>
     ensures result_value { book_outcome result ≡ book_drawn records.now (length answers.old) (length room.old) }
     ensures room_after { room.new ≡ book_room records.now answers.old room.old }
     ensures answers_after { answers.new ≡ book_answers records.now answers.old room.old }

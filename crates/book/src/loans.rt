@@ -7,8 +7,8 @@ ghost use Rattle.mortgage.specs.Payment.{opened};
 ghost use Rattle.book.specs.Book.{loan_count, loan_at, answer, asked};
 
 use mortgage::Loan;
-use records::terms_record::TERMS_SIZE;
 use records::Terms;
+use records::terms_record::TERMS_SIZE;
 use refusals::Refusal;
 
 // A loan's answer, and the rows that it asks for.

@@ -41,4 +41,3 @@ thirty_days_of first second = judged (dates_line first second ∷ []) (thirty_da
 -- both the date and the one that is asked for are dates
 unfoldable pub months_later_of : Date → ℕ → Outcome Date
 months_later_of d months = judged (line 15 (no_such_date (is_date d && is_date (months_later months d))) ∷ []) (months_later months d)
-

@@ -5,8 +5,8 @@ ghost use Rattle.dates.specs.Calendar.{is_date};
 ghost use Rattle.dates.specs.DayNumbers.{days_before_year, days_before_month, day_number};
 ghost use Rattle.dates.specs.Answers.{day_number_of, date_numbered};
 
-use crate::calendar::{days_in, is_date, is_leap};
 use crate::Date;
+use crate::calendar::{days_in, is_date, is_leap};
 use refusals::{Cause, Refusal, refuse};
 
 // The number of 1 January 1900.

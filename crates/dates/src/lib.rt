@@ -15,4 +15,3 @@ pub struct Date {
     pub month: u8,
     pub day: u8,
 }
-

@@ -4,8 +4,8 @@ ghost use Rattle.dates.specs.Months.{month_index, day_in_month};
 ghost use Rattle.refusals.specs.Answers.{outcome};
 ghost use Rattle.dates.specs.Answers.{months_later_of};
 
-use crate::calendar::{days_in, is_date};
 use crate::Date;
+use crate::calendar::{days_in, is_date};
 use refusals::{Cause, Refusal, refuse};
 
 // A month among all months, twelve for each year.

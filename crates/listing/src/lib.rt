@@ -11,7 +11,6 @@ mod lines;
 mod portions;
 mod text;
 
-
 // Bytes enough for the listing of any loan.
 pub const ROOM: usize = 96000;
 

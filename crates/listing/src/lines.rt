@@ -43,5 +43,12 @@ pub(crate) fn put_refused(out: &mut [u8], at: usize, refusal: refusals::Refusal)
     requires { at + length (refused_line (number refusal.cause) refusal.place) ≤ length out.old }
     ensures { Put (refused_line (number refusal.cause) refusal.place) at out.old result out.new }
 {
-    put_numbers(out, at, b"refused ", refusal.number(), b" at ", refusal.place)
+    put_numbers(
+        out,
+        at,
+        b"refused ",
+        refusal.number(),
+        b" at ",
+        refusal.place,
+    )
 }

@@ -46,4 +46,3 @@ opened_with t pay = judged (terms_lines t) (loan_of t pay)
 
 unfoldable pub opened : Terms → Outcome Loan
 opened t = opened_with t (payment t)
-

@@ -44,4 +44,3 @@ saved t extra = record { months = t.term - (paid_off t extra).months; interest =
 
 unfoldable pub prepayment_savings : Terms → Float → Outcome Savings
 prepayment_savings t extra = judged (terms_lines t) (saved t extra)
-

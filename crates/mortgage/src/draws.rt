@@ -262,7 +262,12 @@ fn lay_due(kind: Kind, loan: Loan, index: &[f64], room: &mut [f64]) -> Portion
 }
 
 // Writes as many rows as the room holds and the loan still owes, and hands the loan back; the list is read by an adjustable loan alone.
-pub fn draw_kind(kind: Kind, loan: Loan, index: &[f64], room: &mut [f64]) -> Result<Portion, Refusal>
+pub fn draw_kind(
+    kind: Kind,
+    loan: Loan,
+    index: &[f64],
+    room: &mut [f64],
+) -> Result<Portion, Refusal>
     ensures result_value { outcome result ≡ drawn (way_of kind index.now) loan room.old }
     ensures room_after { room.new ≡ filled (way_of kind index.now) loan room.old }
 {

@@ -7,7 +7,6 @@ ghost use Rattle.mortgage.specs.Kinds.{way_of, course_of, later_years, bad_adjus
 
 use refusals::{Cause, Refusal};
 
-
 // Of an adjustable loan: the rate of year 1, by how much a year's rate may differ from the last year's, and by how much any may be above the first.
 #[derive(Clone, Copy)]
 pub struct Adjustment {

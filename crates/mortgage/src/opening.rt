@@ -77,7 +77,12 @@ fn months_behind(term: u32, months: u32) -> u32
 }
 
 // Opens a loan of any kind with a payment.
-fn open_kind_with_payment(kind: Kind, terms: Terms, payment: f64, index: &[f64]) -> Result<Loan, Refusal>
+fn open_kind_with_payment(
+    kind: Kind,
+    terms: Terms,
+    payment: f64,
+    index: &[f64],
+) -> Result<Loan, Refusal>
     ensures { outcome result ≡ kind_opened_with (way_of kind index.now) terms payment }
 {
     match crate::terms::judge_terms(terms) {
@@ -98,7 +103,11 @@ pub fn open_kind(kind: Kind, terms: Terms, index: &[f64]) -> Result<Loan, Refusa
 }
 
 // Opens an interest-only loan with the payment of the months behind its first so many.
-pub fn open_interest_only_with_payment(terms: Terms, months: u32, payment: f64) -> Result<Loan, Refusal>
+pub fn open_interest_only_with_payment(
+    terms: Terms,
+    months: u32,
+    payment: f64,
+) -> Result<Loan, Refusal>
     ensures { outcome result ≡ kind_opened_with (interest_only months) terms payment }
 {
     open_kind_with_payment(Kind::InterestOnly(months), terms, payment, &[0.0; 1])

@@ -32,4 +32,3 @@ totals_of loans = record {
 
 unfoldable pub pool_totals : List ℕ → Outcome Totals
 pool_totals bytes = judged (pool_lines bytes false) (totals_of (loans_in bytes))
-

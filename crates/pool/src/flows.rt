@@ -61,7 +61,12 @@ pub(crate) fn fill_months(
 }
 
 // Writes each month of the longest term, and gives how many there are.
-pub fn cash_flows(bytes: &[u8], speed: Speed, history: &[f64], room: &mut [f64]) -> Result<u32, Refusal>
+pub fn cash_flows(
+    bytes: &[u8],
+    speed: Speed,
+    history: &[f64],
+    room: &mut [f64],
+) -> Result<u32, Refusal>
     ensures result_value { outcome result ≡ placed (cash_flows bytes.now (length room.old)) }
     ensures room_after { room.new ≡ flows_into bytes.now speed history.now room.old }
 {

@@ -9,8 +9,8 @@ ghost use Rattle.refusals.specs.Places.{placed};
 ghost use Rattle.pool.specs.Flows.{too_little};
 
 use crate::months::WIDTH;
-use records::terms_record::{TERMS_KIND, TERMS_SIZE};
 use records::Terms;
+use records::terms_record::{TERMS_KIND, TERMS_SIZE};
 use refusals::{Cause, Refusal, refuse_at};
 
 // How many records the bytes hold.

@@ -36,4 +36,3 @@ periods_per_year_of code = and_then (frequency_of code) (λ (f : Frequency). acc
 
 abbrev pub bond_numbers : BondRecord → Float × Float × Float × ℕ
 bond_numbers b = (b.face, b.coupon, b.maturity, b.frequency)
-

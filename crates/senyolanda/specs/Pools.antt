@@ -46,4 +46,3 @@ room_after bytes code number history room = room_by (speed_for bytes (too_little
 
 abbrev pub totals_numbers : Totals → List Float
 totals_numbers t = t.balance ∷ t.coupon ∷ t.maturity ∷ []
-

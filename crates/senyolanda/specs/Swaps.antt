@@ -70,4 +70,3 @@ valuation_numbers v = v.npv ∷ v.fixed_pv ∷ v.floating_pv ∷ v.par_rate ∷ 
 -- "places past the last knot stay"
 abbrev pub zeros_over : List Float → List Float → List Float
 zeros_over room zeros = zeros ++ drop (length zeros) room
-

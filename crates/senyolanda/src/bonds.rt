@@ -202,9 +202,7 @@ pub extern "C" fn senyolanda_bond_convexity_at_price(
 {
     match bond_in(record, market) {
         Err(refusal) => refusal_result(refusal),
-        Ok(bond) => {
-            put_number(bond::durations::convexity_at_price(market, bond), convexity)
-        }
+        Ok(bond) => { put_number(bond::durations::convexity_at_price(market, bond), convexity) }
     }
 }
 

@@ -5,11 +5,16 @@ ghost use Rattle.senyolanda.specs.Told.{told};
 ghost use Rattle.senyolanda.specs.Books.{progress_numbers};
 
 use crate::results::{ACCEPTED, refusal_result};
-use refusals::Refusal;
 use book::BookProgress;
+use refusals::Refusal;
 
 // How far a book was drawn.
-fn put_progress(drawing: Result<BookProgress, Refusal>, finished: &mut u32, cut: &mut u32, waiting: &mut u32) -> u64
+fn put_progress(
+    drawing: Result<BookProgress, Refusal>,
+    finished: &mut u32,
+    cut: &mut u32,
+    waiting: &mut u32,
+) -> u64
     ensures { (result, (finished.new, cut.new, waiting.new)) ≡ told progress_numbers (book_outcome drawing) (finished.old, cut.old, waiting.old) }
 {
     match drawing {

@@ -7,8 +7,8 @@ ghost use Rattle.senyolanda.specs.Dated.{times_in, amounts_in};
 
 use crate::results::{put_number, refusal_result};
 use crate::spreads::{put_sensitivity, put_spread};
-use spread_analytics::units::BasisPoints;
 use refusals::Cause;
+use spread_analytics::units::BasisPoints;
 
 // How many flows of so many numbers are looked at: one more than there may be shows that there are too many.
 fn looked_at(count: usize) -> usize

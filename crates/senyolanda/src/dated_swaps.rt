@@ -6,11 +6,13 @@ ghost use Rattle.senyolanda.specs.Told.{told, told_number};
 ghost use Rattle.refusals.specs.Answers.{outcome};
 ghost use Rattle.senyolanda.specs.Swaps.{dated_by, dated_swap_read, of_dated_swap, is_true, valuation_numbers};
 
-use crate::swap_values::{put_duration, put_dv01, put_fixed_leg, put_floating_leg, put_npv, put_par_rate, put_values};
+use crate::swap_values::{
+    put_duration, put_dv01, put_fixed_leg, put_floating_leg, put_npv, put_par_rate, put_values,
+};
 use records::DatedSwapRecord;
+use refusals::Refusal;
 use swaps::day_counts::DayCount;
 use swaps::{AnySwap, DatedSwap};
-use refusals::Refusal;
 
 fn dated_by(day_count: DayCount, fields: DatedSwapRecord) -> DatedSwap
     ensures { result ≡ dated_by day_count fields }
@@ -34,9 +36,7 @@ fn dated_swap_in(bytes: &[u8], tenors: &[f64], zeros: &[f64]) -> Result<AnySwap,
     match records::dated_swap_record::read_dated_swap_uncoded(bytes) {
         Err(refusal) => Err(refusal),
         Ok(fields) => match swaps::day_counts::day_count_of(fields.count) {
-            Ok(day_count) => {
-                Ok(AnySwap::Dated(dated_by(day_count, fields)))
-            }
+            Ok(day_count) => { Ok(AnySwap::Dated(dated_by(day_count, fields))) }
             Err(unknown) => {
                 let swap = dated_by(DayCount::Thirty360, fields);
                 match swaps::judging::judge_but_dates(swap, tenors, zeros) {

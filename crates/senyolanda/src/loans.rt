@@ -16,11 +16,11 @@ ghost use Rattle.senyolanda.specs.Loans.{loan_in, loan_numbers, portion_numbers,
 
 use crate::results::{ACCEPTED, put_count, put_number, refusal_result};
 use mortgage::Loan;
+use mortgage::draws::Portion;
 use mortgage::kinds::Kind;
 use mortgage::rows::Month;
-use refusals::Refusal;
-use mortgage::draws::Portion;
 use mortgage::savings::Savings;
+use refusals::Refusal;
 
 #[unsafe(no_mangle)]
 pub extern "C" fn senyolanda_monthly_payment(record: &[u8], payment: &mut f64) -> u64
@@ -208,9 +208,7 @@ pub extern "C" fn senyolanda_remaining_balance(record: &[u8], months: u32, balan
 {
     match records::terms_record::read_terms(record) {
         Err(refusal) => refusal_result(refusal),
-        Ok(terms) => {
-            put_number(mortgage::totals::remaining_balance(terms, months), balance)
-        }
+        Ok(terms) => { put_number(mortgage::totals::remaining_balance(terms, months), balance) }
     }
 }
 

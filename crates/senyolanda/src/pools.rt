@@ -28,7 +28,13 @@ fn speed_of(code: u32, number: f64) -> Result<Speed, Refusal>
 
 // The speed that a pool is asked with. A code outside its set waits for what else the pool is refused with, but goes before a bad record: both are 11, and a
 // single argument counts before a list item.
-fn speed_for(records: &[u8], asked: bool, room: usize, code: u32, number: f64) -> Result<Speed, Refusal>
+fn speed_for(
+    records: &[u8],
+    asked: bool,
+    room: usize,
+    code: u32,
+    number: f64,
+) -> Result<Speed, Refusal>
     ensures { outcome result ≡ speed_for records.now (asked && too_little records.now room) code number }
 {
     match speed_of(code, number) {
@@ -101,9 +107,7 @@ pub extern "C" fn senyolanda_pool_price(
 {
     match speed_for(records, false, 0, speed, number) {
         Err(refusal) => refusal_result(refusal),
-        Ok(given) => {
-            put_number(pool::price::price(records, given, history, rate), price)
-        }
+        Ok(given) => { put_number(pool::price::price(records, given, history, rate), price) }
     }
 }
 

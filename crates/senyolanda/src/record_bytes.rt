@@ -12,8 +12,8 @@ ghost use Rattle.senyolanda.specs.Swaps.{swap_numbers, dated_swap_numbers};
 use crate::date_counts::DATE_NUMBERS;
 use crate::results::{ACCEPTED, refusal_result};
 use dates::Date;
-use refusals::Cause;
 use records::{BondRecord, DatedSwapRecord, Row, SwapRecord, Terms};
+use refusals::Cause;
 
 #[unsafe(no_mangle)]
 pub extern "C" fn senyolanda_read_loan(

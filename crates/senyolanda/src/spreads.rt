@@ -9,9 +9,9 @@ ghost use Rattle.senyolanda.specs.Told.{always, told, told_number};
 ghost use Rattle.senyolanda.specs.Spreads.{spread_numbers, sensitivity_numbers};
 
 use crate::results::{ACCEPTED, put_count, put_number, refusal_result};
+use refusals::Refusal;
 use spread_analytics::spread::{Sensitivity, Spread};
 use spread_analytics::units::BasisPoints;
-use refusals::Refusal;
 
 // So many basis points, as a decimal rate.
 #[unsafe(no_mangle)]
@@ -124,7 +124,10 @@ pub(crate) fn put_spread(answer: Result<Spread, Refusal>, points: &mut f64, foun
     }
 }
 
-pub(crate) fn put_sensitivity(answer: Result<Sensitivity, Refusal>, sensitivity: &mut [f64; 2]) -> u64
+pub(crate) fn put_sensitivity(
+    answer: Result<Sensitivity, Refusal>,
+    sensitivity: &mut [f64; 2],
+) -> u64
     ensures { (result, sensitivity.new) ≡ told sensitivity_numbers (outcome answer) sensitivity.old }
 {
     match answer {

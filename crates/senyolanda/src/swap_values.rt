@@ -13,8 +13,8 @@ use crate::results::{ACCEPTED, put_number, refusal_result};
 use records::SwapRecord;
 use refusals::{Cause, Refusal};
 use swaps::day_counts::DayCount;
-use swaps::{AnySwap, Swap};
 use swaps::valuation::SwapValuation;
+use swaps::{AnySwap, Swap};
 
 fn counted_by(day_count: DayCount, fields: SwapRecord) -> Swap
     ensures { result ≡ counted_by day_count fields }
@@ -35,9 +35,7 @@ fn swap_in(bytes: &[u8], tenors: &[f64], zeros: &[f64]) -> Result<AnySwap, Refus
     match records::swap_record::read_swap_uncoded(bytes) {
         Err(refusal) => Err(refusal),
         Ok(fields) => match swaps::day_counts::day_count_of(fields.count) {
-            Ok(day_count) => {
-                Ok(AnySwap::Undated(counted_by(day_count, fields)))
-            }
+            Ok(day_count) => { Ok(AnySwap::Undated(counted_by(day_count, fields))) }
             Err(unknown) => {
                 let swap = counted_by(DayCount::Thirty360, fields);
                 match swaps::judging::judge_swap(swap, tenors, zeros) {
@@ -148,7 +146,12 @@ fn put_valuation(answer: Result<SwapValuation, Refusal>, valuation: &mut [f64; 6
 }
 
 // ---- what is asked of a swap of either kind that was read
-pub(crate) fn put_fixed_leg(read: Result<AnySwap, Refusal>, tenors: &[f64], zeros: &[f64], pv: &mut f64) -> u64
+pub(crate) fn put_fixed_leg(
+    read: Result<AnySwap, Refusal>,
+    tenors: &[f64],
+    zeros: &[f64],
+    pv: &mut f64,
+) -> u64
     ensures { (result, pv.new) ≡ told_number (and_then (outcome read) (λ (s : AnySwap). fixed_leg_pv s tenors.now zeros.now)) pv.old }
 {
     match read {
@@ -160,7 +163,12 @@ pub(crate) fn put_fixed_leg(read: Result<AnySwap, Refusal>, tenors: &[f64], zero
     }
 }
 
-pub(crate) fn put_floating_leg(read: Result<AnySwap, Refusal>, tenors: &[f64], zeros: &[f64], pv: &mut f64) -> u64
+pub(crate) fn put_floating_leg(
+    read: Result<AnySwap, Refusal>,
+    tenors: &[f64],
+    zeros: &[f64],
+    pv: &mut f64,
+) -> u64
     ensures { (result, pv.new) ≡ told_number (and_then (outcome read) (λ (s : AnySwap). floating_leg_pv s tenors.now zeros.now)) pv.old }
 {
     match read {
@@ -190,7 +198,12 @@ pub(crate) fn put_npv(
     }
 }
 
-pub(crate) fn put_par_rate(read: Result<AnySwap, Refusal>, tenors: &[f64], zeros: &[f64], rate: &mut f64) -> u64
+pub(crate) fn put_par_rate(
+    read: Result<AnySwap, Refusal>,
+    tenors: &[f64],
+    zeros: &[f64],
+    rate: &mut f64,
+) -> u64
     ensures { (result, rate.new) ≡ told_number (and_then (outcome read) (λ (s : AnySwap). par_swap_rate s tenors.now zeros.now)) rate.old }
 {
     match read {
@@ -220,7 +233,12 @@ pub(crate) fn put_dv01(
     }
 }
 
-pub(crate) fn put_duration(read: Result<AnySwap, Refusal>, tenors: &[f64], zeros: &[f64], duration: &mut f64) -> u64
+pub(crate) fn put_duration(
+    read: Result<AnySwap, Refusal>,
+    tenors: &[f64],
+    zeros: &[f64],
+    duration: &mut f64,
+) -> u64
     ensures { (result, duration.new) ≡ told_number (and_then (outcome read) (λ (s : AnySwap). swap_duration s tenors.now zeros.now)) duration.old }
 {
     match read {

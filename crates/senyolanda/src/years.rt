@@ -8,8 +8,8 @@ ghost use Rattle.senyolanda.specs.Loans.{loan_in, portion_numbers};
 
 use crate::loans::{AMOUNTS, COUNTS, loan_in, put_portion};
 use crate::results::{ACCEPTED, refusal_result};
-use refusals::Refusal;
 use mortgage::years::Year;
+use refusals::Refusal;
 
 // Writes as many rows as the room holds and the term still owes, and enters them into their years' lines.
 #[unsafe(no_mangle)]
@@ -30,7 +30,10 @@ pub extern "C" fn senyolanda_draw_with_years(
 }
 
 // A year's line that was looked up.
-pub(crate) fn put_year(answer: Result<Year, Refusal>, line: &mut [f64; mortgage::years::YEAR_WIDTH]) -> u64
+pub(crate) fn put_year(
+    answer: Result<Year, Refusal>,
+    line: &mut [f64; mortgage::years::YEAR_WIDTH],
+) -> u64
     ensures { (result, line.new) ≡ told year_places (outcome answer) line.old }
 {
     match answer {

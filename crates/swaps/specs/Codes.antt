@@ -19,4 +19,3 @@ day_count_at code = cond (eqb code 0) Actual360 (cond (eqb code 1) Actual365 Thi
 
 unfoldable pub day_count_of : ℕ → Outcome DayCount
 day_count_of code = judged (line 11 (bad_code last_code code) ∷ []) (day_count_at code)
-

@@ -47,4 +47,3 @@ module _ (s : AnySwap) (tenors zeros : List Float) where
 
   unfoldable pub value_swap : Bool → Outcome SwapValuation
   value_swap receives_fixed = judged (lines_of s tenors zeros) (valuation (terms_of s) tenors zeros receives_fixed)
-

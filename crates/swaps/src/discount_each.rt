@@ -15,7 +15,11 @@ pub fn rate_at_each(tenors: &[f64], zeros: &[f64], asked: &mut [f64]) -> Result<
 }
 
 // The discount factor at each time.
-pub fn discount_factor_at_each(tenors: &[f64], zeros: &[f64], asked: &mut [f64]) -> Result<(), Refusal>
+pub fn discount_factor_at_each(
+    tenors: &[f64],
+    zeros: &[f64],
+    asked: &mut [f64],
+) -> Result<(), Refusal>
     ensures { (outcome result ≡ each_outcome tenors.now zeros.now asked.old) × (asked.new ≡ each_after (discount_of tenors.now zeros.now) tenors.now zeros.now asked.old) }
 {
     curves::each::discount_factor_at_each(Kind::DiscountCurve, tenors, zeros, asked)

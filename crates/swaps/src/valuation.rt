@@ -80,7 +80,12 @@ fn legs_with_bump(swap: AnySwap, tenors: &[f64], zeros: &[f64]) -> BothLegs
     both_legs_of(swap, tenors, zeros, &room[..n])
 }
 
-pub fn swap_npv(swap: AnySwap, tenors: &[f64], zeros: &[f64], receives_fixed: bool) -> Result<f64, Refusal>
+pub fn swap_npv(
+    swap: AnySwap,
+    tenors: &[f64],
+    zeros: &[f64],
+    receives_fixed: bool,
+) -> Result<f64, Refusal>
     ensures { outcome result ≡ swap_npv swap tenors.now zeros.now receives_fixed }
 {
     match judge_any(swap, tenors, zeros) {
@@ -99,7 +104,12 @@ pub fn par_swap_rate(swap: AnySwap, tenors: &[f64], zeros: &[f64]) -> Result<f64
 }
 
 // What a basis point more in every zero rate changes the value by.
-pub fn swap_dv01(swap: AnySwap, tenors: &[f64], zeros: &[f64], receives_fixed: bool) -> Result<f64, Refusal>
+pub fn swap_dv01(
+    swap: AnySwap,
+    tenors: &[f64],
+    zeros: &[f64],
+    receives_fixed: bool,
+) -> Result<f64, Refusal>
     ensures { outcome result ≡ swap_dv01 swap tenors.now zeros.now receives_fixed }
 {
     match judge_any(swap, tenors, zeros) {
@@ -118,12 +128,7 @@ pub fn swap_duration(swap: AnySwap, tenors: &[f64], zeros: &[f64]) -> Result<f64
 {
     match judge_any(swap, tenors, zeros) {
         Err(refusal) => Err(refusal),
-        Ok(()) => Ok(duration_of(
-            swap,
-            tenors,
-            zeros,
-            legs_of(swap, tenors, zeros),
-        )),
+        Ok(()) => Ok(duration_of(swap, tenors, zeros, legs_of(swap, tenors, zeros))),
     }
 }
 
@@ -155,11 +160,6 @@ pub fn value_swap(
 {
     match judge_any(swap, tenors, zeros) {
         Err(refusal) => Err(refusal),
-        Ok(()) => Ok(valuation_of(
-            swap,
-            tenors,
-            zeros,
-            receives_fixed,
-        )),
+        Ok(()) => Ok(valuation_of(swap, tenors, zeros, receives_fixed)),
     }
 }
