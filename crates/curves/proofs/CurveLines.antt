@@ -12,7 +12,7 @@ use Rattle.refusals.specs.Outcome.{Outcome, refused, accepted, Line, line, judge
 use Rattle.refusals.specs.Table.{unequal, bad_knot_count, bad_knots}
 use Rattle.refusals.specs.declared.Refusal.{Refusal}
 use Rattle.refusals.proofs.Verdicts.{verdict, refused_by, accepted_by}
-use Rattle.refusals.proofs.OneCause.{caused, clear}
+use Rattle.refusals.proofs.OneCause.{caused, clear, all_clear}
 use Rattle.refusals.proofs.Judging.{none_is, passed, followed, judged_in_parts}
 use Rattle.curves.specs.Curve.{curve_lines}
 use Rattle.std.specs.declared.result.Result.TheVariants.{Ok, Err}
@@ -84,3 +84,8 @@ module _ (times rates : List Float) where
 
     pub answer_given : (w : Value) → w ≡ v → x ≡ (Ok tt) → accepted w ≡ judged (curve_lines times rates ++ line 7 bad ∷ []) v
     answer_given w e h = ap accepted e ∙ accepted_by _ v x h by_bad
+
+-- what is cited where lines 4, 5 and 6 are asked one after the other
+pub ruleset line_by_line = (refused_4, refused_5, by_line_6, at_most_120, at_least_one)
+
+pub ruleset line_after_them = (caused, all_clear, by_last_line)

@@ -8,7 +8,7 @@ use native.Mathlib.Numerals.{add-one}
 use native.Mathlib.Omega.{arith}
 use lib.ListN.{length}
 use lib.Dec.{ltb}
-use lib.Ieee.{Float, inf, lt}
+use lib.Ieee.{Float, inf, lt, of_bits, binary64}
 use lib.Ieee.Scale.{finite}
 use Rattle.numbers.specs.Clamps.{plus_zero}
 use Rattle.numbers.proofs.Comparing.{above_minus_infinity, finite_between, lt_trans}
@@ -19,7 +19,7 @@ use Rattle.curves.specs.Segments.{knot, last_of}
 use Rattle.curves.proofs.KnotLine.{From, bad_at, at_start, goes_on, ended}
 
 module _ (times rates : List Float) (same : length times ≡ length rates)
-    (first : lt (knot times 0) plus_zero ≡ false) (first_rate : finite (knot rates 0) ≡ true) (last : lt (last_of times) (inf false) ≡ true)
+    (first : lt (knot times 0) plus_zero ≡ false) (first_rate : finite (knot rates 0) ≡ true) (last : lt (last_of times) (of_bits binary64 0x7ff0_0000_0000_0000) ≡ true)
     (later : (k : ℕ) → suc k < length times → (lt (knot times k) (knot times (suc k)) ≡ true) × (finite (knot rates (suc k)) ≡ true)) where
   not_below_lem : (k : ℕ) → k < length times → lt (knot times k) plus_zero ≡ false
   not_below_lem zero h = first
@@ -30,6 +30,7 @@ module _ (times rates : List Float) (same : length times ≡ length rates)
       go true e f = sym (lt_trans (knot times k) (knot times (suc k)) plus_zero (later k h).0 e) ∙ f
 
   time_finite : (k : ℕ) → k < length times → finite (knot times k) ≡ true
+  unfolding of_bits
   time_finite k h = go (ltb (suc k) (length times)) (ltb-true (suc k) (length times)) (ltb-false (suc k) (length times))
     where
       go : (b : Bool) → (b ≡ true → suc k < length times) → (b ≡ false → length times ≤ suc k) → finite (knot times k) ≡ true

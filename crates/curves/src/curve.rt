@@ -8,7 +8,7 @@ ghost use Rattle.refusals.specs.Table.{bad_knot_count, bad_knot, bad_knots, bad_
 ghost use Rattle.curves.specs.Segments.{knot};
 ghost use Rattle.curves.specs.Curve.{curve_lines};
 
-use numbers::sizes::{infinity, is_finite};
+use numbers::sizes::is_finite;
 use refusals::{Cause, Refusal, refuse};
 
 // Line 5: no knot, or more than 120.
@@ -56,14 +56,14 @@ fn no_faults(times: &[f64], rates: &[f64]) -> bool
 }
 
 // Whether times rise from zero or above to a finite one, with finite rates: then line 6 has no cause.
-#[tactic(auto, using(crate::proofs::InOrder::in_order))]
+#[tactic(auto, using(crate::proofs::InOrder::in_order, numbers::proofs::Comparing::not_above_lem))]
 fn all_in_order(times: &[f64], rates: &[f64]) -> bool
     requires { (length times.now ≡ length rates.now) × (length times.now ≤ 120) × (0 < length times.now) }
     ensures { result ≡ true → ◌≡◌ {A = Outcome Unit} (judged ((record { number = 6; causes = bad_knots times.now rates.now }) ∷ []) tt) (accepted tt) }
 {
-    !(times[0] < 0.0)
+    times[0] >= 0.0
         && is_finite(rates[0])
-        && times[times.len() - 1] < infinity()
+        && times[times.len() - 1] < f64::INFINITY
         && no_faults(times, rates)
 }
 
@@ -73,7 +73,7 @@ pub(crate) fn judge_knots(times: &[f64], rates: &[f64]) -> Result<(), Refusal>
     requires { (length times.now ≡ length rates.now) × (length times.now ≤ 120) }
     ensures { outcome result ≡ judged ((record { number = 6; causes = bad_knots times.now rates.now }) ∷ []) tt }
 {
-    let mut before = -infinity();
+    let mut before = f64::NEG_INFINITY;
     for (i, &time) in times.iter().enumerate() {
         if bad_knot_after(before, time, rates[i]) {
             return Err(Refusal {
@@ -87,6 +87,7 @@ pub(crate) fn judge_knots(times: &[f64], rates: &[f64]) -> Result<(), Refusal>
 }
 
 // Lines 4, 5 and 6.
+#[tactic(auto, using(crate::proofs::CurveLines::line_by_line))]
 pub fn judge_curve(times: &[f64], rates: &[f64]) -> Result<(), Refusal>
     ensures { outcome result ≡ judged (curve_lines times.now rates.now) tt }
 {
@@ -103,6 +104,7 @@ pub fn judge_curve(times: &[f64], rates: &[f64]) -> Result<(), Refusal>
 }
 
 // Lines 4, 5 and 6, and then 7 where what is asked of the curve is bad.
+#[tactic(auto, using(crate::proofs::CurveLines::line_after_them))]
 pub fn judge_asked(times: &[f64], rates: &[f64], bad: bool) -> Result<(), Refusal>
     ensures { outcome result ≡ judged (curve_lines times.now rates.now ++ line 7 bad ∷ []) tt }
 {

@@ -18,7 +18,7 @@ pub struct Ends {
 pub fn no_knot() -> f64
     ensures { result ≡ nan }
 {
-    0.0 / 0.0
+    f64::NAN
 }
 
 // The knot i, from 0.
