@@ -8,6 +8,8 @@ use borrow.Author.Tests.{ltb-false}
 use Rattle.refusals.specs.Outcome.{accepted}
 use Rattle.refusals.specs.Table.{bad_term, no_room_for_all}
 use Rattle.refusals.proofs.Verdicts.{verdict}
+use Rattle.refusals.specs.Places.{placed}
+use Rattle.refusals.proofs.Placing.{accepted_itself}
 use Rattle.refusals.proofs.Judging.{None, none, skip, passed}
 use Rattle.refusals.proofs.Causes.{neither, term_within}
 use Rattle.records.specs.declared.Terms.{Terms}
@@ -21,14 +23,17 @@ any_none none = refl
 any_none (skip n) = any_none n
 
 -- of every term, and so of the longest
-longest_right : (ts : List Terms) → any_of (map (λ (t : Terms). bad_term t.term) ts) ≡ false → longest ts ≤ 1200
+pub longest_right : (ts : List Terms) → any_of (map (λ (t : Terms). bad_term t.term) ts) ≡ false → longest ts ≤ 1200
 unfolding longest any_of
 longest_right [] e = omega arith
 longest_right (t ∷ ts) e =
     let both = neither (bad_term t.term) _ e in
     omega (arith, term_within t.term both.0, longest_right ts both.1)
 
-module _ (bytes : List ℕ) (no_room : Bool) (e : accepted tt ≡ verdict (pool_lines bytes no_room)) where
+module _ (bytes : List ℕ) (no_room : Bool) (so : accepted tt ≡ placed (verdict (pool_lines bytes no_room))) where
+  e : accepted tt ≡ verdict (pool_lines bytes no_room)
+  e = accepted_itself (verdict (pool_lines bytes no_room)) so
+
   all_passed : None (unless_bad bytes (principals bytes)) × None (unless_bad bytes (terms bytes)) × None (unless_bad bytes (no_room ∷ [])) × None (bad_records bytes)
   all_passed =
       let a = passed tt tt _ _ e in
@@ -38,7 +43,7 @@ module _ (bytes : List ℕ) (no_room : Bool) (e : accepted tt ≡ verdict (pool_
       let f = passed tt tt _ _ d.1 in
       (a.0, b.0, c.0, f.0)
 
-  pub records_right : any_of (bad_records bytes) ≡ false
+  records_right : any_of (bad_records bytes) ≡ false
   records_right = any_none all_passed.3
 
   unless : (causes : List Bool) → None (unless_bad bytes causes) → any_of causes ≡ false
@@ -50,13 +55,10 @@ module _ (bytes : List ℕ) (no_room : Bool) (e : accepted tt ≡ verdict (pool_
   pub terms_right : any_of (terms bytes) ≡ false
   terms_right = unless _ all_passed.1
 
-  pub room_right : no_room ≡ false
+  room_right : no_room ≡ false
   unfolding any_of
   room_right = (neither no_room false (unless (no_room ∷ []) all_passed.2)).0
 
-  pub at_most_1200 : longest (loans_in bytes) ≤ 1200
-  at_most_1200 = longest_right (loans_in bytes) terms_right
-
-pub enough_room : (bytes : List ℕ) (room : ℕ) → too_little bytes room ≡ false → longest (loans_in bytes) * month_width ≤ room
+pub enough_room : (bytes : List ℕ) (room : ℕ) → accepted tt ≡ placed (verdict (pool_lines bytes (too_little bytes room))) → longest (loans_in bytes) * month_width ≤ room
 unfolding too_little no_room_for_all
-enough_room bytes room e = ltb-false room (longest (loans_in bytes) * month_width) e
+enough_room bytes room e = ltb-false room (longest (loans_in bytes) * month_width) (room_right bytes _ e)

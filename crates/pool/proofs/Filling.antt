@@ -1,15 +1,17 @@
 -- A room that is cleared and to which a pool's loans are added one after the other holds the pool's months. Assumes nothing.
 use mathlib.Core.Path.{◌≡◌, refl, sym, ap, ◌∙◌}
 use mathlib.Core.List.{List, [], ◌∷◌, ◌++◌}
-use Prim.Native.Nat.{ℕ, suc, ◌+◌, ◌-◌, ◌*◌, ◌<◌, ◌≤◌}
+use Prim.Native.Nat.{ℕ, zero, suc, ◌+◌, ◌-◌, ◌*◌, ◌<◌, ◌≤◌}
+use native.Mathlib.Numerals.{add-one}
 use native.Mathlib.Omega.{arith}
 use borrow.Author.Tests.{lt-ltb}
-use lib.ListN.{length, get_or, drop, length-append}
+use lib.ListN.{length, get_or, drop, replicate, length-append}
 use lib.Seq.{drop_at}
+use Rattle.std.proofs.lemmas.List.{replicate-append-replicate}
 use lib.Ieee.{Float, nan}
-use Rattle.steps.specs.Steps.{singles, laid}
+use Rattle.numbers.specs.Clamps.{plus_zero}
+use Rattle.steps.specs.Steps.{pieces, laid}
 use Rattle.steps.proofs.Portions.{pieces_same}
-use Rattle.steps.proofs.Places.{single_at}
 use Rattle.records.specs.declared.Terms.{Terms}
 use Rattle.pool.specs.declared.speed.Speed.{Speed}
 use Rattle.pool.specs.declared.months.Month.{Month}
@@ -46,10 +48,17 @@ module _ (speeds : List Float) (v : ℕ → Float) (n : ℕ) (lie : (k : ℕ) �
   all_loans (t ∷ ts) g rest h =
       ap (loans_added speeds ts) (one_loan t g rest (omega arith)) ∙ all_loans ts (λ (k : ℕ). with_loan (g k) t (suc k) (v k)) rest (omega arith)
 
-pub filled_months : (speeds rest : List Float) (ts : List Terms) (speed : Speed) (history : List Float) (n : ℕ) (room : List Float) → n * month_width ≤ length room → longest ts ≤ n
-    → speeds ≡ singles (λ (k : ℕ). smm speed history (suc k)) n ++ rest
-    → loans_added speeds ts (walked (λ (k : ℕ) (m : Month). nothing) 0 n room) ≡ laid month_width n (first_months ts speed history n) room
+-- a room that is cleared has months of +0
+cleared : (n : ℕ) → replicate (n * month_width) plus_zero ≡ months_of (λ (k : ℕ). nothing) n
+unfolding pieces
+cleared zero = refl
+cleared (suc n) =
+    let e : suc n * month_width ≡ n * month_width + month_width = omega arith in
+    ap (λ m. replicate m plus_zero) e ∙ sym (replicate-append-replicate (n * month_width) month_width plus_zero) ∙ ap (λ l. l ++ places nothing) (cleared n)
+
+pub filled_months : (speeds : List Float) (ts : List Terms) (speed : Speed) (history : List Float) (n : ℕ) (zeros room : List Float) → longest ts ≤ n → ((k : ℕ) → k < n → get_or speeds k nan ≡ smm speed history (k + 1))
+    → zeros ≡ replicate (n * month_width) plus_zero → loans_added speeds ts (zeros ++ drop (n * month_width) room) ≡ laid month_width n (first_months ts speed history n) room
 unfolding flows_in
-filled_months speeds rest ts speed history n room h b e =
-    ap (loans_added speeds ts) (walk_leaves (λ (k : ℕ) (m : Month). nothing) n room h)
-    ∙ all_loans speeds (λ (k : ℕ). smm speed history (suc k)) n (λ k i. rw e (single_at (λ (j : ℕ). smm speed history (suc j)) n k nan rest i)) ts (λ (k : ℕ). nothing) (drop (n * month_width) room) b
+filled_months speeds ts speed history n zeros room b lie e =
+    ap (λ l. loans_added speeds ts (l ++ drop (n * month_width) room)) (e ∙ cleared n)
+    ∙ all_loans speeds (λ (k : ℕ). smm speed history (suc k)) n (λ k i. lie k i ∙ ap (smm speed history) (add-one k)) ts (λ (k : ℕ). nothing) (drop (n * month_width) room) b

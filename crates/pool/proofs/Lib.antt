@@ -1,12 +1,9 @@
-pub mod Reading
-pub mod Each
 pub mod Placing
-pub mod Scanning
 pub mod Records
+pub mod LoanOrder
 pub mod Folds
 pub mod Lines
 pub mod Accepted
-pub mod Weights
 pub mod Walks
 pub mod Signs
 pub mod LoanMonths

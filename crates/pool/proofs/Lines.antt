@@ -2,8 +2,7 @@
 use mathlib.Core.Path.{◌≡◌, sym, ap, ◌∙◌}
 use mathlib.Core.Bool.{Bool, true, false}
 use mathlib.Core.List.{List, [], ◌∷◌, map}
-use Prim.Native.Nat.{ℕ, ◌<◌, ◌≤◌}
-use borrow.Author.Tests.{lt-ltb, le-ltb}
+use Prim.Native.Nat.{ℕ}
 use Rattle.refusals.specs.Outcome.{Outcome, refused, accepted, line, first_or, judged}
 use Rattle.refusals.specs.Table.{bad_amount, bad_term, too_many_loans}
 use Rattle.refusals.proofs.Verdicts.{verdict}
@@ -26,18 +25,6 @@ abbrev Sizes : List ℕ → Bool → Outcome Unit
 Sizes bytes no_room = judged (line 3 no_room ∷ line 7 (too_many_loans (loan_count bytes)) ∷ []) tt
 
 module _ (bytes : List ℕ) (no_room : Bool) where
-  pub refused_3 : no_room ≡ true → refused 3 0 ≡ placed (Sizes bytes no_room)
-  unfolding judged first_or placed
-  refused_3 e = rw e
-
-  pub refused_7 : no_room ≡ false → 64 < loan_count bytes → refused 7 0 ≡ placed (Sizes bytes no_room)
-  unfolding judged first_or placed too_many_loans
-  refused_7 e h = rw (e, lt-ltb 64 (loan_count bytes) h)
-
-  pub sizes_right : no_room ≡ false → loan_count bytes ≤ 64 → accepted tt ≡ placed (Sizes bytes no_room)
-  unfolding judged first_or placed too_many_loans
-  sizes_right e h = rw (e, le-ltb 64 (loan_count bytes) h)
-
   -- ---- a bad record alone decides
   bad_lines : any_of (bad_records bytes) ≡ true → by_line 11 0 (bad_records bytes) ≡ verdict (pool_lines bytes no_room)
   unfolding judged first_or

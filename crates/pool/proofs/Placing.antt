@@ -1,17 +1,18 @@
 -- Refusals whose place a u32 holds: a verdict so placed decides on the answer of any function that asks the same lines. Assumes nothing.
 use mathlib.Core.Path.{◌≡◌, refl, sym, ap, ◌∙◌}
 use mathlib.Core.Bool.{Bool, true, false}
-use mathlib.Core.List.{List, [], ◌∷◌}
-use Prim.Native.Nat.{ℕ, suc}
+use mathlib.Core.List.{List, [], ◌∷◌, map}
+use Prim.Native.Nat.{ℕ, suc, min}
 use native.Mathlib.Omega.{arith}
+use Rattle.std.specs.Prelude.{position, Option, Some, None}
+use Rattle.numbers.specs.Whole.{largest}
 use Rattle.refusals.specs.declared.Refusal.{Refusal}
 use Rattle.refusals.specs.Outcome.{Outcome, refused, accepted, Line, first_or, judged}
 use Rattle.refusals.proofs.Verdicts.{verdict, refused_alike, accepted_alike}
+use Rattle.refusals.proofs.Placing.{refused_at, placed_by_position, accepted_itself}
 use Rattle.pool.specs.Loans.{any_of}
 use Rattle.refusals.specs.Places.{placed}
-use Rattle.std.specs.declared.result.Result.TheVariants.{Ok, Err}
-use Rattle.std.specs.declared.result.Result.{Result}
-use Rattle.refusals.specs.Answers.{number, outcome}
+use Rattle.refusals.specs.Answers.{number}
 
 -- what line k says of a list of causes, from place p on
 abbrev pub by_line : ℕ → ℕ → List Bool → Outcome Unit
@@ -44,25 +45,30 @@ module _ (k : ℕ) where
   stopped p (true ∷ bs) rest n q e = cc
   stopped p (false ∷ bs) rest n q e = stopped (suc p) bs rest n q e
 
--- what is accepted so placed is accepted by the lines
-pub accepts : (ls : List Line) (x : Result Unit Refusal) → outcome x ≡ placed (verdict ls) → x ≡ (Ok tt) → accepted tt ≡ verdict ls
-unfolding placed
-accepts ls x e h = go (verdict ls) (sym (ap outcome h) ∙ e)
-  where
-    go : (o : Outcome Unit) → accepted tt ≡ placed o → accepted tt ≡ o
-    go (refused k p) g = let z : ◌≡◌ {A = ℕ} 0 1 = cc in absurd (omega arith)
-    go (accepted u) g = refl
+-- ---- a line over items, by the first place at which one is bad
+module _ {Item : Type 0} (k : ℕ) (bad : Item → Bool) (items : List Item) (o : Option ℕ) (e : o ≡ position bad items) where
+  by_position : placed (by_line k 0 (map bad items)) ≡ refused_at k bad o
+  unfolding judged
+  by_position = rw e (placed_by_position k bad items)
 
--- ---- all lines, as a `match` on a verdict has it, in either arm
-module _ {Value : Type 0} (ls : List Line) (v : Value) (x : Result Unit Refusal) (e : outcome x ≡ placed (verdict ls)) where
-  pub refused_by : (r : Refusal) → x ≡ Err r → refused (number r.cause) r.place ≡ placed (judged ls v)
+  pub found_at : (i : ℕ) (r : Refusal) → o ≡ Some i → (number r.cause ≡ k) × (r.place ≡ min i largest) → refused (number r.cause) r.place ≡ placed (by_line k 0 (map bad items))
+  found_at i r s h = rw (h.0, h.1) (sym (by_position ∙ ap (refused_at k bad) s))
+
+  pub found_none : o ≡ None → accepted tt ≡ placed (by_line k 0 (map bad items))
+  found_none s = sym (by_position ∙ ap (refused_at k bad) s)
+
+-- ---- all lines: what they say so placed of no value, they say of any
+module _ {Value : Type 0} (ls : List Line) (v : Value) where
+  pub refused_so : (k p : ℕ) → refused k p ≡ placed (verdict ls) → placed (judged ls v) ≡ refused k p
   unfolding placed
-  refused_by r h = go (verdict ls) refl (sym (ap outcome h) ∙ e)
+  refused_so k p e = go (verdict ls) refl e
     where
-      go : (o : Outcome Unit) → o ≡ verdict ls → refused (number r.cause) r.place ≡ placed o → refused (number r.cause) r.place ≡ placed (judged ls v)
-      go (refused k p) d g = rw (sym (refused_alike ls v k p d)) cc
+      go : (o : Outcome Unit) → o ≡ verdict ls → refused k p ≡ placed o → placed (judged ls v) ≡ refused k p
+      go (refused j q) d g = rw (sym (refused_alike ls v j q d)) cc
       go (accepted u) d g = let z : ◌≡◌ {A = ℕ} 0 1 = cc in absurd (omega arith)
 
-  pub accepted_by : x ≡ (Ok tt) → accepted v ≡ placed (judged ls v)
+  pub accepted_so : accepted tt ≡ placed (verdict ls) → placed (judged ls v) ≡ accepted v
   unfolding placed
-  accepted_by h = rw (sym (accepted_alike ls v (accepts ls x e h)))
+  accepted_so e = rw (sym (accepted_alike ls v (accepted_itself (verdict ls) e)))
+
+pub ruleset said_so = (refused_so, accepted_so)

@@ -1,5 +1,5 @@
 -- How tight the promises are: whatever a public function is given, any two results that its contract allows are equal, and for cash flows so are any two rooms that they may leave. Assumes nothing.
-use mathlib.Core.Path.{◌≡◌, sym, ap, ◌∙◌}
+use mathlib.Core.Path.{sym, ap, ◌∙◌}
 use mathlib.Core.List.{List}
 use lib.Ieee.{Float}
 use Rattle.numbers.proofs.Determined.{Determined, Settled}
@@ -18,10 +18,6 @@ use Rattle.pool.proofs.price.duration.Kinds as duration_kinds
 use Rattle.pool.proofs.price.duration.Reads as duration
 use Rattle.pool.proofs.price.convexity.Kinds as convexity_kinds
 use Rattle.pool.proofs.price.convexity.Reads as convexity
-use Rattle.std.specs.declared.result.Result.TheVariants.{Ok, Err}
-use Rattle.std.specs.declared.result.Result.{Result}
-use Rattle.refusals.specs.declared.Refusal.{Refusal}
-use Rattle.refusals.specs.Answers.{outcome}
 
 -- ---- so each promise leaves one result
 pub monthly_smm_determined : Determined 1 monthly_smm_kinds.ps monthly_smm_kinds.r monthly_smm.Post

@@ -3,7 +3,7 @@ use Rattle.std.specs.Prelude.{ℕ, false, cond, List, [], ◌∷◌, pos, Float}
 use Rattle.std.specs.Float.{binary64}
 use Rattle.std.specs.Float.Ieee.{add, mul, div, eq, of_int}
 use Rattle.numbers.specs.Clamps.{plus_zero}
-use Rattle.refusals.specs.Outcome.{Outcome, refused, accepted, judged}
+use Rattle.refusals.specs.Outcome.{Outcome, judged}
 use Rattle.records.specs.declared.Terms.{Terms}
 use Rattle.pool.specs.declared.totals.Totals.{Totals}
 use Rattle.pool.specs.Loans.{loans_in, pool_lines}

@@ -3,6 +3,8 @@ ghost use Rattle.std.specs.Prelude.{◌≡◌, ◌-◌, get_or};
 ghost use Rattle.numbers.specs.Clamps.{plus_zero};
 ghost use Rattle.pool.specs.Speed.{monthly, psa_rate, smm};
 
+use elementary::power::power;
+
 // A speed; a history's numbers lie beside it.
 #[derive(Clone, Copy)]
 pub enum Speed {
@@ -12,13 +14,15 @@ pub enum Speed {
 }
 
 // The month's share of a yearly rate.
+#[tactic(auto, unfolding(crate::specs::Speed::monthly))]
 fn monthly(cpr: f64) -> f64
     ensures { result ≡ monthly cpr }
 {
-    1.0 - elementary::power::power(1.0 - cpr, 1.0 / 12.0)
+    1.0 - power(1.0 - cpr, 1.0 / 12.0)
 }
 
 // PSA's yearly rate: it rises to month 30 and stays.
+#[tactic(auto, unfolding(crate::specs::Speed::psa_rate))]
 fn psa_rate(factor: f64, month: u32) -> f64
     ensures { result ≡ psa_rate factor month }
 {
@@ -30,27 +34,22 @@ fn psa_rate(factor: f64, month: u32) -> f64
     }
 }
 
-// The number of a history at an index; past its end 0.
-fn number_at(history: &[f64], i: usize) -> f64
-    ensures { result ≡ get_or history.now i plus_zero }
+// The number of a history for a month: month 0 reads the first, as month 1 does, and past the end it is 0.
+fn number_for(history: &[f64], month: u32) -> f64
+    ensures { result ≡ get_or history.now (month - 1) plus_zero }
 {
-    if i < history.len() { history[i] } else { 0.0 }
-}
-
-// Month 0 reads a history's first number, as month 1 does.
-fn index_of(month: u32) -> usize
-    ensures { result ≡ month - 1 }
-{
-    if month == 0 { 0 } else { (month - 1) as usize }
+    let i = month.saturating_sub(1) as usize;
+    history.get(i).copied().unwrap_or(0.0)
 }
 
 // The share of a balance that is prepaid in a month.
+#[tactic(auto, unfolding(crate::specs::Speed::smm))]
 pub fn monthly_smm(speed: Speed, history: &[f64], month: u32) -> f64
     ensures { result ≡ smm speed history.now month }
 {
     match speed {
         Speed::Cpr(rate) => monthly(rate),
         Speed::Psa(factor) => monthly(psa_rate(factor, month)),
-        Speed::History => number_at(history, index_of(month)),
+        Speed::History => number_for(history, month),
     }
 }

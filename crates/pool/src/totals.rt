@@ -1,13 +1,13 @@
 // A pool's balance, weighted coupon and weighted maturity.
-ghost use Rattle.std.specs.Prelude.{◌≡◌, false, pos};
+ghost use Rattle.std.specs.Prelude.{◌≡◌, pos};
 ghost use Rattle.std.specs.Float.{binary64};
 ghost use Rattle.std.specs.Float.Ieee.{mul, of_int};
-ghost use Rattle.pool.specs.Loans.{bad_records, any_of, loans_in};
+ghost use Rattle.pool.specs.Loans.{loans_in};
 ghost use Rattle.refusals.specs.Places.{placed};
 ghost use Rattle.refusals.specs.Answers.{outcome};
 ghost use Rattle.pool.specs.Totals.{sum_of, balance_of, totals_of, pool_totals};
 
-use crate::loans::{judge_pool, loan_at, loan_count};
+use crate::loans::Loans;
 use refusals::Refusal;
 
 #[derive(Clone, Copy)]
@@ -18,21 +18,17 @@ pub struct Totals {
 }
 
 // The balance, and the coupons and maturities times their balances, added up.
-fn sums(bytes: &[u8]) -> Totals
-    requires { any_of (bad_records bytes.now) ≡ false }
-    ensures { (result.balance ≡ balance_of (loans_in bytes.now)) × (result.coupon ≡ sum_of (λ t. mul binary64 t.rate t.principal) (loans_in bytes.now)) × (result.maturity ≡ sum_of (λ t. mul binary64 (of_int binary64 (pos t.term)) t.principal) (loans_in bytes.now)) }
+#[tactic(auto, unfolding(crate::specs::Totals::sum_from, crate::specs::Totals::balance_of))]
+fn sums(loans: Loans) -> Totals
+    ensures { (result.balance ≡ balance_of (loans_in loans.entry.bytes.now)) × (result.coupon ≡ sum_of (λ t. mul binary64 t.rate t.principal) (loans_in loans.entry.bytes.now)) × (result.maturity ≡ sum_of (λ t. mul binary64 (of_int binary64 (pos t.term)) t.principal) (loans_in loans.entry.bytes.now)) }
 {
-    let count = loan_count(bytes);
     let mut balance = 0.0;
     let mut coupon = 0.0;
     let mut maturity = 0.0;
-    let mut i: usize = 0;
-    while i < count {
-        let loan = loan_at(bytes, i);
-        balance = balance + loan.principal;
-        coupon = coupon + loan.rate * loan.principal;
-        maturity = maturity + loan.term as f64 * loan.principal;
-        i += 1;
+    for loan in loans {
+        balance += loan.principal;
+        coupon += loan.rate * loan.principal;
+        maturity += loan.term as f64 * loan.principal;
     }
     Totals {
         balance,
@@ -41,12 +37,12 @@ fn sums(bytes: &[u8]) -> Totals
     }
 }
 
-// The totals of bytes that hold loans alone.
-fn totals_of(bytes: &[u8]) -> Totals
-    requires { any_of (bad_records bytes.now) ≡ false }
-    ensures { result ≡ totals_of (loans_in bytes.now) }
+// The totals of loans.
+#[tactic(auto, unfolding(crate::specs::Totals::totals_of, crate::specs::Totals::balance_of))]
+fn totals_of(loans: Loans) -> Totals
+    ensures { result ≡ totals_of (loans_in loans.entry.bytes.now) }
 {
-    let sums = sums(bytes);
+    let sums = sums(loans);
     if sums.balance == 0.0 {
         return Totals {
             balance: sums.balance,
@@ -61,11 +57,10 @@ fn totals_of(bytes: &[u8]) -> Totals
     }
 }
 
+#[tactic(auto, using(crate::proofs::Placing::said_so), unfolding(crate::specs::Totals::pool_totals))]
 pub fn pool_totals(bytes: &[u8]) -> Result<Totals, Refusal>
     ensures { outcome result ≡ placed (pool_totals bytes.now) }
 {
-    match judge_pool(bytes, false, 0) {
-        Err(refusal) => Err(refusal),
-        Ok(()) => Ok(totals_of(bytes)),
-    }
+    let loans = Loans::judged(bytes, None)?;
+    Ok(totals_of(loans))
 }

@@ -6,8 +6,8 @@ ghost use Rattle.mortgage.specs.Level.{after};
 ghost use Rattle.pool.specs.Flows.{month_width};
 ghost use Rattle.pool.specs.inner.Walk.{loan_added, walked};
 
-use crate::months::{WIDTH, add_above, add_month};
-use mortgage::payment::monthly_rate;
+use crate::months::{Month, WIDTH, add_above, add_month};
+use mortgage::payment::{monthly_payment, monthly_rate};
 use numbers::clamps::{lower_to, raise_to_zero};
 use records::Terms;
 
@@ -25,27 +25,25 @@ fn ordinary_months(terms: Terms, pay: f64, speeds: &[f64], room: &mut [f64]) -> 
 {
     let rate = monthly_rate(terms.rate);
     let mut balance = terms.principal;
-    let mut at: usize = 0;
-    let mut k: u32 = 0;
-    while k < terms.term {
-        if balance > 0.0 {} else {
-            break;
-        }
+    for k in 0..terms.term {
         let interest = balance * rate;
         let principal = pay - interest;
-        if principal > 0.0 {} else {
-            break;
-        }
-        if principal < balance {} else {
-            break;
+        if !(balance > 0.0 && principal > 0.0 && principal < balance) {
+            return Run { count: k, balance };
         }
         let left = balance - principal;
-        add_month(room, at, principal, interest, left * speeds[k as usize]);
+        let month = Month {
+            principal,
+            interest,
+            prepayment: left * speeds[k as usize],
+        };
+        add_month(room, k as usize * WIDTH, month);
         balance = left;
-        at += WIDTH;
-        k += 1;
     }
-    Run { count: k, balance }
+    Run {
+        count: terms.term,
+        balance,
+    }
 }
 
 // The months that are left, whatever they are.
@@ -56,23 +54,17 @@ fn any_months(terms: Terms, pay: f64, run: Run, speeds: &[f64], room: &mut [f64]
 {
     let rate = monthly_rate(terms.rate);
     let mut balance = run.balance;
-    let mut at = run.count as usize * WIDTH;
-    let mut k = run.count;
-    while k < terms.term {
+    for k in run.count..terms.term {
         let interest = balance * rate;
         let principal = lower_to(raise_to_zero(pay - interest), balance);
         let kept = balance - principal;
-        add_above(
-            room,
-            at,
-            balance,
+        let month = Month {
             principal,
             interest,
-            kept * speeds[k as usize],
-        );
+            prepayment: kept * speeds[k as usize],
+        };
+        add_above(room, k as usize * WIDTH, balance, month);
         balance = kept;
-        at += WIDTH;
-        k += 1;
     }
 }
 
@@ -81,10 +73,7 @@ pub(crate) fn add_loan(terms: Terms, speeds: &[f64], room: &mut [f64])
     requires { (terms.term ≤ length speeds.now) × (terms.term * month_width ≤ length room.old) × (bad_amount terms.principal ≡ false) × (bad_term terms.term ≡ false) }
     ensures { room.new ≡ walked (loan_added terms speeds.now) 0 terms.term room.old }
 {
-    // No loan that is left is refused.
-    let Ok(pay) = mortgage::payment::monthly_payment(terms) else {
-        return;
-    };
+    let pay = monthly_payment(terms).unwrap();
     let run = ordinary_months(terms, pay, speeds, room);
     any_months(terms, pay, run, speeds, room);
 }
