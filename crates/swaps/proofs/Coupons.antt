@@ -53,11 +53,6 @@ ends_there : (T : Float) (k : ℕ) → lt (of_int binary64 (pos (suc k))) T ≡ 
 unfolding date
 ends_there T k e = rw e
 
--- a date that is passed is settled
-pub settled_here : (T previous next : Float) (k : ℕ) → next ≡ date T (k + 1) → le next previous ≡ true → le T next ≡ false
-    → (le (date T (suc k)) previous ≡ true) × (le T (date T (suc k)) ≡ false)
-settled_here T previous next k e before inside = rw (sym (add-one k), sym e) (before, inside)
-
 -- where a date is settled there is a knot before
 some_before : (count n k : ℕ) → (count < 2 → n ≡ 0) → k < n → 1 < count
 some_before zero n k h less = let e = h (omega arith) in absurd (omega arith)

@@ -2,16 +2,15 @@
 use mathlib.Core.Path.{◌≡◌, refl, ap, ◌∙◌}
 use mathlib.Core.Bool.{Bool, true, cond}
 use mathlib.Core.List.{List, ◌++◌}
-use Prim.Native.Nat.{ℕ, suc, ◌+◌, ◌≤◌}
+use Prim.Native.Nat.{ℕ, suc, ◌+◌}
 use native.Mathlib.Omega.{arith}
-use lib.ListN.{length, take, drop}
+use lib.ListN.{length, get_or-append}
 use lib.Ieee.{Float}
 use Rattle.dates.specs.declared.Date.{Date}
 use Rattle.dates.specs.declared.periods.Span.{Span}
 use Rattle.dates.specs.Counts.{actual_days, thirty_days}
 use Rattle.dates.specs.Periods.{is_span, bound}
 use Rattle.dates.specs.DayLists.{DaysListed, elapsed_at, counted_at}
-use Rattle.dates.proofs.DayLists.{front_follows}
 use Rattle.swaps.specs.declared.DatedSwap.{DatedSwap}
 use Rattle.swaps.specs.declared.day_counts.DayCount.{DayCount}
 use Rattle.swaps.specs.declared.day_counts.DayCount.TheVariants.{Actual360, Actual365, Thirty360}
@@ -19,7 +18,6 @@ use Rattle.swaps.specs.DayCounts.{day_fraction, days_by, dated_fraction, time_to
 use Rattle.swaps.specs.DatedSwap.{span_of}
 use Rattle.swaps.specs.Periods.{of_dates}
 use Rattle.swaps.specs.inner.Runs.{by_thirties, FractionsOf, Listed}
-use Rattle.swaps.proofs.Fronts.{counted}
 
 -- a day count's days
 days_by_lem : (d : DayCount) (first second : Date) → cond (by_thirties d) (thirty_days first second) (actual_days first second) ≡ days_by d first second
@@ -31,15 +29,13 @@ days_by_lem Thirty360 first second = refl
 pub span_is : (span : Span) (s : DatedSwap) → span ≡ span_of s → is_span (span_of s) ≡ true → is_span span ≡ true
 span_is span s same e = ap is_span same ∙ e
 
--- in front of rooms
-pub days_in_front : (span : Span) (thirties : Bool) (first n : ℕ) (room other : List ℕ) → n ≤ length room → n ≤ length other → (xs ys : List ℕ) → length xs ≡ length (take n room) → length ys ≡ length (take n other)
-    → DaysListed span thirties first (length xs) xs ys → DaysListed span thirties first n (xs ++ drop n room) (ys ++ drop n other)
-days_in_front span thirties first n room other w v xs ys e f l =
-    let a = counted room n w in
-    let b = counted other n v in record {
-      of_elapsed = front_follows room n w xs e 0 (λ (j : ℕ). elapsed_at span (first + j)) l.of_elapsed;
-      of_counted = front_follows other n v ys f 0 (λ (j : ℕ). counted_at span thirties (first + j)) (λ j h. l.of_counted j (omega (arith, h, a, b, e, f)));
-    }
+-- at the front of longer lists
+pub days_in_front : (span : Span) (thirties : Bool) (first n : ℕ) (xs ys more others : List ℕ) → length xs ≡ n → length ys ≡ n
+    → DaysListed span thirties first (length xs) xs ys → DaysListed span thirties first n (xs ++ more) (ys ++ others)
+days_in_front span thirties first n xs ys more others e f l = record {
+  of_elapsed = λ j h. get_or-append xs more 0 j (omega arith) ∙ l.of_elapsed j (omega arith);
+  of_counted = λ j h. get_or-append ys others 0 j (omega arith) ∙ l.of_counted j (omega arith);
+}
 
 module _ (s : DatedSwap) where
   time_at_lem : (k : ℕ) → day_fraction Actual365 (elapsed_at (span_of s) k) ≡ (of_dates s).time k

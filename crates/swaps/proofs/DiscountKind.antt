@@ -1,11 +1,9 @@
 -- The discount curve is a curve of its kind: its zero rate and its discount factor are what `curves` says of a DiscountCurve. Assumes nothing.
-use mathlib.Core.Path.{◌≡◌, refl, ap, ◌∙◌}
-use mathlib.Core.List.{List, map, ◌++◌}
-use Prim.Native.Nat.{ℕ, ◌+◌, ◌≤◌}
-use native.Mathlib.Omega.{arith}
-use lib.ListN.{length, take, drop}
+use Rattle.std.proofs.Common.{◌≡◌, ℕ, ◌+◌, List, map, ◌++◌, length, take, refl, ap, ◌∙◌}
+use lib.ListN.{length-map}
+use lib.Seq.{take_at}
 use lib.Ieee.{Float}
-use Rattle.numbers.proofs.Mapped.{mapped_at}
+use Rattle.numbers.proofs.Mapped.{map_at}
 use Rattle.elementary.specs.Exp.{exp}
 use Rattle.curves.specs.declared.kinds.Kind.TheVariants as kind_is
 use Rattle.curves.specs.Segments.{knot}
@@ -48,10 +46,12 @@ module _ (tenors zeros : List Float) where
   factors_are dt first count factors each j h = each j h ∙ discount_is (date_after dt (first + j))
 
   -- ---- at a run of periods, worked out in front of a room of their times
-  pub factors_of : (t : Terms) (first n : ℕ) (times fractions part : List Float) → n ≤ length times → Listed t.periods first n times fractions
-      → part ≡ map (discount_on kind_is.DiscountCurve tenors zeros) (take n times) → FactorsOf t tenors zeros first n (part ++ drop n times)
-  factors_of t first n times fractions part within listed e j h =
-      ap (λ (p : List Float). knot (p ++ drop n times) j) e
-      ∙ mapped_at (discount_on kind_is.DiscountCurve tenors zeros) times n j h (omega arith)
+  pub factors_of : (t : Terms) (first : ℕ) (times fractions room part rest : List Float) → Listed t.periods first (length times) times fractions → take (length times) room ≡ times
+      → part ≡ map (discount_on kind_is.DiscountCurve tenors zeros) (take (length times) room) → FactorsOf t tenors zeros first (length times) (take (length times) (part ++ rest))
+  factors_of t first times fractions room part rest listed front e j h =
+      let is : part ≡ map (discount_on kind_is.DiscountCurve tenors zeros) times = e ∙ ap (map (discount_on kind_is.DiscountCurve tenors zeros)) front in
+      ap (λ (p : List Float). knot p j) (take_at part rest (length times) (ap length is ∙ length-map times (discount_on kind_is.DiscountCurve tenors zeros)))
+      ∙ ap (λ (p : List Float). knot p j) is
+      ∙ map_at (discount_on kind_is.DiscountCurve tenors zeros) j times h
       ∙ discount_is (knot times j)
       ∙ ap (discount_of tenors zeros) (listed.of_times j h)

@@ -6,7 +6,7 @@ use native.Mathlib.Omega.{arith}
 use lib.ListN.{length, get_or, set}
 use lib.Ieee.{Float, nan}
 use Rattle.numbers.proofs.Mapped.{map_at}
-use Rattle.elementary.proofs.PartWay.{part_way, at_start, one_further, next_of, at_end_lem, map_same}
+use Rattle.elementary.proofs.PartWay.{part_way, at_start, one_further, next_of, at_end_lem}
 use Rattle.swaps.specs.inner.Knots.{EachOf}
 
 module _ (made : Float → Float → Float) (firsts seconds : List Float) where
@@ -27,7 +27,3 @@ module _ (made : Float → Float → Float) (firsts seconds : List Float) where
 
   pub all_made : (j : ℕ) (ys : List Float) → 8 ≤ j → MadeTo j ys → EachOf made firsts seconds ys
   all_made j ys h done xs f g eight p q = done xs f g eight p q ∙ at_end_lem (λ (x : Float). made (f x) (g x)) f j xs (omega arith)
-
--- each made of one alone
-pub each_alone : (made : Float → Float) (xs ys : List Float) → length xs ≡ 8 → EachOf (λ (a b : Float). made a) xs xs ys → ys ≡ map made xs
-each_alone made xs ys eight each = each xs (λ (x : Float). x) (λ (x : Float). x) eight (sym (map_same xs)) (sym (map_same xs))

@@ -5,9 +5,7 @@ pub mod TriedCoupons
 pub mod DatedSpans
 pub mod DaysBy
 pub mod PeriodLists
-pub mod PeriodsWritten
 pub mod PaymentSums
-pub mod Writing
 pub mod Values
 pub mod Fronts
 pub mod DatedDays

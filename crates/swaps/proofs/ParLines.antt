@@ -55,6 +55,9 @@ pub ended : (tenors pars : List Float) (before : Float) (i : ℕ) → length ten
 unfolding first_or bad_knots_after
 ended tenors pars before i h = rw (drop_of_length-le tenors h)
 
+-- line 6 asked knot by knot
+pub ruleset knot_by_knot = (stops, goes_on, ended)
+
 -- where neither of two causes stands, the first does not
 neither : (a b : Bool) → (a || b) ≡ false → a ≡ false
 neither true b e = e

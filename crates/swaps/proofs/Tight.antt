@@ -44,10 +44,8 @@ use Rattle.swaps.proofs.discount_each.rate_at_each.Kinds as rate_at_each_kinds
 use Rattle.swaps.proofs.discount_each.rate_at_each.Reads as rate_at_each
 use Rattle.swaps.proofs.discount_each.discount_factor_at_each.Kinds as discount_factor_at_each_kinds
 use Rattle.swaps.proofs.discount_each.discount_factor_at_each.Reads as discount_factor_at_each
-use Rattle.std.specs.declared.result.Result.TheVariants.{Ok, Err}
 use Rattle.std.specs.declared.result.Result.{Result}
 use Rattle.refusals.specs.declared.Refusal.{Refusal}
-use Rattle.refusals.specs.Answers.{outcome}
 
 pub bootstrap_told : (x y : Bootstrap) → x.verdict ≡ y.verdict → x.curve ≡ y.curve → x ≡ y
 bootstrap_told x y v c =

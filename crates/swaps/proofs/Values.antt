@@ -29,7 +29,7 @@ use Rattle.swaps.specs.Valuation.{bumped, point_value, valuation}
 use Rattle.swaps.specs.Legs.{fixed_leg, floating_leg, net_value, par_rate_of, duration}
 use Rattle.swaps.specs.inner.Runs.{HasPeriods, LegsOn}
 use Rattle.swaps.proofs.DatedSpans.{has_span}
-use Rattle.std.specs.declared.result.Result.TheVariants.{Ok, Err}
+use Rattle.std.specs.declared.result.Result.TheVariants.{Ok}
 use Rattle.std.specs.declared.result.Result.{Result}
 use Rattle.refusals.specs.declared.Refusal.{Refusal}
 use Rattle.refusals.specs.Answers.{outcome}

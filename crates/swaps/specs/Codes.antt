@@ -1,6 +1,6 @@
 -- The code of a day count in a record: "day count 0 to 2", in the order of the enum. Definitions only. Assumes nothing.
 use Rattle.std.specs.Prelude.{ℕ, cond, [], ◌∷◌, eqb}
-use Rattle.refusals.specs.Outcome.{Outcome, refused, accepted, line, judged}
+use Rattle.refusals.specs.Outcome.{Outcome, line, judged}
 use Rattle.refusals.specs.Table.{bad_code}
 use Rattle.swaps.specs.declared.day_counts.DayCount.{DayCount}
 use Rattle.swaps.specs.declared.day_counts.DayCount.TheVariants.{Actual360, Actual365, Thirty360}

@@ -3,7 +3,7 @@ use Rattle.std.specs.Prelude.{Bool, List, map, Float}
 use Rattle.std.specs.Float.{binary64}
 use Rattle.std.specs.Float.Ieee.{add, sub}
 use Rattle.numbers.specs.Literals.{basis_point}
-use Rattle.refusals.specs.Outcome.{Outcome, refused, accepted, judged}
+use Rattle.refusals.specs.Outcome.{Outcome, judged}
 use Rattle.swaps.specs.declared.AnySwap.{AnySwap}
 use Rattle.swaps.specs.declared.valuation.SwapValuation.{SwapValuation}
 use Rattle.swaps.specs.Periods.{Terms, terms_of, lines_of}

@@ -9,7 +9,6 @@ ghost use Rattle.swaps.specs.Bootstrap.{zeros_up_to, either_of, par_lines};
 ghost use Rattle.swaps.specs.Bootstrapped.{curve_of, bootstrapped};
 
 use crate::knots::next_zero;
-use crate::rooms::empty_room;
 use curves::curve::{bad_knot_after, bad_knot_count};
 use numbers::sizes::infinity;
 use refusals::{Cause, Refusal, refuse};
@@ -30,33 +29,27 @@ pub struct Bootstrap {
 }
 
 // Line 6, for a bootstrap also: a tenor of 0 or above 100.
+#[tactic(auto, unfolding(refusals::specs::Table::bad_tenor))]
 fn bad_tenor(tenor: f64) -> bool
     ensures { result ≡ bad_tenor tenor }
 {
-    if tenor > 0.0 {
-        return tenor > 100.0;
-    }
-    true
+    !(tenor > 0.0) || tenor > 100.0
 }
 
 fn bad_par(before: f64, tenor: f64, par: f64) -> bool
     ensures { result ≡ ((bad_knot tenor par || not (lt before tenor)) || bad_tenor tenor) }
 {
-    if bad_knot_after(before, tenor, par) {
-        return true;
-    }
-    bad_tenor(tenor)
+    bad_knot_after(before, tenor, par) || bad_tenor(tenor)
 }
 
 // Line 6, at the first bad knot; -infinity stands before the first of all.
+#[tactic(auto, using(crate::proofs::ParLines::knot_by_knot))]
 fn judge_each(tenors: &[f64], pars: &[f64]) -> Result<(), Refusal>
     requires { (length tenors.now ≡ length pars.now) × (length tenors.now ≤ 120) }
     ensures { outcome result ≡ judged ((record { number = 6; causes = either_of (bad_knots tenors.now pars.now) (map bad_tenor tenors.now) }) ∷ []) tt }
 {
     let mut before = -infinity();
-    let mut i: usize = 0;
-    while i < tenors.len() {
-        let tenor = tenors[i];
+    for (i, &tenor) in tenors.iter().enumerate() {
         if bad_par(before, tenor, pars[i]) {
             return Err(Refusal {
                 cause: Cause::Knot,
@@ -64,7 +57,6 @@ fn judge_each(tenors: &[f64], pars: &[f64]) -> Result<(), Refusal>
             });
         }
         before = tenor;
-        i += 1;
     }
     Ok(())
 }
@@ -82,28 +74,25 @@ fn judge_pars(tenors: &[f64], pars: &[f64]) -> Result<(), Refusal>
     judge_each(tenors, pars)
 }
 
-// One knot at a time: its tenor into the room, and its zero rate from the tenors and rates that stand there.
-fn solve_knots(tenors: &[f64], pars: &[f64], times: &mut [f64], zeros: &mut [f64])
-    requires { (length tenors.now ≡ length pars.now) × (length times.old ≡ length tenors.now) × (length zeros.old ≡ length tenors.now) × Rising tenors.now }
-    ensures times_after { times.new ≡ tenors.now }
-    ensures zeros_after { zeros.new ≡ zeros_up_to tenors.now pars.now (length tenors.now) }
+// One knot at a time: its zero rate from the tenors up to it and the rates before it.
+#[tactic(auto, using(crate::proofs::SolvedKnots::knot_solved), unfolding(crate::specs::Bootstrap::zeros_up_to))]
+fn solve_knots(tenors: &[f64], pars: &[f64], zeros: &mut [f64])
+    requires { (length tenors.now ≡ length pars.now) × (length zeros.old ≡ length tenors.now) × Rising tenors.now }
+    ensures { zeros.new ≡ zeros_up_to tenors.now pars.now (length tenors.now) }
 {
-    let mut i: usize = 0;
-    while i < tenors.len() {
-        let end = i + 1;
-        times[i] = tenors[i];
-        let zero = next_zero(&times[..end], &zeros[..i], pars[i]);
+    for (i, par) in pars.iter().enumerate() {
+        let zero = next_zero(&tenors[..i + 1], &zeros[..i], *par);
         zeros[i] = zero;
-        i = end;
     }
 }
 
+#[tactic(auto, unfolding(crate::specs::Bootstrapped::curve_of, crate::specs::Bootstrapped::in_room))]
 fn no_curve() -> DiscountCurve
     ensures { result ≡ curve_of [] (refused 0 0) }
 {
     DiscountCurve {
-        tenors: empty_room(),
-        zeros: empty_room(),
+        tenors: [0.0; 120],
+        zeros: [0.0; 120],
         knots: 0,
     }
 }
@@ -114,9 +103,10 @@ fn solved_curve(tenors: &[f64], pars: &[f64]) -> DiscountCurve
     ensures { result ≡ curve_of tenors.now (accepted (zeros_up_to tenors.now pars.now (length tenors.now))) }
 {
     let knots = tenors.len();
-    let mut times = empty_room();
-    let mut zeros = empty_room();
-    solve_knots(tenors, pars, &mut times[..knots], &mut zeros[..knots]);
+    let mut times = [0.0; 120];
+    let mut zeros = [0.0; 120];
+    times[..knots].copy_from_slice(tenors);
+    solve_knots(tenors, pars, &mut zeros[..knots]);
     DiscountCurve {
         tenors: times,
         zeros,

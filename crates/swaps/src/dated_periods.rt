@@ -7,21 +7,19 @@ ghost use Rattle.swaps.specs.inner.Runs.{by_thirties, FractionsOf, Listed};
 
 use crate::DatedSwap;
 use crate::day_counts::{DayCount, day_count_fraction};
-use crate::rooms::no_days;
 use dates::counts::actual_days;
 use dates::periods::Span;
 use dates::runs::put_days;
 
 // The swap's dates, and the months of its periods.
+#[tactic(auto, unfolding(crate::specs::DatedSwap::span_of))]
 pub(crate) fn span_of(swap: DatedSwap) -> Span
     requires { 1 ≤ swap.frequency }
     ensures { result ≡ span_of swap }
 {
-    let first = swap.first;
-    let second = swap.second;
     Span {
-        first,
-        second,
+        first: swap.first,
+        second: swap.second,
         step: 12 / swap.frequency,
     }
 }
@@ -34,13 +32,12 @@ pub(crate) fn period_count(swap: DatedSwap) -> u32
 }
 
 // When the last period ends.
+#[tactic(auto, using(crate::proofs::DatedSpans::first_is_date, crate::proofs::DatedSpans::second_is_date), unfolding(crate::specs::DayCounts::time_to, crate::specs::Periods::of_dates))]
 pub(crate) fn end(swap: DatedSwap) -> f64
     requires { is_span (span_of swap) ≡ true }
     ensures { result ≡ (of_dates swap).end }
 {
-    let first = swap.first;
-    let second = swap.second;
-    day_count_fraction(DayCount::Actual365, actual_days(first, second))
+    day_count_fraction(DayCount::Actual365, actual_days(swap.first, swap.second))
 }
 
 // Whether the days of a period are the 30/360 count's.
@@ -59,10 +56,8 @@ fn put_fractions(day_count: DayCount, days: &[u32], fractions: &mut [f64])
     requires { length fractions.old ≤ length days.now }
     ensures { FractionsOf day_count days.now (length fractions.new) fractions.new }
 {
-    let mut j: usize = 0;
-    while j < fractions.len() {
-        fractions[j] = day_count_fraction(day_count, days[j]);
-        j += 1;
+    for (j, fraction) in fractions.iter_mut().enumerate() {
+        *fraction = day_count_fraction(day_count, days[j]);
     }
 }
 
@@ -73,8 +68,8 @@ pub(crate) fn put_dated(swap: DatedSwap, first: u32, times: &mut [f64], fraction
 {
     let day_count = swap.day_count;
     let places = times.len();
-    let mut elapsed = no_days();
-    let mut counted = no_days();
+    let mut elapsed = [0; 64];
+    let mut counted = [0; 64];
     put_days(
         span_of(swap),
         first,

@@ -16,23 +16,19 @@ use dates::counts::bad_dates;
 use refusals::{Cause, Refusal, refuse};
 
 // Line 7: a tenor that is not finite, or gives more than 1,200 payments.
+#[tactic(auto, unfolding(refusals::specs::Table::too_many_periods))]
 fn bad_tenor(swap: Swap) -> bool
     ensures { result ≡ (bad_time swap.tenor || too_many_periods (payments swap)) }
 {
-    if curves::curve::bad_time(swap.tenor) {
-        return true;
-    }
-    payments(swap) > 1200
+    curves::curve::bad_time(swap.tenor) || payments(swap) > 1200
 }
 
 // Line 8: a frequency of 0 or above 365.
+#[tactic(auto, unfolding(refusals::specs::Table::bad_frequency))]
 fn bad_frequency(frequency: u32) -> bool
     ensures { result ≡ bad_frequency frequency }
 {
-    if frequency == 0 {
-        return true;
-    }
-    frequency > 365
+    frequency == 0 || frequency > 365
 }
 
 // Lines 7, 8 and 9, of whose causes the first two are known.
@@ -80,28 +76,21 @@ pub fn judge_swap(swap: Swap, tenors: &[f64], zeros: &[f64]) -> Result<(), Refus
 }
 
 // Line 8, of a dated swap also: a frequency that does not divide 12.
+#[tactic(auto, using(crate::proofs::DatedSpans::frequency_above_0), unfolding(refusals::specs::Table::bad_dated_frequency))]
 fn bad_dated_frequency(frequency: u32) -> bool
     ensures { result ≡ bad_dated_frequency frequency }
 {
-    if bad_frequency(frequency) {
-        return true;
-    }
-    12 % frequency != 0
+    bad_frequency(frequency) || 12 % frequency != 0
 }
 
 // Line 7 of a dated swap: more than 1,200 periods, where its frequency and its dates make any.
+#[tactic(auto, using(crate::proofs::DatedSpans::has_span, crate::proofs::DatedSpans::none_by_frequency, crate::proofs::DatedSpans::none_by_dates, crate::proofs::DatedSpans::by_count), unfolding(refusals::specs::Table::too_many_periods, crate::specs::Periods::of_dates))]
 fn too_many_dated(swap: DatedSwap) -> bool
     ensures { result ≡ too_many_dated swap }
 {
-    if bad_dated_frequency(swap.frequency) {
-        return false;
-    }
-    let first = swap.first;
-    let second = swap.second;
-    if bad_dates(first, second) {
-        return false;
-    }
-    period_count(swap) > 1200
+    !bad_dated_frequency(swap.frequency)
+        && !bad_dates(swap.first, swap.second)
+        && period_count(swap) > 1200
 }
 
 // Those of a dated swap and its curve, all but line 15.
@@ -114,12 +103,11 @@ pub fn judge_but_dates(swap: DatedSwap, tenors: &[f64], zeros: &[f64]) -> Result
 }
 
 // Line 15.
+#[tactic(auto, using(refusals::proofs::OneCause::caused, refusals::proofs::OneCause::all_clear))]
 fn judge_dates(swap: DatedSwap) -> Result<(), Refusal>
     ensures { outcome result ≡ judged (dates_line swap.first swap.second ∷ []) tt }
 {
-    let first = swap.first;
-    let second = swap.second;
-    if bad_dates(first, second) {
+    if bad_dates(swap.first, swap.second) {
         return Err(refuse(Cause::Date));
     }
     Ok(())

@@ -12,7 +12,7 @@ ghost use Rattle.swaps.specs.Bootstrap.{date, coupon_at, par_error, middle, bise
 ghost use Rattle.swaps.specs.inner.Runs.{FactorsAfter};
 ghost use Rattle.swaps.specs.inner.Knots.{with_rate, WholeTo, SettledTo, last_at, sum_to, error_of, Ready, EachOf, fork_of};
 
-use crate::trials::discounts_with;
+use crate::trials::{change_each, discounts_with};
 use curves::kinds::Kind;
 use curves::runs::factors_after;
 use curves::segments::last_knot;
@@ -40,27 +40,23 @@ fn date(tenor: f64, k: u32) -> f64
     ensures { result ≡ date tenor k }
 {
     if k == 0 {
-        return 0.0;
+        0.0
+    } else {
+        lower_to(k as f64, tenor)
     }
-    lower_to(k as f64, tenor)
 }
 
 // How many dates are at or before the knot before, and before the tenor.
 fn settled_dates(tenor: f64, dates: u32, previous: f64) -> u32
     ensures { (result ≤ dates) × SettledTo tenor previous result }
 {
-    let mut k: u32 = 0;
-    while k < dates {
+    for k in 0..dates {
         let next = date(tenor, k + 1);
-        if !(next <= previous) {
+        if !(next <= previous) || tenor <= next {
             return k;
         }
-        if tenor <= next {
-            return k;
-        }
-        k += 1;
     }
-    k
+    dates
 }
 
 // The same, none for the first knot.
@@ -73,22 +69,18 @@ fn settled_at(tenors: &[f64], tenor: f64, dates: u32) -> u32
     settled_dates(tenor, dates, tenors[tenors.len() - 2])
 }
 
-// So many coupons after the first ones, whose discount factors are at hand, added one by one.
-fn add_coupons(tenor: f64, par: f64, sum: f64, first: u32, factors: &[f64], count: usize) -> f64
-    requires { (count ≤ length factors.now) × (first + count < 4294967296) × WholeTo tenor (first + count) }
-    ensures { (tenors zeros : List Float) → FactorsAfter one tenors zeros first count factors.now → sum ≡ added_up (coupon_at tenors zeros tenor par) first
-        → result ≡ added_up (coupon_at tenors zeros tenor par) (first + count) }
+// Coupons after the first ones, whose discount factors are at hand, added one by one.
+fn add_coupons(tenor: f64, par: f64, before: f64, first: u32, factors: &[f64]) -> f64
+    requires { (first + length factors.now < 4294967296) × WholeTo tenor (first + length factors.now) }
+    ensures { (tenors zeros : List Float) → FactorsAfter one tenors zeros first (length factors.now) factors.now → before ≡ added_up (coupon_at tenors zeros tenor par) first
+        → result ≡ added_up (coupon_at tenors zeros tenor par) (first + length factors.now) }
 {
-    let mut total = sum;
-    let mut k = first;
-    let mut j: usize = 0;
-    while j < count {
-        let before = date(tenor, k);
-        k += 1;
-        total = total + par * (k as f64 - before) * factors[j];
-        j += 1;
+    let mut sum = before;
+    for (j, factor) in factors.iter().enumerate() {
+        let k = first + j as u32;
+        sum += par * ((k + 1) as f64 - date(tenor, k)) * factor;
     }
-    total
+    sum
 }
 
 // At most 64 coupons after the first ones.
@@ -105,7 +97,7 @@ fn add_coupon_run(
     ensures { result ≡ added_up (coupon_at tenors.now zeros.now tenor par) (first + count) }
 {
     let factors = factors_after(Kind::DiscountCurve, 1.0, tenors, zeros, first, count);
-    add_coupons(tenor, par, sum, first, &factors, count)
+    add_coupons(tenor, par, sum, first, &factors[..count])
 }
 
 // The sum of the coupons at the first dates, all of them whole, 64 at a time.
@@ -114,12 +106,11 @@ fn coupon_sum(tenors: &[f64], zeros: &[f64], tenor: f64, par: f64, count: u32) -
     ensures { result ≡ added_up (coupon_at tenors.now zeros.now tenor par) count }
 {
     let mut sum = 0.0;
-    let mut k: u32 = 0;
-    while count - k >= 64 {
-        sum = add_coupon_run(tenors, zeros, tenor, par, sum, k, 64);
-        k += 64;
+    for k in (0..count).step_by(64) {
+        let run = (count - k).min(64);
+        sum = add_coupon_run(tenors, zeros, tenor, par, sum, k, run as usize);
     }
-    add_coupon_run(tenors, zeros, tenor, par, sum, k, (count - k) as usize)
+    sum
 }
 
 // The last knot of the tenors, with its settled coupons added.
@@ -140,31 +131,6 @@ fn last_of(tenors: &[f64], earlier: &[f64], par: f64) -> Knot
     }
 }
 
-// Each sum with one coupon more.
-fn plus_each(sums: &mut [f64], amount: f64, factors: [f64; 8])
-    requires { length sums.old ≡ 8 }
-    ensures { EachOf (λ a b. add binary64 a (mul binary64 amount b)) sums.old factors sums.new }
-{
-    let mut j: usize = 0;
-    while j < 8 {
-        sums[j] = sums[j] + amount * factors[j];
-        j += 1;
-    }
-}
-
-// Each sum with the tenor's discount factor, less 1.
-fn less_par(sums: [f64; 8], lasts: [f64; 8]) -> [f64; 8]
-    ensures { EachOf (λ a b. sub binary64 (add binary64 a b) one) sums lasts result }
-{
-    let mut errors = sums;
-    let mut j: usize = 0;
-    while j < 8 {
-        errors[j] = errors[j] + lasts[j] - 1.0;
-        j += 1;
-    }
-    errors
-}
-
 // The sums with the coupon paid at the date after k; the discount factors of the tenor are at hand.
 fn add_coupon(
     tenors: &[f64],
@@ -181,13 +147,12 @@ fn add_coupon(
     let whole = (k + 1) as f64;
     let before = date(knot.tenor, k);
     if whole < knot.tenor {
-        plus_each(
-            sums,
-            knot.par * (whole - before),
-            discounts_with(tenors, earlier, rates, whole),
-        );
+        let amount = knot.par * (whole - before);
+        let factors = discounts_with(tenors, earlier, rates, whole);
+        change_each(sums, factors, |sum, factor| sum + amount * factor);
     } else {
-        plus_each(sums, knot.par * (knot.tenor - before), lasts);
+        let amount = knot.par * (knot.tenor - before);
+        change_each(sums, lasts, |sum, last| sum + amount * last);
     }
 }
 
@@ -198,12 +163,11 @@ fn errors_of(tenors: &[f64], earlier: &[f64], knot: Knot, rates: [f64; 8]) -> [f
 {
     let lasts = discounts_with(tenors, earlier, rates, knot.tenor);
     let mut sums = [knot.sum; 8];
-    let mut k = knot.settled;
-    while k < knot.dates {
+    for k in knot.settled..knot.dates {
         add_coupon(tenors, earlier, knot, rates, lasts, &mut sums, k);
-        k += 1;
     }
-    less_par(sums, lasts)
+    change_each(&mut sums, lasts, |sum, last| sum + last - 1.0);
+    sums
 }
 
 fn middle(lo: f64, hi: f64) -> f64
@@ -261,8 +225,7 @@ fn bisect(tenors: &[f64], earlier: &[f64], knot: Knot, start: Bracket) -> f64
     ensures { result ≡ bisected (error_of tenors.now earlier.now knot) 198 start.lo start.hi }
 {
     let mut bracket = start;
-    let mut left: u32 = 66;
-    while left > 0 {
+    for _three in 0..66u32 {
         let errors = errors_of(tenors, earlier, knot, fork_of(bracket));
         let first = errors[0];
         let halves = half_of(bracket, first);
@@ -283,7 +246,6 @@ fn bisect(tenors: &[f64], earlier: &[f64], knot: Knot, start: Bracket) -> f64
         if bracket.hi - bracket.lo < 1e-16 {
             return middle(bracket.lo, bracket.hi);
         }
-        left -= 1;
     }
     middle(bracket.lo, bracket.hi)
 }
@@ -301,10 +263,7 @@ pub(crate) fn next_zero(tenors: &[f64], earlier: &[f64], par: f64) -> f64
         knot,
         [-1.0, 5.0, 2.0, 0.5, 3.5, 2.0, 2.0, 2.0],
     );
-    if errors[0] < 0.0 {
-        return elementary::ln::ln(1.0 + par);
-    }
-    if errors[1] > 0.0 {
+    if errors[0] < 0.0 || errors[1] > 0.0 {
         return elementary::ln::ln(1.0 + par);
     }
     let halves = half_of(Bracket { lo: -1.0, hi: 5.0 }, errors[2]);

@@ -12,7 +12,6 @@ ghost use Rattle.swaps.specs.inner.Runs.{HasPeriods, Listed, FactorsOf, Summed, 
 use crate::AnySwap;
 use crate::discount::discount_of;
 use crate::judging::judge_any;
-use crate::rooms::empty_run;
 use crate::runs::put_periods;
 use crate::terms::{end, fixed_rate, notional, period_count};
 use curves::each::discounts_onward;
@@ -37,62 +36,57 @@ fn counted(part: f64, amount: f64) -> f64
     if part == 0.0 { 0.0 } else { amount }
 }
 
-// So many periods, whose times, fractions and discount factors are at hand, added one by one.
+// Periods whose times, fractions and discount factors are at hand, added one by one.
 fn add_payments(
     notional: f64,
     rate: f64,
-    sums: PaymentSums,
+    before: PaymentSums,
     times: &[f64],
     fractions: &[f64],
     factors: &[f64],
-    count: usize,
 ) -> PaymentSums
-    requires { (count ≤ length times.now) × (count ≤ length fractions.now) × (count ≤ length factors.now) }
-    ensures { (t : Terms) (tenors zeros : List Float) (first : ℕ) → notional ≡ t.notional → rate ≡ t.rate → Listed t.periods first count times.now fractions.now → FactorsOf t tenors zeros first count factors.now → Summed t tenors zeros first sums → Summed t tenors zeros (first + count) result }
+    requires { (length fractions.now ≡ length times.now) × (length factors.now ≡ length times.now) }
+    ensures { (t : Terms) (tenors zeros : List Float) (first : ℕ) → notional ≡ t.notional → rate ≡ t.rate → Listed t.periods first (length times.now) times.now fractions.now → FactorsOf t tenors zeros first (length times.now) factors.now → Summed t tenors zeros first before → Summed t tenors zeros (first + length times.now) result }
 {
     let yearly = notional * rate;
-    let mut added = sums;
-    let mut j: usize = 0;
-    while j < count {
-        let part = fractions[j];
-        let factor = factors[j];
+    let mut sums = before;
+    for ((&time, &part), &factor) in times.iter().zip(fractions).zip(factors) {
         let payment = yearly * part;
-        let forward = (added.last / factor - 1.0) / part;
-        added = PaymentSums {
-            fixed: added.fixed + counted(part, payment * factor),
-            floating: added.floating + counted(part, notional * forward * part * factor),
-            annuity: added.annuity + counted(part, factor * part),
-            timed: added.timed + counted(part, times[j] * payment * factor),
+        let forward = (sums.last / factor - 1.0) / part;
+        sums = PaymentSums {
+            fixed: sums.fixed + counted(part, payment * factor),
+            floating: sums.floating + counted(part, notional * forward * part * factor),
+            annuity: sums.annuity + counted(part, factor * part),
+            timed: sums.timed + counted(part, time * payment * factor),
             last: factor,
         };
-        j += 1;
     }
-    added
+    sums
 }
 
-// So many periods, whose times and fractions are at hand, on a curve.
+// At most 64 periods, whose times and fractions are at hand, on a curve.
 fn add_on(
     swap: AnySwap,
     tenors: &[f64],
     zeros: &[f64],
-    times: [f64; 64],
+    times: &[f64],
     fractions: &[f64],
-    sums: PaymentSums,
-    count: usize,
+    before: PaymentSums,
 ) -> PaymentSums
-    requires { (count ≤ 64) × Rising tenors.now × (length times ≡ 64) × (length fractions.now ≡ 64) }
-    ensures { (first : ℕ) → Listed (terms_of swap).periods first count times fractions.now → Summed (terms_of swap) tenors.now zeros.now first sums → Summed (terms_of swap) tenors.now zeros.now (first + count) result }
+    requires { (length times.now ≤ 64) × Rising tenors.now × (length fractions.now ≡ length times.now) }
+    ensures { (first : ℕ) → Listed (terms_of swap).periods first (length times.now) times.now fractions.now → Summed (terms_of swap) tenors.now zeros.now first before → Summed (terms_of swap) tenors.now zeros.now (first + length times.now) result }
 {
-    let mut factors = times;
+    let count = times.len();
+    let mut factors = [0.0; 64];
+    factors[..count].copy_from_slice(times);
     discounts_onward(Kind::DiscountCurve, tenors, zeros, &mut factors[..count]);
     add_payments(
         notional(swap),
         fixed_rate(swap),
-        sums,
-        &times,
+        before,
+        times,
         fractions,
-        &factors,
-        count,
+        &factors[..count],
     )
 }
 
@@ -117,21 +111,18 @@ fn add_run(
     requires { (count ≤ 64) × Rising tenors.now × HasPeriods swap × (first + count ≤ (terms_of swap).periods.count) × ((terms_of swap).periods.count < 4294967296) × SummedOnBoth (terms_of swap) tenors.now zeros.now higher.now both first sums }
     ensures { SummedOnBoth (terms_of swap) tenors.now zeros.now higher.now both (first + count) result }
 {
-    let mut times = empty_run();
-    let mut fractions = empty_run();
+    let mut times = [0.0; 64];
+    let mut fractions = [0.0; 64];
     put_periods(swap, first, &mut times[..count], &mut fractions[..count]);
-    let before = sums.base;
-    let base = add_on(swap, tenors, zeros, times, &fractions, before, count);
-    let other = sums.higher;
-    if both {
-        return BothSums {
-            base,
-            higher: add_on(swap, tenors, higher, times, &fractions, other, count),
-        };
-    }
+    let times = &times[..count];
+    let fractions = &fractions[..count];
     BothSums {
-        base,
-        higher: other,
+        base: add_on(swap, tenors, zeros, times, fractions, sums.base),
+        higher: if both {
+            add_on(swap, tenors, higher, times, fractions, sums.higher)
+        } else {
+            sums.higher
+        },
     }
 }
 
@@ -163,21 +154,11 @@ fn payment_sums(
         base: no_payments(),
         higher: no_payments(),
     };
-    let mut k: u32 = 0;
-    while count - k >= 64 {
-        sums = add_run(swap, tenors, zeros, higher, both, sums, k, 64);
-        k += 64;
+    for k in (0..count).step_by(64) {
+        let run = (count - k).min(64);
+        sums = add_run(swap, tenors, zeros, higher, both, sums, k, run as usize);
     }
-    add_run(
-        swap,
-        tenors,
-        zeros,
-        higher,
-        both,
-        sums,
-        k,
-        (count - k) as usize,
-    )
+    sums
 }
 
 // The legs, with the notional at the end; the annuity; the fixed leg with each amount times its date; and the discount factor at the end.

@@ -10,7 +10,6 @@ pub mod judging;
 mod knots;
 pub mod legs;
 mod periods;
-mod rooms;
 mod runs;
 mod terms;
 mod trials;

@@ -13,15 +13,10 @@ fn put_undated(swap: Swap, first: u32, times: &mut [f64], fractions: &mut [f64])
     ensures { Listed (of_swap swap) first (length times.new) times.new fractions.new }
 {
     let dt = period(swap);
-    let part = fraction(swap);
-    let mut k = first;
-    let mut j: usize = 0;
-    while j < times.len() {
-        k += 1;
-        times[j] = k as f64 * dt;
-        fractions[j] = part;
-        j += 1;
+    for (j, time) in times.iter_mut().enumerate() {
+        *time = (first + j as u32 + 1) as f64 * dt;
     }
+    fractions.fill(fraction(swap));
 }
 
 // Those of a swap of either kind.

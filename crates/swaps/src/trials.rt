@@ -1,5 +1,5 @@
 // The curve of a bootstrap while eight rates of its last knot are tried at once: the zero rates before it, and each rate in hand.
-ghost use Rattle.std.specs.Prelude.{◌≡◌, map, suc, length};
+ghost use Rattle.std.specs.Prelude.{◌≡◌, map, suc, length, Float};
 ghost use Rattle.curves.specs.Segments.{knot, Rising};
 ghost use Rattle.curves.specs.Formulas.{along_zeros};
 ghost use Rattle.swaps.specs.Discount.{zero_rate_of, discount_of};
@@ -34,26 +34,15 @@ fn rates_after(earlier: &[f64], rates: [f64; 8], i: usize) -> [f64; 8]
     [knot_at(earlier, i); 8]
 }
 
-// Eight rates along a segment, each between two of its own.
-fn along_each(t0: f64, t1: f64, firsts: [f64; 8], seconds: [f64; 8], t: f64) -> [f64; 8]
-    ensures { EachOf (λ a b. along_zeros (record { t0 = t0; t1 = t1; r0 = a; r1 = b }) t) firsts seconds result }
+// Eight numbers, each of which gives way to what is made of it and of another at its place.
+pub(crate) fn change_each<F: Fn(f64, f64) -> f64>(numbers: &mut [f64], others: [f64; 8], made: F)
+    requires eight { length numbers.old ≡ 8 }
+    requires callable { F.IsAlwaysCallable made }
+    ensures { (g : Float → Float → Float) → ((a b r : Float) → F.post made a b r → r ≡ g a b) → EachOf g numbers.old others numbers.new }
 {
-    let mut rates = firsts;
-    let mut j: usize = 0;
-    while j < 8 {
-        rates[j] = along(
-            Kind::DiscountCurve,
-            Ends {
-                t0,
-                t1,
-                r0: rates[j],
-                r1: seconds[j],
-            },
-            t,
-        );
-        j += 1;
+    for (j, number) in numbers.iter_mut().enumerate() {
+        *number = made(*number, others[j]);
     }
-    rates
 }
 
 // The zero rates at a time.
@@ -68,13 +57,14 @@ fn zero_rates_with(tenors: &[f64], earlier: &[f64], rates: [f64; 8], t: f64) -> 
         return rates;
     }
     let i = segment(tenors, t);
-    along_each(
-        knot_at(tenors, i),
-        knot_after(tenors, i),
-        rates_with(earlier, rates, i),
-        rates_after(earlier, rates, i),
-        t,
-    )
+    let t0 = knot_at(tenors, i);
+    let t1 = knot_after(tenors, i);
+    let mut along_each = rates_with(earlier, rates, i);
+    let seconds = rates_after(earlier, rates, i);
+    change_each(&mut along_each, seconds, |r0, r1| {
+        along(Kind::DiscountCurve, Ends { t0, t1, r0, r1 }, t)
+    });
+    along_each
 }
 
 // What the discount factors at a time are the exps of, from the zero rates there.
@@ -83,10 +73,8 @@ fn exponents_at(rates: [f64; 8], t: f64) -> [f64; 8]
     ensures { result ≡ map (λ x. exponent_of x t) rates }
 {
     let mut exponents = rates;
-    let mut j: usize = 0;
-    while j < 8 {
-        exponents[j] = exponent_at(Kind::DiscountCurve, exponents[j], t);
-        j += 1;
+    for exponent in exponents.iter_mut() {
+        *exponent = exponent_at(Kind::DiscountCurve, *exponent, t);
     }
     exponents
 }

@@ -58,14 +58,13 @@ fn duration_of(swap: AnySwap, tenors: &[f64], zeros: &[f64], legs: Legs) -> f64
 }
 
 // Every zero rate a basis point higher.
+#[tactic(auto, unfolding(crate::specs::Valuation::bumped))]
 fn bump(zeros: &[f64], out: &mut [f64])
     requires { length zeros.now ≡ length out.old }
     ensures { out.new ≡ bumped zeros.now }
 {
-    let mut i: usize = 0;
-    while i < zeros.len() {
-        out[i] = zeros[i] + 0.0001;
-        i += 1;
+    for (i, zero) in zeros.iter().enumerate() {
+        out[i] = zero + 0.0001;
     }
 }
 
@@ -74,7 +73,7 @@ fn legs_with_bump(swap: AnySwap, tenors: &[f64], zeros: &[f64]) -> BothLegs
     requires { (length zeros.now ≤ 120) × Rising tenors.now × HasPeriods swap }
     ensures { LegsOn (terms_of swap) tenors.now zeros.now result.base × LegsOn (terms_of swap) tenors.now (bumped zeros.now) result.higher }
 {
-    let mut room = crate::rooms::empty_room();
+    let mut room = [0.0; 120];
     let n = zeros.len();
     bump(zeros, &mut room[..n]);
     both_legs_of(swap, tenors, zeros, &room[..n])

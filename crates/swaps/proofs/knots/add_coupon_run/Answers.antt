@@ -1,18 +1,21 @@
 -- `swaps::knots::add_coupon_run` meets its contract. Assumes nothing.
-use mathlib.Core.Path.{sym}
-use native.Mathlib.Omega.{arith}
+use Rattle.std.proofs.Common.{◌≡◌, ◌+◌, length, take, ap, ◌∙◌, arith}
+use Rattle.std.proofs.Math.Seq.{get_or-take}
+use Rattle.std.proofs.lemmas.Grind.{common_steps}
+use lib.Ieee.{nan}
 use Rattle.numbers.specs.Literals.{one}
+use Rattle.numbers.specs.Sums.{added_up}
+use Rattle.swaps.specs.Bootstrap.{coupon_at}
 use Rattle.swaps.proofs.DiscountKind.{factors_are}
 use Rattle.swaps.proofs.knots.add_coupon_run.Goals as goal
 
-pub slice_bounds-add_coupons-end : goal.slice_bounds-add_coupons-end
-slice_bounds-add_coupons-end c = sym c.factors_after-factors.ensures.0
-
-pub add_coupons-requires : goal.add_coupons-requires
-add_coupons-requires c = (omega (arith, c.factors_after-factors.ensures.0, c.requires.0), c.requires.1, c.requires.3)
-
 pub returns : goal.returns
 returns c =
-    let tenors = c.args.tenors.now in
-    let zeros = c.args.zeros.now in
-    c.add_coupons.ensures tenors zeros (factors_are tenors zeros one c.args.first c.args.count c.factors_after-factors.result (c.factors_after-factors.ensures.1 c.requires.2 c.requires.0 c.requires.1)) c.requires.4
+    let a = c.args in
+    let tenors = a.tenors.now in
+    let zeros = a.zeros.now in
+    let factors = c.factors_after-factors.result in
+    let many : length (take a.count factors) ≡ a.count = grind (arith, common_steps) in
+    let each = factors_are tenors zeros one a.first a.count factors (c.factors_after-factors.ensures.1 c.requires.2 c.requires.0 c.requires.1) in
+    c.add_coupons.ensures tenors zeros (λ j h. get_or-take a.count factors j nan (omega arith) ∙ each j (omega arith)) c.requires.4
+    ∙ ap (added_up (coupon_at tenors zeros a.tenor a.par)) (ap (λ n. a.first + n) many)

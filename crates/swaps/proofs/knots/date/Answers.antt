@@ -8,5 +8,5 @@ pub returns-then-k-eq0 : goal.returns-then-k-eq0
 unfolding date
 returns-then-k-eq0 c = rw c.if-k-eq0.true
 
-pub returns : goal.returns
-returns c = c.lower_to.ensures ∙ later_date _ _ c.if-k-eq0.false
+pub returns-else-k-eq0 : goal.returns-else-k-eq0
+returns-else-k-eq0 c = c.lower_to.ensures ∙ later_date _ _ c.if-k-eq0.false

@@ -1,7 +1,9 @@
 -- `swaps::knots::next_zero` meets its contract: the errors at the ends decide, and the first two halvings go by errors that were worked out with them. Assumes nothing.
-use mathlib.Core.Path.{refl, sym, ◌∙◌}
+use Rattle.std.proofs.Common.{◌≡◌, true, refl, sym, ◌∙◌}
+use Rattle.swaps.specs.Bootstrap.{no_change}
 use Rattle.swaps.specs.inner.Knots.{error_of}
 use Rattle.swaps.proofs.Bisecting.{low_end_tried, high_end_tried, started, too_low, too_high, not_solved, solved, solved_at}
+use Rattle.swaps.proofs.knots.next_zero.Goals.{then-errors-via-then-errors, then-errors-via-else-errors+then-errors-2}
 use Rattle.swaps.proofs.knots.next_zero.Goals as goal
 
 pub last_of-knot-requires : goal.last_of-knot-requires
@@ -14,17 +16,12 @@ pub returns-then-errors : goal.returns-then-errors
 returns-then-errors c =
     let a = c.args in
     let error = error_of a.tenors.now a.earlier.now c.last_of-knot.result in
-    c.ln.ensures
-    ∙ not_solved error _ (sym (too_low error _ (low_end_tried error _ c.errors_of-errors.ensures) c.if-errors.true))
-    ∙ solved_at a.tenors.now a.earlier.now _ c.last_of-knot.ensures.0 c.last_of-knot.ensures.1
-
-pub returns-then-errors-2 : goal.returns-then-errors-2
-returns-then-errors-2 c =
-    let a = c.args in
-    let error = error_of a.tenors.now a.earlier.now c.last_of-knot.result in
-    c.ln-then-errors-2.ensures
-    ∙ not_solved error _ (sym (too_high error _ _ (low_end_tried error _ c.errors_of-errors.ensures) c.if-errors.false (high_end_tried error _ c.errors_of-errors.ensures)) ∙ c.if-errors-2.true)
-    ∙ solved_at a.tenors.now a.earlier.now _ c.last_of-knot.ensures.0 c.last_of-knot.ensures.1
+    let low = low_end_tried error _ c.errors_of-errors.ensures in
+    let none : no_change error ≡ true = elim c.then-errors.branch [
+      | then-errors-via-then-errors w ↦ sym (too_low error _ low w.if-errors.true)
+      | then-errors-via-else-errors+then-errors-2 w ↦ sym (too_high error _ _ low w.if-errors.false (high_end_tried error _ c.errors_of-errors.ensures)) ∙ w.if-errors-2.true
+    ] in
+    c.ln.ensures ∙ not_solved error _ none ∙ solved_at a.tenors.now a.earlier.now _ c.last_of-knot.ensures.0 c.last_of-knot.ensures.1
 
 pub bisect-requires : goal.bisect-requires
 bisect-requires c = c.last_of-knot.ensures.2

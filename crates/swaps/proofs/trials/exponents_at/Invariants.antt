@@ -1,15 +1,7 @@
--- `swaps::trials::exponents_at` meets its contract: the exponents passed are made of the rates at their place. Assumes nothing.
-use Prim.Native.Nat.{◌-◌, ◌≤◌}
-use lib.Ieee.{Float}
+-- `swaps::trials::exponents_at` meets its contract: the rates passed have given way to their exponents. Assumes nothing.
+use Rattle.std.proofs.Common.{◌≡◌, map, take, drop, ◌++◌}
 use Rattle.swaps.specs.inner.Runs.{exponent_of}
-use Rattle.swaps.proofs.Eights.{MadeTo}
 use Rattle.swaps.proofs.trials.exponents_at.Given as goal
 
-abbrev pub of_first : Float → Float → Float → Float
-of_first t a b = exponent_of a t
-
-abbrev pub invariant-loop-j : goal.invariant-loop-j
-invariant-loop-j l = (l.j ≤ 8) × MadeTo (of_first l.t) l.initial.exponents l.initial.exponents l.j l.exponents
-
-abbrev pub decreases-loop-j : goal.decreases-loop-j
-decreases-loop-j l = 8 - l.j
+abbrev pub invariant-loop-exponent : goal.invariant-loop-exponent
+invariant-loop-exponent l = l.exponent-items ≡ map (λ x. exponent_of x l.t) (take l.exponent-index l.initial.exponent-items) ++ drop l.exponent-index l.initial.exponent-items
