@@ -57,17 +57,16 @@ fn gathered(flows: &[CashFlow]) -> Lists
     ensures times { take result.count result.times ≡ times_of flows.now }
     ensures amounts { take result.count result.amounts ≡ amounts_of flows.now }
 {
-    let mut times = [0.0; 1200];
-    let mut amounts = [0.0; 1200];
-    for (i, flow) in flows.iter().enumerate() {
-        times[i] = flow.time;
-        amounts[i] = flow.amount;
-    }
-    Lists {
-        times,
-        amounts,
+    let mut lists = Lists {
+        times: [0.0; 1200],
+        amounts: [0.0; 1200],
         count: flows.len(),
+    };
+    for (i, flow) in flows.iter().enumerate() {
+        lists.times[i] = flow.time;
+        lists.amounts[i] = flow.amount;
     }
+    lists
 }
 
 // The present value of flows over a curve and a spread.
