@@ -22,7 +22,7 @@ use elementary::exp::exp_each;
 use numbers::sizes::is_finite;
 use refusals::{Cause, Refusal, refuse_at};
 
-// Whether each is finite; all are asked alike, so that several are asked at once.
+// Whether each is finite; all are asked alike, so that several are asked at once: `all` took a sixth longer.
 pub fn all_finite(asked: &[f64]) -> bool
     ensures { (result ≡ true → (k : ℕ) → k < length asked.now → finite (get_or asked.now k nan) ≡ true) × (((k : ℕ) → k < length asked.now → finite (get_or asked.now k nan) ≡ true) → result ≡ true) }
 {
