@@ -22,9 +22,7 @@ const LAST_MONTH: u64 = 26399;
 fn months_between(first: Date, second: Date) -> u32
     ensures { result ≡ month_index second - month_index first }
 {
-    let from = month_index(first);
-    let to = month_index(second);
-    if to < from { 0 } else { to - from }
+    month_index(second).saturating_sub(month_index(first))
 }
 
 // How many periods: as many as are over before the second date, and the one that ends there.
@@ -35,7 +33,7 @@ pub fn period_count(span: Span) -> u32
         return 0;
     }
     let whole = months_between(span.first, span.second) / span.step;
-    let index = month_index(span.first) as u64 + (whole as u64) * (span.step as u64);
+    let index = u64::from(month_index(span.first)) + u64::from(whole) * u64::from(span.step);
     if index > LAST_MONTH {
         return whole;
     }
