@@ -9,16 +9,15 @@ use Rattle.refusals.specs.Outcome.{Outcome, refused, accepted, line, judged, fir
 use Rattle.refusals.proofs.Verdicts.{verdict, handed_on}
 use Rattle.refusals.specs.declared.Refusal.{Refusal}
 use Rattle.refusals.specs.Answers.{number, outcome}
-use Rattle.std.specs.declared.result.Result.TheVariants.{Ok, Err}
 use Rattle.std.specs.declared.result.Result.{Result}
 use Rattle.std.specs.Result.{IsErrAnd}
 use Rattle.refusals.specs.Table.{no_such_date, bad_dates}
 use Rattle.dates.specs.declared.Date.{Date}
 use Rattle.dates.specs.Calendar.{days_in, is_date, is_after}
 use Rattle.dates.specs.DayNumbers.{days_before_year, days_before_month, day_number}
-use Rattle.dates.specs.Counts.{actual_days, thirty_days}
+use Rattle.dates.specs.Counts.{actual_days}
 use Rattle.dates.specs.Months.{month_index, day_in_month, months_later}
-use Rattle.dates.specs.Answers.{date_lines, day_number_of, has_date, date_numbered, actual_days_of, thirty_days_of, months_later_of}
+use Rattle.dates.specs.Answers.{date_lines, day_number_of, date_numbered, actual_days_of, months_later_of}
 use Rattle.dates.proofs.Tests.{joined, decided}
 use Rattle.dates.proofs.Parts.{parts, of_parts}
 use Rattle.dates.proofs.Following.{three_good}
@@ -26,7 +25,7 @@ use Rattle.refusals.proofs.OneCause.{caused, all_clear}
 use Rattle.dates.proofs.YearDays.{year_more}
 use Rattle.dates.proofs.MonthDays.{next_month, before_thirteenth}
 use Rattle.dates.proofs.LaterMonths.{in_month_index, index_bounds}
-use Rattle.dates.proofs.InOrder.{known, has_bounds, none_numbered, read_back}
+use Rattle.dates.proofs.InOrder.{known, read_back}
 
 -- ---- line 15, asked before anything else
 pub is_clear : (b : Bool) → accepted tt ≡ verdict (line 15 b ∷ []) → b ≡ false

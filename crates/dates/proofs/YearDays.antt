@@ -132,10 +132,6 @@ at_most_366 year =
     hundreds : (n : ℕ) → (n + 299) / 400 ≤ (n + 99) / 100
     hundreds n = omega arith
 
-pub in_1900 : days_before_year 1900 ≡ 0
-unfolding days_before_year total
-in_1900 = refl
-
 pub in_2200 : days_before_year 2200 ≡ 109573
 unfolding days_before_year total days_in_year leap
 in_2200 = refl

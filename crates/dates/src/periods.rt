@@ -5,6 +5,7 @@ ghost use Rattle.dates.specs.Periods.{is_span, period_count};
 
 use crate::Date;
 use crate::calendar::is_after;
+use crate::counts::bad_dates;
 use crate::months::{day_in_month, month_index};
 
 // Two dates, and the months of a period.
@@ -13,6 +14,14 @@ pub struct Span {
     pub first: Date,
     pub second: Date,
     pub step: u32,
+}
+
+// Whether the dates are two in order, and a period is of 1 to 12 months.
+#[tactic(auto, unfolding(crate::specs::Periods::is_span, refusals::specs::Table::bad_dates, refusals::specs::Table::no_such_date))]
+pub(crate) fn is_span(span: Span) -> bool
+    ensures { result ≡ is_span span }
+{
+    !bad_dates(span.first, span.second) && (1..=12).contains(&span.step)
 }
 
 // The index of December 2199.

@@ -7,10 +7,10 @@ ghost use Rattle.dates.specs.inner.Ranks.{rank, date_of};
 ghost use Rattle.dates.specs.DayLists.{entry, Follows, DaysListed};
 
 use crate::calendar::days_in;
-use crate::counts::{bad_dates, first_day, second_day};
+use crate::counts::{first_day, second_day};
 use crate::day_numbers::{days_before_month, days_before_year};
 use crate::months::month_index;
-use crate::periods::{Span, period_count};
+use crate::periods::{Span, is_span, period_count};
 
 // The rank of the date where period i of so many ends, counted from 1: the last ends at the second date.
 fn rank_at(span: Span, count: u32, i: u32) -> u32
@@ -108,6 +108,7 @@ fn fill_days(
     ensures { DaysListed span thirties first (length elapsed.new) elapsed.new counted.new }
 {
     let bounds = elapsed.len() + 1;
+    // Room for the bounds of 64 periods.
     let mut ranks = [0; 65];
     let ranks = &mut ranks[..bounds];
     put_ranks(span, count, first, ranks);
@@ -121,14 +122,6 @@ fn fill_days(
     } else {
         put_actual(numbers, counted);
     }
-}
-
-// Whether its dates are two in order, and its periods are of 1 to 12 months.
-#[tactic(auto, unfolding(crate::specs::Periods::is_span, refusals::specs::Table::bad_dates, refusals::specs::Table::no_such_date))]
-fn is_span(span: Span) -> bool
-    ensures { result ≡ is_span span }
-{
-    !bad_dates(span.first, span.second) && (1..=12).contains(&span.step)
 }
 
 // Whether a span has so many periods after the first ones, and no more than 64.

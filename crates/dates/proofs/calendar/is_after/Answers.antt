@@ -1,13 +1,14 @@
-use Rattle.std.proofs.Common.{◌≡◌, ◌∙◌, ℕ, refl, Bool, true, false, ltb, eqb, arith}
+-- `dates::calendar::is_after` meets its contract: the fields' order is by year, month and day. Assumes nothing.
+use Rattle.std.proofs.Common.{◌≡◌, ◌∙◌, refl, Bool, true, false, ltb, eqb}
 use Rattle.std.specs.Ordering.{partial_lt}
 use Rattle.dates.specs.declared.Date.{Date}
 use Rattle.dates.specs.contracts.DatePartialOrd.TheImpl.{partial_cmp-value}
-use Rattle.dates.specs.Calendar.{leap, days_in, is_date, is_after}
+use Rattle.dates.specs.Calendar.{is_after}
 use Rattle.dates.proofs.calendar.is_after.Goals as goal
 
-lem : (p q : Date) → partial_lt partial_cmp-value.it p q ≡ is_after p q
+by_fields : (p q : Date) → partial_lt partial_cmp-value.it p q ≡ is_after p q
 unfolding is_after
-lem p q = years (ltb p.year q.year) (eqb p.year q.year) refl refl
+by_fields p q = years (ltb p.year q.year) (eqb p.year q.year) refl refl
   where
     days : (b c : Bool) → ltb p.year q.year ≡ false → eqb p.year q.year ≡ true → ltb p.month q.month ≡ false → eqb p.month q.month ≡ true → ltb p.day q.day ≡ b → eqb p.day q.day ≡ c → partial_lt partial_cmp-value.it p q ≡ is_after p q
     days true c f g h i j k = simp (f, g, h, i, j, k)
@@ -25,4 +26,4 @@ lem p q = years (ltb p.year q.year) (eqb p.year q.year) refl refl
     years false false h i = simp (h, i)
 
 pub returns : goal.returns
-returns c = c.lt.ensures ∙ lem c.args.first c.args.second
+returns c = c.lt.ensures ∙ by_fields c.args.first c.args.second

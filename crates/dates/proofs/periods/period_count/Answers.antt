@@ -1,6 +1,5 @@
 -- `dates::periods::period_count` meets its contract. Assumes nothing.
 use Rattle.std.proofs.Common.{◌≡◌, sym, ◌∙◌, ◌+◌, ◌*◌, ◌/◌, arith}
-use Rattle.dates.specs.declared.Date.{Date}
 use Rattle.dates.specs.Months.{day_in_month}
 use Rattle.dates.proofs.Bounds.{is_whole, one_more, no_more, whole_within}
 use Rattle.dates.proofs.Tiling.{span_parts}

@@ -1,8 +1,6 @@
 -- `dates::runs::fill_days` meets its contract: ranks, numbers and days, one list from the other. Assumes nothing.
 use Rattle.std.proofs.Common.{◌≡◌, ℕ, ◌+◌, length, sym, subst, length-take, arith}
-use Rattle.dates.specs.DayLists.{Follows}
 use Rattle.dates.proofs.RankDates.{InYears, bound_in_years}
-use Rattle.dates.proofs.DayLists.{fewer_follow}
 use Rattle.dates.proofs.RunDays.{ranks_in_years, listed_by_thirties, listed_by_actual_days}
 use Rattle.dates.proofs.runs.fill_days.Goals as goal
 
