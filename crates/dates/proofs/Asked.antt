@@ -1,18 +1,23 @@
 -- What the functions over dates answer, as the code finds it out, and the date so many days after 1 January 1900. Assumes nothing.
-use mathlib.Core.Path.{◌≡◌, sym, ap, ◌∙◌}
+use mathlib.Core.Path.{◌≡◌, refl, sym, ap, ◌∙◌}
 use mathlib.Core.Logic.{⊎_elim}
-use mathlib.Core.Bool.{Bool, true, false, not, ◌&&◌}
-use mathlib.Core.List.{[]}
+use mathlib.Core.Bool.{Bool, true, false, not, cond, ◌&&◌}
+use mathlib.Core.List.{[], ◌∷◌}
 use Prim.Native.Nat.{ℕ, suc, ◌+◌, ◌-◌, ◌≤◌, ◌<◌}
 use native.Mathlib.Omega.{arith}
-use Rattle.refusals.specs.Outcome.{refused, accepted}
+use Rattle.refusals.specs.Outcome.{Outcome, refused, accepted, line, judged, first_or}
+use Rattle.refusals.proofs.Verdicts.{verdict, handed_on}
+use Rattle.refusals.specs.declared.Refusal.{Refusal}
+use Rattle.refusals.specs.Answers.{number, outcome}
+use Rattle.std.specs.declared.result.Result.{Result}
+use Rattle.std.specs.Result.{IsErrAnd}
 use Rattle.refusals.specs.Table.{no_such_date, bad_dates}
 use Rattle.dates.specs.declared.Date.{Date}
 use Rattle.dates.specs.Calendar.{days_in, is_date, is_after}
 use Rattle.dates.specs.DayNumbers.{days_before_year, days_before_month, day_number}
-use Rattle.dates.specs.Counts.{actual_days, thirty_days}
+use Rattle.dates.specs.Counts.{actual_days}
 use Rattle.dates.specs.Months.{month_index, day_in_month, months_later}
-use Rattle.dates.specs.Answers.{day_number_of, has_date, date_numbered, actual_days_of, thirty_days_of, months_later_of}
+use Rattle.dates.specs.Answers.{date_lines, day_number_of, date_numbered, actual_days_of, months_later_of}
 use Rattle.dates.proofs.Tests.{joined, decided}
 use Rattle.dates.proofs.Parts.{parts, of_parts}
 use Rattle.dates.proofs.Following.{three_good}
@@ -20,7 +25,35 @@ use Rattle.refusals.proofs.OneCause.{caused, all_clear}
 use Rattle.dates.proofs.YearDays.{year_more}
 use Rattle.dates.proofs.MonthDays.{next_month, before_thirteenth}
 use Rattle.dates.proofs.LaterMonths.{in_month_index, index_bounds}
-use Rattle.dates.proofs.InOrder.{known, has_bounds, none_numbered, read_back}
+use Rattle.dates.proofs.InOrder.{known, read_back}
+
+-- ---- line 15, asked before anything else
+pub is_clear : (b : Bool) → accepted tt ≡ verdict (line 15 b ∷ []) → b ≡ false
+unfolding judged first_or
+is_clear true e = absurd (let z : ◌≡◌ {A = ℕ} 0 1 = cc in omega arith)
+is_clear false e = refl
+
+abbrev all_right : Outcome Unit
+all_right = accepted tt
+
+module _ (d : Date) where
+  pub good_date : accepted tt ≡ verdict (date_lines d) → is_date d ≡ true
+  unfolding no_such_date
+  good_date e = go (is_date d) (is_clear (not (is_date d)) e)
+    where
+      go : (t : Bool) → not t ≡ false → t ≡ true
+      go true h = refl
+      go false h = sym h
+
+  -- a refusal of the date that is handed on, where the answer would refuse it too
+  pub turned_down : {Value : Type 0} (o : Outcome Value) (r : Refusal) (y : Result Value Refusal) → IsErrAnd y (λ (s : Refusal). s ≡ r)
+      → refused (number r.cause) r.place ≡ verdict (date_lines d) → (is_date d ≡ false → refused 15 0 ≡ o) → outcome y ≡ o
+  unfolding no_such_date judged first_or
+  turned_down o r y i e f = ap outcome (handed_on y i) ∙ go (is_date d) refl e
+    where
+      go : (t : Bool) → is_date d ≡ t → refused (number r.cause) r.place ≡ cond (not t) (refused 15 0) all_right → refused (number r.cause) r.place ≡ o
+      go true is k = absurd (let z : ◌≡◌ {A = ℕ} 0 1 = cc in omega arith)
+      go false is k = let g = f is in cc
 
 -- ---- day numbers
 pub no_number : (d : Date) → is_date d ≡ false → refused 15 0 ≡ day_number_of d
@@ -29,12 +62,6 @@ no_number d e = caused _ 15 (not (is_date d)) [] (ap not e)
 
 pub its_number : (d : Date) (n : ℕ) → is_date d ≡ true → ((1900 ≤ d.year) → (1 ≤ d.month) → (d.month ≤ 12) → n ≡ day_number d) → accepted n ≡ day_number_of d
 its_number d n e f = let p = parts d e in ap accepted (f p.not_early p.month_low p.month_high) ∙ sym (known d e)
-
-pub below_all : (n : ℕ) → n < 2 → refused 15 0 ≡ date_numbered n
-below_all n h = sym (none_numbered n (⊎_elim (λ e. absurd (let b = has_bounds n e in let l = b.0 in omega arith)) (λ e. e) (decided (has_date n))))
-
-pub above_all : (n : ℕ) → 109574 < n → refused 15 0 ≡ date_numbered n
-above_all n h = sym (none_numbered n (⊎_elim (λ e. absurd (let b = has_bounds n e in let l = b.1 in omega arith)) (λ e. e) (decided (has_date n))))
 
 pub its_date : (n : ℕ) (d : Date) → is_date d ≡ true → day_number d ≡ n → accepted d ≡ date_numbered n
 its_date n d e f = sym (ap date_numbered (sym f) ∙ read_back d e)
@@ -108,18 +135,6 @@ module _ (d : Date) (n : ℕ) where
 module _ (a b : Date) where
   abbrev bad : Bool
   bad = bad_dates (is_date a) (is_date b) (is_after a b)
-
-  pub no_actual : bad ≡ true → refused 15 0 ≡ actual_days_of a b
-  unfolding actual_days_of
-  no_actual e = caused _ 15 bad [] e
-
-  pub no_thirty : bad ≡ true → refused 15 0 ≡ thirty_days_of a b
-  unfolding thirty_days_of
-  no_thirty e = caused _ 15 bad [] e
-
-  pub all_thirty : bad ≡ false → (n : ℕ) → n ≡ thirty_days a b → accepted n ≡ thirty_days_of a b
-  unfolding thirty_days_of
-  all_thirty e n h = ap accepted h ∙ all_clear _ 15 bad e
 
   abbrev Numbers : Date → ℕ → Type 0
   Numbers d n = (1900 ≤ d.year) → (1 ≤ d.month) → (d.month ≤ 12) → n ≡ day_number d

@@ -1,8 +1,7 @@
 -- The number of periods as the code works it out, from an index that is a month's. Assumes nothing.
 use mathlib.Core.Path.{◌≡◌, sym, ap, ◌∙◌}
 use mathlib.Core.Bool.{Bool, true, false, cond}
-use Prim.Native.Nat.{ℕ, suc, ◌+◌, ◌-◌, ◌*◌, ◌/◌, ◌≤◌, ◌<◌}
-use native.Mathlib.Nat.{mul-le-mul_left}
+use Prim.Native.Nat.{ℕ, suc, ◌+◌, ◌-◌, ◌*◌, ◌/◌, ◌<◌}
 use native.Mathlib.Omega.{arith}
 use Rattle.dates.specs.declared.Date.{Date}
 use Rattle.dates.specs.declared.periods.Span.{Span}
@@ -34,15 +33,6 @@ module _ (s : Span) (i index : ℕ) (its : index ≡ month_index s.first) (d : D
 pub is_whole : (s : Span) (months : ℕ) → months ≡ month_index s.second - month_index s.first → months / s.step ≡ whole_periods s
 unfolding whole_periods
 is_whole s months e = ap (λ (k : ℕ). k / s.step) e
-
--- a number is no more than a product with one that is not 0
-pub factor_no_more : (a b : ℕ) → (b ≡ 0 → ⊥) → a ≤ a * b
-factor_no_more a b h =
-    let m : a * 1 ≤ a * b = mul-le-mul_left a (above b h) in
-    omega arith
-  where
-    above : (b : ℕ) → (b ≡ 0 → ⊥) → 1 ≤ b
-    above b h = omega arith
 
 module _ (s : Span) (e : is_span s ≡ true) where
   -- no index of the whole periods is after December 2199

@@ -1,7 +1,7 @@
 -- A date in a month of such an index: it has that index, its rank is the month's and a day's from 1 to 31, and no months later a date is itself. Assumes nothing.
-use mathlib.Core.Path.{◌≡◌, sym, ap, ◌∙◌}
+use mathlib.Core.Path.{◌≡◌, ap, ◌∙◌}
 use mathlib.Core.Bool.{true}
-use Prim.Native.Nat.{ℕ, suc, ◌+◌, ◌-◌, ◌*◌, ◌/◌, ◌%◌, ◌≤◌, ◌<◌, min}
+use Prim.Native.Nat.{ℕ, suc, ◌+◌, ◌-◌, ◌*◌, ◌/◌, ◌%◌, ◌≤◌, min}
 use native.Mathlib.Omega.{arith}
 use Rattle.dates.specs.declared.Date.{Date}
 use Rattle.dates.specs.Calendar.{days_in, is_date}
@@ -65,27 +65,3 @@ no_months_later d e =
 
     cut : (k last : ℕ) → k ≤ last → min k last ≡ k
     cut k last h = omega arith
-
--- the date as the code makes it, with the day or with the month's last
-module _ (index day last : ℕ) (e : last ≡ days_in (index / 12) (index % 12 + 1)) where
-  is_last : last_day index ≡ last
-  is_last = ap (days_in (index / 12)) (next (index % 12)) ∙ sym e
-    where
-      next : (n : ℕ) → suc n ≡ n + 1
-      next n = omega arith
-
-  pub with_day : day < last → record { year = index / 12; month = index % 12 + 1; day = day } ≡ day_in_month index day
-  unfolding day_in_month
-  with_day h =
-      let l = is_last in
-      let d : day ≡ min day (last_day index) = omega arith in
-      let m : index % 12 + 1 ≡ suc (index % 12) = omega arith in
-      ap (λ (u : ℕ). record { year = index / 12; month = u; day = day }) m ∙ ap (λ (u : ℕ). record { year = index / 12; month = suc (index % 12); day = u }) d
-
-  pub with_last : last ≤ day → record { year = index / 12; month = index % 12 + 1; day = last } ≡ day_in_month index day
-  unfolding day_in_month
-  with_last h =
-      let l = is_last in
-      let d : last ≡ min day (last_day index) = omega arith in
-      let m : index % 12 + 1 ≡ suc (index % 12) = omega arith in
-      ap (λ (u : ℕ). record { year = index / 12; month = u; day = last }) m ∙ ap (λ (u : ℕ). record { year = index / 12; month = suc (index % 12); day = u }) d

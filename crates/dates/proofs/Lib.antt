@@ -12,7 +12,6 @@ pub mod Following
 pub mod Bounds
 pub mod RankDates
 pub mod DayLists
-pub mod HasRun
 pub mod RunDays
 pub mod Asked
 pub mod Worked

@@ -5,7 +5,7 @@ use mathlib.Core.Bool.{Bool, true, false, cond, ◌||◌}
 use Prim.Native.Nat.{ℕ, zero, suc, ◌+◌, ◌-◌, ◌*◌, ◌/◌, ◌≤◌, ◌<◌}
 use native.Mathlib.Omega.{arith}
 use lib.Dec.{eqb, leb, ltb}
-use borrow.Author.Tests.{leb-true, leb-false}
+use borrow.Author.Tests.{leb-true, leb-false, ltb-true, ltb-false}
 use Rattle.dates.specs.Calendar.{leap, days_in, days_in_year}
 use Rattle.dates.specs.DayNumbers.{total, days_before_month}
 use Rattle.dates.proofs.Parts.{days_in_bounds}
@@ -93,3 +93,32 @@ starts_early year days =
 pub in_the_year : (year month days : ℕ) → days_before_month year month ≤ days → days < days_before_month year 13 → month ≤ 12
 in_the_year year month days h k =
     ⊎_elim (λ e. leb-true month 12 e) (λ e. absurd (let l = leb-false month 12 e in let m = months_no_less year 13 month l in omega arith)) (decided (leb month 12))
+
+-- and no later than the month after that
+at_least : (year month : ℕ) → 2 < month → month ≤ 12 → (367 * month - 362) / 12 ≤ days_before_month year month + 2
+at_least year month low high = go (leap year) (ltb 2 month) (days_before_month year month) ((367 * month - 362) / 12) (months_by_rule year month (omega arith) high)
+  where
+    go : (t u : Bool) (days even : ℕ) → days ≡ cond u (even - cond t 1 2) even → even ≤ days + 2
+    go true true days even e = omega arith
+    go false true days even e = omega arith
+    go t false days even e = omega arith
+
+a_year : (year : ℕ) → 365 ≤ days_in_year year
+unfolding days_in_year
+a_year year = go (leap year)
+  where
+    go : (t : Bool) → let n : ℕ = cond t 366 365 in 365 ≤ n
+    go true = omega arith
+    go false = omega arith
+
+pub ends_soon : (year days : ℕ) → days / 31 ≤ 10 → days < days_before_month year (days / 31 + 1 + 1 + 1)
+ends_soon year days h = ⊎_elim (λ e. early (ltb-true (days / 31) 10 e)) (λ e. december (ltb-false (days / 31) 10 e)) (decided (ltb (days / 31) 10))
+  where
+    early : days / 31 < 10 → days < days_before_month year (days / 31 + 1 + 1 + 1)
+    early l = let a = at_least year (days / 31 + 1 + 1 + 1) (omega arith) (omega arith) in omega arith
+
+    december : 10 ≤ days / 31 → days < days_before_month year (days / 31 + 1 + 1 + 1)
+    december l =
+        let d : days / 31 + 1 + 1 + 1 ≡ 13 = omega arith in
+        let y = a_year year in
+        rw (d, before_thirteenth) (omega arith)

@@ -1,4 +1,4 @@
--- Dates by their ranks: the date of a rank, its day number and the 30/360 count of two; and the ranks of a span's bounds, as the code works them out. Assumes nothing.
+-- Dates by their ranks: the date of a rank, its day number; and the ranks of a span's bounds, as the code works them out. Assumes nothing.
 use mathlib.Core.Path.{◌≡◌, ap, ◌∙◌}
 use mathlib.Core.Logic.{⊎_elim}
 use mathlib.Core.Bool.{true}
@@ -10,14 +10,12 @@ use Rattle.dates.specs.declared.Date.{Date}
 use Rattle.dates.specs.declared.periods.Span.{Span}
 use Rattle.dates.specs.Calendar.{days_in, is_date}
 use Rattle.dates.specs.DayNumbers.{days_before_year, days_before_month, day_number}
-use Rattle.dates.specs.Counts.{first_day_of, second_day_of, thirty_days}
 use Rattle.dates.specs.Months.{month_index}
 use Rattle.dates.specs.Periods.{is_span, uncut, bound, period_count}
 use Rattle.dates.specs.inner.Ranks.{rank, date_of}
 use Rattle.dates.proofs.Tests.{decided, clash}
 use Rattle.dates.proofs.Ranks.{Shaped, shaped, rank_by_index}
 use Rattle.dates.proofs.LaterMonths.{last_day, index_bounds}
-use Rattle.dates.proofs.Following.{first_small, second_small}
 use Rattle.dates.proofs.Tiling.{span_parts, uncut_rank, second_later, second_month_after, before_last, from_last, bound_is_date}
 
 -- ---- a date has its rank, and a rank its date
@@ -57,19 +55,6 @@ number_is r p q e f =
   where
     next : (n : ℕ) → n + 1 ≡ suc n
     next n = omega arith
-
--- ---- the 30/360 count
-pub first_within : (r : ℕ) → first_day_of (date_of r) ≤ 61
-unfolding date_of
-first_within r = let f = first_small (date_of r) in omega arith
-
-pub second_within : (q r : ℕ) → second_day_of (date_of q) (date_of r) ≤ 61
-unfolding date_of
-second_within q r = let f = second_small (date_of q) (date_of r) in omega arith
-
-pub thirty_is : (q r x y n : ℕ) → x ≡ first_day_of (date_of q) → y ≡ second_day_of (date_of q) (date_of r) → n ≡ (30 * (r / 32) + y) - (30 * (q / 32) + x) → n ≡ thirty_days (date_of q) (date_of r)
-unfolding thirty_days date_of
-thirty_is q r x y n e f g = omega arith
 
 -- ---- the bounds of a span
 module _ (s : Span) (e : is_span s ≡ true) where

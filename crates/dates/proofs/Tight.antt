@@ -38,10 +38,6 @@ use Rattle.dates.proofs.periods.period_count.Kinds as period_count_kinds
 use Rattle.dates.proofs.periods.period_count.Reads as period_count_reads
 use Rattle.dates.proofs.runs.put_days.Kinds as put_days_kinds
 use Rattle.dates.proofs.runs.put_days.Reads as put_days
-use Rattle.std.specs.declared.result.Result.TheVariants.{Ok, Err}
-use Rattle.std.specs.declared.result.Result.{Result}
-use Rattle.refusals.specs.declared.Refusal.{Refusal}
-use Rattle.refusals.specs.Answers.{outcome}
 
 -- the like of Determined, where something holds of the arguments
 abbrev DeterminedOn : (n : ℕ) (ps : List (ParamKind n)) (r : ResultKind n) → ((κs : Lfts n) → Dens κs ps → Type 0) → Out n ps r → Type 0

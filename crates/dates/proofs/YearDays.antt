@@ -132,10 +132,6 @@ at_most_366 year =
     hundreds : (n : ℕ) → (n + 299) / 400 ≤ (n + 99) / 100
     hundreds n = omega arith
 
-pub in_1900 : days_before_year 1900 ≡ 0
-unfolding days_before_year total
-in_1900 = refl
-
 pub in_2200 : days_before_year 2200 ≡ 109573
 unfolding days_before_year total days_in_year leap
 in_2200 = refl
@@ -153,3 +149,10 @@ starts_early days =
     let e : 1900 + days / 366 - 1900 ≡ days / 366 = omega arith in
     let f : days_before_year (1900 + days / 366) ≤ 366 * (days / 366) = subst (λ (k : ℕ). days_before_year (1900 + days / 366) ≤ 366 * k) e a in
     omega arith
+
+-- and no later than the year after that
+pub ends_soon : (days : ℕ) → days < 109573 → days < days_before_year (1900 + days / 366 + 1 + 1)
+ends_soon days h = go days (days / 366) _ _ (by_rule (1900 + days / 366 + 1 + 1)) (omega arith) (omega arith)
+  where
+    go : (days k y n : ℕ) → days_before_year y + (n + 99) / 100 ≡ 365 * n + (n + 3) / 4 + (n + 299) / 400 → n ≡ k + 2 → (days < 366 * (k + 1)) × (k < 300) → days < days_before_year y
+    go days k y n r e h = omega arith

@@ -1,6 +1,6 @@
 -- What the functions over dates answer, and what they refuse: 15, "no such date or the second not after the first". Definitions only. Assumes nothing.
 use Rattle.std.specs.Prelude.{ℕ, ◌-◌, Bool, ◌&&◌, List, [], ◌∷◌, leb}
-use Rattle.refusals.specs.Outcome.{Outcome, refused, accepted, Line, line, judged}
+use Rattle.refusals.specs.Outcome.{Outcome, Line, line, judged}
 use Rattle.refusals.specs.Table.{no_such_date, bad_dates}
 use Rattle.dates.specs.declared.Date.{Date}
 use Rattle.dates.specs.Calendar.{is_date, is_after, days_later}

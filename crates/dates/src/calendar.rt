@@ -1,73 +1,56 @@
 // The calendar: leap years, the days of a month, which dates there are, and which of two comes later.
 ghost use Rattle.std.specs.Prelude.{◌≡◌};
+ghost use Rattle.refusals.specs.Outcome.{judged};
+ghost use Rattle.refusals.specs.Answers.{outcome};
+ghost use Rattle.dates.specs.Answers.{date_lines};
 ghost use Rattle.dates.specs.Calendar.{leap, days_in, is_date, is_after};
 
 use crate::Date;
+use refusals::{Cause, Refusal, refuse};
 
+#[tactic(auto, unfolding(crate::specs::Calendar::leap))]
 pub(crate) fn is_leap(year: u32) -> bool
     ensures { result ≡ leap year }
 {
-    if year % 4 != 0 {
-        return false;
-    }
-    if year % 100 != 0 {
-        return true;
-    }
-    year % 400 == 0
+    year % 4 == 0 && (year % 100 != 0 || year % 400 == 0)
 }
 
 // The days of a month; 31 of one that is none.
+#[tactic(auto, unfolding(crate::specs::Calendar::days_in))]
 pub(crate) fn days_in(year: u32, month: u32) -> u32
     ensures { result ≡ days_in year month }
 {
-    if month == 2 {
-        return if is_leap(year) { 29 } else { 28 };
+    match month {
+        2 if is_leap(year) => 29,
+        2 => 28,
+        4 | 6 | 9 | 11 => 30,
+        _ => 31,
     }
-    if month == 4 {
-        return 30;
-    }
-    if month == 6 {
-        return 30;
-    }
-    if month == 9 {
-        return 30;
-    }
-    if month == 11 {
-        return 30;
-    }
-    31
 }
 
+#[tactic(auto, unfolding(crate::specs::Calendar::is_date))]
 pub fn is_date(date: Date) -> bool
     ensures { result ≡ is_date date }
 {
-    if date.year < 1900 {
-        return false;
+    let days = days_in(u32::from(date.year), u32::from(date.month));
+    (1900..=2199).contains(&date.year)
+        && (1..=12).contains(&date.month)
+        && (1..=days).contains(&u32::from(date.day))
+}
+
+// Line 15 of one date.
+pub(crate) fn judge_date(date: Date) -> Result<(), Refusal>
+    ensures { outcome result ≡ judged (date_lines date) tt }
+{
+    if !is_date(date) {
+        return Err(refuse(Cause::Date));
     }
-    if date.year > 2199 {
-        return false;
-    }
-    if date.month < 1 {
-        return false;
-    }
-    if date.month > 12 {
-        return false;
-    }
-    if date.day < 1 {
-        return false;
-    }
-    date.day as u32 <= days_in(date.year as u32, date.month as u32)
+    Ok(())
 }
 
 // Whether the second date is after the first, by year, month and day.
 pub fn is_after(first: Date, second: Date) -> bool
     ensures { result ≡ is_after first second }
 {
-    if first.year != second.year {
-        return first.year < second.year;
-    }
-    if first.month != second.month {
-        return first.month < second.month;
-    }
-    first.day < second.day
+    first < second
 }

@@ -1,10 +1,11 @@
 // The days from one date to a later one: actual days, and 30/360 by the bond basis.
-ghost use Rattle.std.specs.Prelude.{◌≡◌, true, ◌-◌};
+ghost use Rattle.std.specs.Prelude.{◌≡◌, true, cond, ◌==◌, ◌&&◌, [], ◌∷◌};
 ghost use Rattle.refusals.specs.Answers.{outcome};
+ghost use Rattle.refusals.specs.Outcome.{judged};
 ghost use Rattle.refusals.specs.Table.{bad_dates};
 ghost use Rattle.dates.specs.Calendar.{is_date, is_after};
-ghost use Rattle.dates.specs.Counts.{actual_days, first_day_of, second_day_of, thirty_days};
-ghost use Rattle.dates.specs.Answers.{actual_days_of, thirty_days_of};
+ghost use Rattle.dates.specs.Counts.{actual_days, thirty_days};
+ghost use Rattle.dates.specs.Answers.{dates_line, actual_days_of, thirty_days_of};
 
 use crate::Date;
 use crate::calendar::{is_after, is_date};
@@ -12,71 +13,63 @@ use crate::day_numbers::number_of;
 use refusals::{Cause, Refusal, refuse};
 
 // Line 15 of two dates.
+#[tactic(auto, unfolding(refusals::specs::Table::bad_dates, refusals::specs::Table::no_such_date))]
 pub fn bad_dates(first: Date, second: Date) -> bool
     ensures { result ≡ bad_dates (is_date first) (is_date second) (is_after first second) }
 {
-    if !is_date(first) {
-        return true;
-    }
-    if !is_date(second) {
-        return true;
-    }
-    !is_after(first, second)
+    !is_date(first) || !is_date(second) || !is_after(first, second)
 }
 
-// What is left of a number, or 0.
-pub(crate) fn less(all: u32, part: u32) -> u32
-    ensures { result ≡ all - part }
+fn judge_dates(first: Date, second: Date) -> Result<(), Refusal>
+    ensures { outcome result ≡ judged (dates_line first second ∷ []) tt }
 {
-    if all < part { 0 } else { all - part }
+    if bad_dates(first, second) {
+        return Err(refuse(Cause::Date));
+    }
+    Ok(())
 }
 
 // A first day of 31 is read as 30.
-fn first_day(first: Date) -> u32
-    ensures { result ≡ first_day_of first }
+pub(crate) fn first_day(day: u32) -> u32
+    ensures { result ≡ cond (day == 31) 30 day }
 {
-    if first.day == 31 {
-        return 30;
-    }
-    first.day as u32
+    if day == 31 { 30 } else { day }
 }
 
 // A second day of 31 is read as 30 when the first is then 30.
-fn second_day(first: Date, second: Date) -> u32
-    ensures { result ≡ second_day_of first second }
+pub(crate) fn second_day(first: u32, second: u32) -> u32
+    ensures { result ≡ cond ((second == 31) && (cond (first == 31) 30 first == 30)) 30 second }
 {
-    if second.day == 31 {
-        if first_day(first) == 30 {
-            return 30;
-        }
+    if second == 31 && first_day(first) == 30 {
+        30
+    } else {
+        second
     }
-    second.day as u32
 }
 
 // The actual days of two dates, 0 where the second is not later.
 pub fn actual_days(first: Date, second: Date) -> u32
     ensures { is_date first ≡ true → is_date second ≡ true → result ≡ actual_days first second }
 {
-    less(number_of(second), number_of(first))
+    number_of(second).saturating_sub(number_of(first))
 }
 
 // The 30/360 count of any two dates, 0 where the second is not later.
+#[tactic(auto, unfolding(crate::specs::Counts::thirty_days, crate::specs::Counts::first_day_of, crate::specs::Counts::second_day_of))]
 pub fn thirty_days(first: Date, second: Date) -> u32
     ensures { result ≡ thirty_days first second }
 {
-    less(
-        360 * (second.year as u32) + 30 * (second.month as u32) + second_day(first, second),
-        360 * (first.year as u32) + 30 * (first.month as u32) + first_day(first),
-    )
+    let (from, to) = (u32::from(first.day), u32::from(second.day));
+    let start = 360 * u32::from(first.year) + 30 * u32::from(first.month) + first_day(from);
+    let end = 360 * u32::from(second.year) + 30 * u32::from(second.month) + second_day(from, to);
+    end.saturating_sub(start)
 }
 
 // Actual days between two dates.
 pub fn actual_days_between(first: Date, second: Date) -> Result<u32, Refusal>
     ensures { outcome result ≡ actual_days_of first second }
 {
-    if bad_dates(first, second) {
-        return Err(refuse(Cause::Date));
-    }
+    judge_dates(first, second)?;
     Ok(actual_days(first, second))
 }
 
@@ -84,8 +77,6 @@ pub fn actual_days_between(first: Date, second: Date) -> Result<u32, Refusal>
 pub fn thirty_days_between(first: Date, second: Date) -> Result<u32, Refusal>
     ensures { outcome result ≡ thirty_days_of first second }
 {
-    if bad_dates(first, second) {
-        return Err(refuse(Cause::Date));
-    }
+    judge_dates(first, second)?;
     Ok(thirty_days(first, second))
 }

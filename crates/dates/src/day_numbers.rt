@@ -3,10 +3,10 @@ ghost use Rattle.std.specs.Prelude.{◌≡◌, true, ◌+◌, ◌≤◌, ◌<◌
 ghost use Rattle.refusals.specs.Answers.{outcome};
 ghost use Rattle.dates.specs.Calendar.{is_date};
 ghost use Rattle.dates.specs.DayNumbers.{days_before_year, days_before_month, day_number};
-ghost use Rattle.dates.specs.Answers.{day_number_of, date_numbered};
+ghost use Rattle.dates.specs.Answers.{day_number_of, has_date, date_numbered};
 
 use crate::Date;
-use crate::calendar::{days_in, is_date, is_leap};
+use crate::calendar::{days_in, is_leap, judge_date};
 use refusals::{Cause, Refusal, refuse};
 
 // The number of 1 January 1900.
@@ -25,65 +25,64 @@ pub(crate) fn days_before_year(year: u32) -> u32
 }
 
 // The days of a year's months before a month: 30 and 31 by turns, and two or one fewer behind February.
+#[tactic(auto, using(crate::proofs::MonthDays::months_by_rule))]
 pub(crate) fn days_before_month(year: u32, month: u32) -> u32
     requires { (1 ≤ month) × (month ≤ 12) }
     ensures { result ≡ days_before_month year month }
 {
     let even = (367 * month - 362) / 12;
     if month <= 2 {
-        return even;
+        even
+    } else if is_leap(year) {
+        even - 1
+    } else {
+        even - 2
     }
-    if is_leap(year) { even - 1 } else { even - 2 }
 }
 
 // The number of a date in a month that there is from 1900 on; 0 of any other.
+#[tactic(auto, using(crate::proofs::YearDays::at_most_366, crate::proofs::MonthDays::at_most_372), unfolding(crate::specs::DayNumbers::day_number))]
 pub(crate) fn number_of(date: Date) -> u32
     ensures { (1900 ≤ date.year) → (1 ≤ date.month) → (date.month ≤ 12) → result ≡ day_number date }
 {
-    if date.year < 1900 {
+    if date.year < 1900 || !(1..=12).contains(&date.month) {
         return 0;
     }
-    if date.month < 1 {
-        return 0;
-    }
-    if date.month > 12 {
-        return 0;
-    }
-    let year = date.year as u32;
-    1 + days_before_year(year) + days_before_month(year, date.month as u32) + date.day as u32
+    let (year, month) = (u32::from(date.year), u32::from(date.month));
+    1 + days_before_year(year) + days_before_month(year, month) + u32::from(date.day)
 }
 
 pub fn day_number(date: Date) -> Result<u32, Refusal>
     ensures { outcome result ≡ day_number_of date }
 {
-    if is_date(date) {
-        return Ok(number_of(date));
-    }
-    Err(refuse(Cause::Date))
+    judge_date(date)?;
+    Ok(number_of(date))
 }
 
-// The year in which so many days after 1 January 1900 lie: no year has more than 366, so the search begins at most one year before it.
+// The year in which so many days after 1 January 1900 lie: by years of 366 days it is found, or the year before it.
 fn year_at(days: u32) -> u32
     requires { days < 109573 }
     ensures { (1900 ≤ result) × (result < 2200) × (days_before_year result ≤ days) × (days < days_before_year (result + 1)) }
 {
-    let mut year = 1900 + days / 366;
-    while days_before_year(year + 1) <= days {
-        year += 1;
+    let year = 1900 + days / 366;
+    if days < days_before_year(year + 1) {
+        year
+    } else {
+        year + 1
     }
-    year
 }
 
-// The month of a year in which so many days after its 1 January lie: no month has more than 31.
+// The month of a year in which so many days after its 1 January lie: by months of 31 days it is found, or the month before it.
 fn month_at(year: u32, days: u32) -> u32
     requires { days < days_before_month year 13 }
     ensures { (1 ≤ result) × (result ≤ 12) × (days_before_month year result ≤ days) × (days < days_before_month year (result + 1)) }
 {
-    let mut month = days / 31 + 1;
-    while days_before_month(year, month) + days_in(year, month) <= days {
-        month += 1;
+    let month = days / 31 + 1;
+    if days < days_before_month(year, month) + days_in(year, month) {
+        month
+    } else {
+        month + 1
     }
-    month
 }
 
 // The date so many days after 1 January 1900.
@@ -102,14 +101,19 @@ fn date_at(days: u32) -> Date
     }
 }
 
+// Whether a number is a date's.
+#[tactic(auto, using(crate::proofs::InOrder::first_number, crate::proofs::InOrder::last_number), unfolding(crate::specs::Answers::has_date))]
+fn has_date(number: u32) -> bool
+    ensures { result ≡ has_date number }
+{
+    (FIRST..=LAST).contains(&number)
+}
+
 // The date of a day number.
 pub fn date_of(number: u32) -> Result<Date, Refusal>
     ensures { outcome result ≡ date_numbered number }
 {
-    if number < FIRST {
-        return Err(refuse(Cause::Date));
-    }
-    if number > LAST {
+    if !has_date(number) {
         return Err(refuse(Cause::Date));
     }
     Ok(date_at(number - FIRST))

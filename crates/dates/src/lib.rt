@@ -9,7 +9,7 @@ pub mod periods;
 pub mod runs;
 
 // A year, a month from 1 and a day from 1, of the calendar or not.
-#[derive(Clone, Copy)]
+#[derive(Clone, Copy, Debug, PartialEq, Eq, PartialOrd, Ord)]
 pub struct Date {
     pub year: u16,
     pub month: u8,

@@ -5,6 +5,7 @@ ghost use Rattle.dates.specs.Periods.{is_span, period_count};
 
 use crate::Date;
 use crate::calendar::is_after;
+use crate::counts::bad_dates;
 use crate::months::{day_in_month, month_index};
 
 // Two dates, and the months of a period.
@@ -15,6 +16,14 @@ pub struct Span {
     pub step: u32,
 }
 
+// Whether the dates are two in order, and a period is of 1 to 12 months.
+#[tactic(auto, unfolding(crate::specs::Periods::is_span, refusals::specs::Table::bad_dates, refusals::specs::Table::no_such_date))]
+pub(crate) fn is_span(span: Span) -> bool
+    ensures { result ≡ is_span span }
+{
+    !bad_dates(span.first, span.second) && (1..=12).contains(&span.step)
+}
+
 // The index of December 2199.
 const LAST_MONTH: u64 = 26399;
 
@@ -22,9 +31,7 @@ const LAST_MONTH: u64 = 26399;
 fn months_between(first: Date, second: Date) -> u32
     ensures { result ≡ month_index second - month_index first }
 {
-    let from = month_index(first);
-    let to = month_index(second);
-    if to < from { 0 } else { to - from }
+    month_index(second).saturating_sub(month_index(first))
 }
 
 // How many periods: as many as are over before the second date, and the one that ends there.
@@ -35,7 +42,7 @@ pub fn period_count(span: Span) -> u32
         return 0;
     }
     let whole = months_between(span.first, span.second) / span.step;
-    let index = month_index(span.first) as u64 + (whole as u64) * (span.step as u64);
+    let index = u64::from(month_index(span.first)) + u64::from(whole) * u64::from(span.step);
     if index > LAST_MONTH {
         return whole;
     }

@@ -7,17 +7,10 @@ ghost use Rattle.dates.specs.inner.Ranks.{rank, date_of};
 ghost use Rattle.dates.specs.DayLists.{entry, Follows, DaysListed};
 
 use crate::calendar::days_in;
-use crate::counts::{bad_dates, less};
+use crate::counts::{first_day, second_day};
 use crate::day_numbers::{days_before_month, days_before_year};
 use crate::months::month_index;
-use crate::periods::{Span, period_count};
-
-// A day, or the month's last where that is no later.
-fn cut_day(day: u32, last: u32) -> u32
-    ensures { result ≡ min day last }
-{
-    if day < last { day } else { last }
-}
+use crate::periods::{Span, is_span, period_count};
 
 // The rank of the date where period i of so many ends, counted from 1: the last ends at the second date.
 fn rank_at(span: Span, count: u32, i: u32) -> u32
@@ -25,11 +18,11 @@ fn rank_at(span: Span, count: u32, i: u32) -> u32
     ensures { result ≡ rank (bound span i) }
 {
     if i >= count {
-        return 32 * month_index(span.second) + span.second.day as u32;
+        return 32 * month_index(span.second) + u32::from(span.second.day);
     }
     let index = month_index(span.first) + i * span.step;
     let last = days_in(index / 12, index % 12 + 1);
-    32 * index + cut_day(span.first.day as u32, last)
+    32 * index + u32::from(span.first.day).min(last)
 }
 
 // The day number of a date from 1900 on, by its rank.
@@ -41,35 +34,25 @@ fn number_at(rank: u32) -> u32
     1 + days_before_year(year) + days_before_month(year, rank / 32 % 12 + 1) + rank % 32
 }
 
-// A first day of 31 is read as 30.
-fn first_day(first: u32) -> u32
-    ensures { result ≡ first_day_of (date_of first) }
-{
-    let day = first % 32;
-    if day == 31 { 30 } else { day }
-}
-
-// A second day of 31 is read as 30 when the first is then 30.
-fn second_day(first: u32, second: u32) -> u32
-    ensures { result ≡ second_day_of (date_of first) (date_of second) }
-{
-    let day = second % 32;
-    if day == 31 {
-        if first_day(first) == 30 {
-            return 30;
-        }
-    }
-    day
-}
-
 // The 30/360 count of two dates, by their ranks: twelve months of 30 days each year.
+#[tactic(auto, unfolding(crate::specs::Counts::thirty_days, crate::specs::Counts::first_day_of, crate::specs::Counts::second_day_of, crate::specs::inner::Ranks::date_of))]
 fn thirty_at(first: u32, second: u32) -> u32
     ensures { result ≡ thirty_days (date_of first) (date_of second) }
 {
-    less(
-        30 * (second / 32) + second_day(first, second),
-        30 * (first / 32) + first_day(first),
-    )
+    let (from, to) = (first % 32, second % 32);
+    let start = 30 * (first / 32) + first_day(from);
+    let end = 30 * (second / 32) + second_day(from, to);
+    end.saturating_sub(start)
+}
+
+// Each place in turn gets the value of its index.
+fn put_each<F: Fn(usize) -> u32>(places: &mut [u32], value: F)
+    requires { (j : ℕ) → j < length places.old → F.pre value j }
+    ensures { (j : ℕ) → j < length places.new → F.post value j (entry places.new j) }
+{
+    for j in 0..places.len() {
+        places[j] = value(j);
+    }
 }
 
 // The ranks of the bounds after the first ones, as many as the list has places.
@@ -77,11 +60,7 @@ fn put_ranks(span: Span, count: u32, first: u32, ranks: &mut [u32])
     requires { (is_span span ≡ true) × (count ≡ period_count span) × (first + length ranks.old ≤ count + 1) }
     ensures { Follows (λ j. rank (bound span (first + j))) (length ranks.new) ranks.new }
 {
-    let mut j: usize = 0;
-    while j < ranks.len() {
-        ranks[j] = rank_at(span, count, first + j as u32);
-        j += 1;
-    }
+    put_each(ranks, |j| rank_at(span, count, first + j as u32));
 }
 
 // Their day numbers.
@@ -89,11 +68,7 @@ fn put_numbers(ranks: &[u32], numbers: &mut [u32])
     requires { (length numbers.old ≤ length ranks.now) × ((j : ℕ) → j < length numbers.old → (22800 ≤ entry ranks.now j / 32) × (entry ranks.now j / 32 ≤ 26399)) }
     ensures { Follows (λ j. day_number (date_of (entry ranks.now j))) (length numbers.new) numbers.new }
 {
-    let mut j: usize = 0;
-    while j < numbers.len() {
-        numbers[j] = number_at(ranks[j]);
-        j += 1;
-    }
+    put_each(numbers, |j| number_at(ranks[j]));
 }
 
 // The days from a number to each after the first.
@@ -101,11 +76,7 @@ fn put_elapsed(from: u32, numbers: &[u32], elapsed: &mut [u32])
     requires { length elapsed.old < length numbers.now }
     ensures { Follows (λ j. entry numbers.now (j + 1) - from) (length elapsed.new) elapsed.new }
 {
-    let mut j: usize = 0;
-    while j < elapsed.len() {
-        elapsed[j] = less(numbers[j + 1], from);
-        j += 1;
-    }
+    put_each(elapsed, |j| numbers[j + 1].saturating_sub(from));
 }
 
 // The days from each number to the next.
@@ -113,11 +84,7 @@ fn put_actual(numbers: &[u32], counted: &mut [u32])
     requires { length counted.old < length numbers.now }
     ensures { Follows (λ j. entry numbers.now (j + 1) - entry numbers.now j) (length counted.new) counted.new }
 {
-    let mut j: usize = 0;
-    while j < counted.len() {
-        counted[j] = less(numbers[j + 1], numbers[j]);
-        j += 1;
-    }
+    put_each(counted, |j| numbers[j + 1].saturating_sub(numbers[j]));
 }
 
 // The 30/360 count from each rank's date to the next one's.
@@ -125,18 +92,7 @@ fn put_thirties(ranks: &[u32], counted: &mut [u32])
     requires { length counted.old < length ranks.now }
     ensures { Follows (λ j. thirty_days (date_of (entry ranks.now j)) (date_of (entry ranks.now (j + 1)))) (length counted.new) counted.new }
 {
-    let mut j: usize = 0;
-    while j < counted.len() {
-        counted[j] = thirty_at(ranks[j], ranks[j + 1]);
-        j += 1;
-    }
-}
-
-// Room for the bounds of 64 periods.
-fn empty_bounds() -> [u32; 65]
-    ensures { length result ≡ 65 }
-{
-    [0; 65]
+    put_each(counted, |j| thirty_at(ranks[j], ranks[j + 1]));
 }
 
 // The days of at most 64 periods after the first ones, as many as the lists have places.
@@ -152,16 +108,19 @@ fn fill_days(
     ensures { DaysListed span thirties first (length elapsed.new) elapsed.new counted.new }
 {
     let bounds = elapsed.len() + 1;
-    let mut ranks = empty_bounds();
-    put_ranks(span, count, first, &mut ranks[..bounds]);
-    let mut numbers = empty_bounds();
-    put_numbers(&ranks, &mut numbers[..bounds]);
+    // Room for the bounds of 64 periods.
+    let mut ranks = [0; 65];
+    let ranks = &mut ranks[..bounds];
+    put_ranks(span, count, first, ranks);
+    let mut numbers = [0; 65];
+    let numbers = &mut numbers[..bounds];
+    put_numbers(ranks, numbers);
     let from = number_at(rank_at(span, count, 0));
-    put_elapsed(from, &numbers, elapsed);
+    put_elapsed(from, numbers, elapsed);
     if thirties {
-        put_thirties(&ranks, counted);
+        put_thirties(ranks, counted);
     } else {
-        put_actual(&numbers, counted);
+        put_actual(numbers, counted);
     }
 }
 
@@ -169,30 +128,16 @@ fn fill_days(
 fn has_run(span: Span, first: u32, places: usize) -> bool
     ensures { result ≡ (is_span span && leb places 64 && leb (first + places) (period_count span)) }
 {
-    if bad_dates(span.first, span.second) {
-        return false;
-    }
-    if span.step < 1 {
-        return false;
-    }
-    if span.step > 12 {
-        return false;
-    }
-    if places > 64 {
-        return false;
-    }
-    first as u64 + places as u64 <= period_count(span) as u64
+    is_span(span)
+        && places <= 64
+        && u64::from(first) + places as u64 <= u64::from(period_count(span))
 }
 
 // The days from the first date to where each period after the first ones ends, and the days of that period, as many as the two lists have places; nothing where there are not so many periods.
 pub fn put_days(span: Span, first: u32, thirties: bool, elapsed: &mut [u32], counted: &mut [u32])
     ensures { is_span span ≡ true → first + length elapsed.new ≤ period_count span → length elapsed.new ≤ 64 → length elapsed.new ≡ length counted.new → DaysListed span thirties first (length elapsed.new) elapsed.new counted.new }
 {
-    if elapsed.len() != counted.len() {
-        return;
+    if elapsed.len() == counted.len() && has_run(span, first, elapsed.len()) {
+        fill_days(span, period_count(span), first, thirties, elapsed, counted);
     }
-    if !has_run(span, first, elapsed.len()) {
-        return;
-    }
-    fill_days(span, period_count(span), first, thirties, elapsed, counted);
 }

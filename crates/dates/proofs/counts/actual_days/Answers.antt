@@ -3,4 +3,4 @@ use Rattle.dates.proofs.Asked.{actual_is}
 use Rattle.dates.proofs.counts.actual_days.Goals as goal
 
 pub returns : goal.returns
-returns c = actual_is _ _ _ _ _ c.number_of-2.ensures c.number_of.ensures c.less.ensures
+returns c = actual_is _ _ _ _ _ c.number_of-2.ensures c.number_of.ensures c.saturating_sub.ensures

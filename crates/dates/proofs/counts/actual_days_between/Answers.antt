@@ -1,11 +1,12 @@
 -- `dates::counts::actual_days_between` meets its contract. Assumes nothing.
-use mathlib.Core.Path.{sym, ◌∙◌}
-use Rattle.refusals.proofs.Verdicts.{refused_as}
-use Rattle.dates.proofs.Asked.{no_actual, all_actual}
+use Rattle.refusals.proofs.Verdicts.{refused_on}
+use Rattle.dates.specs.Answers.{actual_days_of}
+use Rattle.dates.proofs.Asked.{is_clear, all_actual}
 use Rattle.dates.proofs.counts.actual_days_between.Goals as goal
 
-pub returns-then-bad_dates : goal.returns-then-bad_dates
-returns-then-bad_dates c = refused_as 15 _ _ c.refuse.ensures (no_actual _ _ (sym c.bad_dates.ensures ∙ c.if-bad_dates.true))
+pub returns-in_err-judge_dates : goal.returns-in_err-judge_dates
+unfolding actual_days_of
+returns-in_err-judge_dates c = refused_on _ _ _ c.from_residual.ensures.1 c.in_err-judge_dates.was c.judge_dates.ensures
 
 pub returns : goal.returns
-returns c = all_actual _ _ (sym c.bad_dates.ensures ∙ c.if-bad_dates.false) _ c.actual_days.ensures
+returns c = all_actual _ _ (is_clear _ c.in_ok-judge_dates.ensures) _ c.actual_days.ensures

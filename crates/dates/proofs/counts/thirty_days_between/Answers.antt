@@ -1,11 +1,14 @@
 -- `dates::counts::thirty_days_between` meets its contract. Assumes nothing.
-use mathlib.Core.Path.{sym, ◌∙◌}
-use Rattle.refusals.proofs.Verdicts.{refused_as}
-use Rattle.dates.proofs.Asked.{no_thirty, all_thirty}
+use Rattle.std.proofs.Common.{ap, ◌∙◌}
+use Rattle.refusals.specs.Outcome.{accepted}
+use Rattle.refusals.proofs.Verdicts.{refused_on, accepted_alike}
+use Rattle.dates.specs.Answers.{thirty_days_of}
 use Rattle.dates.proofs.counts.thirty_days_between.Goals as goal
 
-pub returns-then-bad_dates : goal.returns-then-bad_dates
-returns-then-bad_dates c = refused_as 15 _ _ c.refuse.ensures (no_thirty _ _ (sym c.bad_dates.ensures ∙ c.if-bad_dates.true))
+pub returns-in_err-judge_dates : goal.returns-in_err-judge_dates
+unfolding thirty_days_of
+returns-in_err-judge_dates c = refused_on _ _ _ c.from_residual.ensures.1 c.in_err-judge_dates.was c.judge_dates.ensures
 
 pub returns : goal.returns
-returns c = all_thirty _ _ (sym c.bad_dates.ensures ∙ c.if-bad_dates.false) _ c.thirty_days.ensures
+unfolding thirty_days_of
+returns c = ap accepted c.thirty_days.ensures ∙ accepted_alike _ _ c.in_ok-judge_dates.ensures

@@ -1,15 +1,18 @@
 -- `dates::day_numbers::date_of` meets its contract. Assumes nothing.
-use mathlib.Core.Path.{◌∙◌}
-use native.Mathlib.Omega.{arith}
+use Rattle.std.proofs.Common.{sym, ◌∙◌, arith}
 use Rattle.refusals.proofs.Verdicts.{refused_as}
-use Rattle.dates.proofs.Asked.{below_all, above_all, its_date}
+use Rattle.dates.proofs.Asked.{its_date}
+use Rattle.dates.proofs.InOrder.{has_bounds, none_numbered}
 use Rattle.dates.proofs.day_numbers.date_of.Goals as goal
 
-pub returns-then-number-lt-FIRST : goal.returns-then-number-lt-FIRST
-returns-then-number-lt-FIRST c = refused_as 15 _ _ c.refuse.ensures (below_all _ c.if-number-lt-FIRST.true)
+pub returns-then-not-has_date : goal.returns-then-not-has_date
+returns-then-not-has_date c = refused_as 15 _ _ c.refuse.ensures (sym (none_numbered _ (sym c.has_date.ensures ∙ c.if-not-has_date.true)))
 
-pub returns-then-number-gt-LAST : goal.returns-then-number-gt-LAST
-returns-then-number-gt-LAST c = refused_as 15 _ _ c.refuse-then-number-gt-LAST.ensures (above_all _ c.if-number-gt-LAST.true)
+pub overflow_sub-number : goal.overflow_sub-number
+overflow_sub-number c = let b = has_bounds _ (sym c.has_date.ensures ∙ c.if-not-has_date.false) in omega arith
+
+pub date_at-requires : goal.date_at-requires
+date_at-requires c = let b = has_bounds _ (sym c.has_date.ensures ∙ c.if-not-has_date.false) in omega arith
 
 pub returns : goal.returns
-returns c = its_date _ _ c.date_at.ensures.0 (c.date_at.ensures.1 ∙ omega arith)
+returns c = let b = has_bounds _ (sym c.has_date.ensures ∙ c.if-not-has_date.false) in its_date _ _ c.date_at.ensures.0 (c.date_at.ensures.1 ∙ omega arith)

@@ -1,11 +1,12 @@
 -- `dates::day_numbers::day_number` meets its contract. Assumes nothing.
-use mathlib.Core.Path.{sym, ◌∙◌}
-use Rattle.refusals.proofs.Verdicts.{refused_as}
-use Rattle.dates.proofs.Asked.{no_number, its_number}
+use Rattle.refusals.proofs.Verdicts.{refused_on}
+use Rattle.dates.specs.Answers.{day_number_of}
+use Rattle.dates.proofs.Asked.{good_date, its_number}
 use Rattle.dates.proofs.day_numbers.day_number.Goals as goal
 
-pub returns-then-is_date : goal.returns-then-is_date
-returns-then-is_date c = its_number _ _ (sym c.is_date.ensures ∙ c.if-is_date.true) c.number_of.ensures
+pub returns-in_err-judge_date : goal.returns-in_err-judge_date
+unfolding day_number_of
+returns-in_err-judge_date c = refused_on _ _ _ c.from_residual.ensures.1 c.in_err-judge_date.was c.judge_date.ensures
 
 pub returns : goal.returns
-returns c = refused_as 15 _ _ c.refuse.ensures (no_number _ (sym c.is_date.ensures ∙ c.if-is_date.false))
+returns c = its_number _ _ (good_date _ c.in_ok-judge_date.ensures) c.number_of.ensures
