@@ -23,13 +23,12 @@ pub(crate) fn loan_of(terms: Terms, payment: f64) -> Loan
     }
 }
 
+#[tactic(auto, using(refusals::proofs::Verdicts::judged_carried), unfolding(crate::specs::Payment::opened_with))]
 pub fn open_with_payment(terms: Terms, payment: f64) -> Result<Loan, Refusal>
     ensures { outcome result ≡ opened_with terms payment }
 {
-    match crate::terms::judge_terms(terms) {
-        Err(refusal) => Err(refusal),
-        Ok(()) => Ok(loan_of(terms, payment)),
-    }
+    crate::terms::judge_terms(terms)?;
+    Ok(loan_of(terms, payment))
 }
 
 pub fn open(terms: Terms) -> Result<Loan, Refusal>
@@ -44,9 +43,8 @@ fn starting_terms(kind: Kind, terms: Terms) -> Terms
 {
     match kind {
         Kind::Adjustable(adjustment) => Terms {
-            principal: terms.principal,
             rate: adjustment.initial,
-            term: terms.term,
+            ..terms
         },
         _ => terms,
     }
@@ -59,9 +57,8 @@ fn kind_worked_out(kind: Kind, terms: Terms) -> f64
     match kind {
         Kind::InterestOnly(months) => {
             let level = Terms {
-                principal: terms.principal,
-                rate: terms.rate,
-                term: months_behind(terms.term, months),
+                term: terms.term.saturating_sub(months),
+                ..terms
             };
             crate::payment::worked_out(level)
         }
@@ -69,24 +66,14 @@ fn kind_worked_out(kind: Kind, terms: Terms) -> f64
     }
 }
 
-// The months of a term behind its first so many.
-fn months_behind(term: u32, months: u32) -> u32
-    ensures { result ≡ term - months }
-{
-    if term < months { 0 } else { term - months }
-}
-
 // Opens a loan of any kind with a payment.
+#[tactic(auto, using(refusals::proofs::Verdicts::judged_carried, crate::proofs::TermsLaws::terms_first), unfolding(crate::specs::Openings::kind_opened_with))]
 fn open_kind_with_payment(kind: Kind, terms: Terms, payment: f64, index: &[f64]) -> Result<Loan, Refusal>
     ensures { outcome result ≡ kind_opened_with (way_of kind index.now) terms payment }
 {
-    match crate::terms::judge_terms(terms) {
-        Err(refusal) => Err(refusal),
-        Ok(()) => match crate::kinds::judge_kind(kind, terms.term, index) {
-            Err(refusal) => Err(refusal),
-            Ok(()) => Ok(loan_of(starting_terms(kind, terms), payment)),
-        },
-    }
+    crate::terms::judge_terms(terms)?;
+    crate::kinds::judge_kind(kind, terms.term, index)?;
+    Ok(loan_of(starting_terms(kind, terms), payment))
 }
 
 // Opens a loan of any kind with the worked-out payment; the list is read by an adjustable loan alone.

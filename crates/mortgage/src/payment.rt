@@ -45,11 +45,10 @@ pub(crate) fn worked_out(terms: Terms) -> f64
     payment_by(terms.principal, r, terms.term, growth(r, terms.term))
 }
 
+#[tactic(auto, using(refusals::proofs::Verdicts::judged_carried), unfolding(crate::specs::Payment::monthly_payment))]
 pub fn monthly_payment(terms: Terms) -> Result<f64, Refusal>
     ensures { outcome result ≡ monthly_payment terms }
 {
-    match crate::terms::judge_terms(terms) {
-        Err(refusal) => Err(refusal),
-        Ok(()) => Ok(worked_out(terms)),
-    }
+    crate::terms::judge_terms(terms)?;
+    Ok(worked_out(terms))
 }

@@ -38,13 +38,12 @@ pub(crate) fn interest_sum(terms: Terms) -> f64
     interest_over(crate::opening::loan_of(terms, payment), terms.term)
 }
 
+#[tactic(auto, using(refusals::proofs::Verdicts::judged_carried), unfolding(crate::specs::Totals::total_interest))]
 pub fn total_interest(terms: Terms) -> Result<f64, Refusal>
     ensures { outcome result ≡ total_interest terms }
 {
-    match crate::terms::judge_terms(terms) {
-        Err(refusal) => Err(refusal),
-        Ok(()) => Ok(interest_sum(terms)),
-    }
+    crate::terms::judge_terms(terms)?;
+    Ok(interest_sum(terms))
 }
 
 // The balance column after the next rows; after none, the balance in hand.
@@ -67,37 +66,24 @@ fn balance_after(loan: Loan, count: u32) -> f64
     balance
 }
 
-fn smaller(a: u32, b: u32) -> u32
-    ensures { result ≡ min a b }
-{
-    if a < b { a } else { b }
-}
-
 // The balance after so many months; past the term it is what the last row leaves.
+#[tactic(auto, using(refusals::proofs::Verdicts::judged_carried), unfolding(crate::specs::Totals::remaining_balance, crate::specs::Payment::loan_of, crate::specs::Month::end_month))]
 pub fn remaining_balance(terms: Terms, months: u32) -> Result<f64, Refusal>
     ensures { outcome result ≡ remaining_balance terms months }
 {
-    match crate::terms::judge_terms(terms) {
-        Err(refusal) => Err(refusal),
-        Ok(()) => {
-            let payment = crate::payment::worked_out(terms);
-            let loan = crate::opening::loan_of(terms, payment);
-            Ok(balance_after(loan, smaller(months, terms.term)))
-        }
-    }
+    crate::terms::judge_terms(terms)?;
+    let loan = crate::opening::loan_of(terms, crate::payment::worked_out(terms));
+    Ok(balance_after(loan, months.min(terms.term)))
 }
 
 // Loan to value; a value of zero gives +infinity.
+#[tactic(auto, using(refusals::proofs::Verdicts::judged_carried), unfolding(crate::specs::Totals::loan_to_value))]
 pub fn ltv(terms: Terms, value: f64) -> Result<f64, Refusal>
     ensures { outcome result ≡ loan_to_value terms value }
 {
-    match crate::terms::judge_terms(terms) {
-        Err(refusal) => Err(refusal),
-        Ok(()) => {
-            if value == 0.0 {
-                return Ok(numbers::sizes::infinity());
-            }
-            Ok(terms.principal / value)
-        }
+    crate::terms::judge_terms(terms)?;
+    if value == 0.0 {
+        return Ok(numbers::sizes::infinity());
     }
+    Ok(terms.principal / value)
 }
