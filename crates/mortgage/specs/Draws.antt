@@ -34,4 +34,3 @@ module _ (way : Way) where
 
   unfoldable pub filled : Loan → List Float → List Float
   filled l room = filled_by (drawn l room) l room
-

@@ -4,7 +4,7 @@ use Rattle.std.specs.Float.{binary64}
 use Rattle.std.specs.Float.Ieee.{add, sub, mul, lt, le}
 use Rattle.numbers.specs.Literals.{millionth}
 use Rattle.numbers.specs.Clamps.{plus_zero, raised, lowered}
-use Rattle.refusals.specs.Outcome.{Outcome, refused, accepted, judged}
+use Rattle.refusals.specs.Outcome.{Outcome, judged}
 use Rattle.records.specs.declared.Terms.{Terms}
 use Rattle.mortgage.specs.declared.savings.Paydown.{Paydown}
 use Rattle.mortgage.specs.declared.savings.Savings.{Savings}
@@ -44,4 +44,3 @@ saved t extra = record { months = t.term - (paid_off t extra).months; interest =
 
 unfoldable pub prepayment_savings : Terms → Float → Outcome Savings
 prepayment_savings t extra = judged (terms_lines t) (saved t extra)
-

@@ -48,4 +48,3 @@ module _ (way : Way) where
 
   unfoldable pub looked_up : Loan → List Float → ℕ → Outcome Year
   looked_up l years year = judged (lookup_lines l (length years) year) (year_at years (year - 1))
-

@@ -11,6 +11,7 @@ use records::Terms;
 use refusals::Refusal;
 
 // The loan in hand before its first month.
+#[tactic(auto, unfolding(crate::specs::Payment::loan_of))]
 pub(crate) fn loan_of(terms: Terms, payment: f64) -> Loan
     ensures { result ≡ loan_of terms payment }
 {
@@ -31,6 +32,7 @@ pub fn open_with_payment(terms: Terms, payment: f64) -> Result<Loan, Refusal>
     Ok(loan_of(terms, payment))
 }
 
+#[tactic(auto, unfolding(crate::specs::Payment::opened))]
 pub fn open(terms: Terms) -> Result<Loan, Refusal>
     ensures { outcome result ≡ opened terms }
 {
@@ -68,7 +70,12 @@ fn kind_worked_out(kind: Kind, terms: Terms) -> f64
 
 // Opens a loan of any kind with a payment.
 #[tactic(auto, using(refusals::proofs::Verdicts::judged_carried, crate::proofs::TermsLaws::terms_first), unfolding(crate::specs::Openings::kind_opened_with))]
-fn open_kind_with_payment(kind: Kind, terms: Terms, payment: f64, index: &[f64]) -> Result<Loan, Refusal>
+fn open_kind_with_payment(
+    kind: Kind,
+    terms: Terms,
+    payment: f64,
+    index: &[f64],
+) -> Result<Loan, Refusal>
     ensures { outcome result ≡ kind_opened_with (way_of kind index.now) terms payment }
 {
     crate::terms::judge_terms(terms)?;
@@ -77,6 +84,7 @@ fn open_kind_with_payment(kind: Kind, terms: Terms, payment: f64, index: &[f64])
 }
 
 // Opens a loan of any kind with the worked-out payment; the list is read by an adjustable loan alone.
+#[tactic(auto, unfolding(crate::specs::Openings::kind_opened))]
 pub fn open_kind(kind: Kind, terms: Terms, index: &[f64]) -> Result<Loan, Refusal>
     ensures { outcome result ≡ kind_opened (way_of kind index.now) terms }
 {
@@ -85,7 +93,11 @@ pub fn open_kind(kind: Kind, terms: Terms, index: &[f64]) -> Result<Loan, Refusa
 }
 
 // Opens an interest-only loan with the payment of the months behind its first so many.
-pub fn open_interest_only_with_payment(terms: Terms, months: u32, payment: f64) -> Result<Loan, Refusal>
+pub fn open_interest_only_with_payment(
+    terms: Terms,
+    months: u32,
+    payment: f64,
+) -> Result<Loan, Refusal>
     ensures { outcome result ≡ kind_opened_with (interest_only months) terms payment }
 {
     open_kind_with_payment(Kind::InterestOnly(months), terms, payment, &[0.0; 1])

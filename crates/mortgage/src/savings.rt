@@ -22,6 +22,7 @@ pub struct Savings {
 }
 
 // One month of paying down: lowered to the balance first and raised to 0 after.
+#[tactic(auto, unfolding(crate::specs::Savings::paid_down))]
 fn month_down(payment: f64, r: f64, state: Paydown) -> Paydown
     requires { state.months < 4294967295 }
     ensures { result ≡ paid_down payment r state }
@@ -37,6 +38,7 @@ fn month_down(payment: f64, r: f64, state: Paydown) -> Paydown
 }
 
 // Paying down: while the balance is above 0, at most so many months, stopping once it is at or below 1e-6.
+#[tactic(auto, unfolding(crate::specs::Savings::paid_down_for, crate::specs::Savings::paid_down))]
 fn pay_down(payment: f64, r: f64, principal: f64, most: u32) -> Paydown
     ensures { result ≡ paid_down_for payment r most (record { balance = principal; months = 0; interest = plus_zero }) }
 {
@@ -45,17 +47,14 @@ fn pay_down(payment: f64, r: f64, principal: f64, most: u32) -> Paydown
         months: 0,
         interest: 0.0,
     };
-    let mut k: u32 = 0;
-    while k < most {
-        if state.balance > 0.0 {} else {
+    for _ in 0..most {
+        if !(state.balance > 0.0) {
             break;
         }
-        let next = month_down(payment, r, state);
-        state = next;
+        state = month_down(payment, r, state);
         if state.balance <= 1e-6 {
             break;
         }
-        k += 1;
     }
     state
 }

@@ -6,7 +6,7 @@ ghost use Rattle.mortgage.specs.Level.{end_month};
 ghost use Rattle.mortgage.specs.Totals.{interest_at, interest_sum, total_interest, balance_after, remaining_balance, loan_to_value};
 
 use crate::Loan;
-use crate::kinds::Kind;
+use crate::months::rows_of;
 use records::Terms;
 use refusals::Refusal;
 
@@ -15,22 +15,11 @@ fn interest_over(loan: Loan, count: u32) -> f64
     requires { loan.done + count ≤ end_month loan }
     ensures { result ≡ added_up (interest_at loan) count }
 {
-    let course = crate::kinds::course_of(Kind::Level, loan.term);
-    let mut l = loan;
-    let mut total = 0.0;
-    let mut k: u32 = 0;
-    while k < count {
-        let month = crate::rows::any_month(l, course);
-        let row = month.row;
-        let next = month.next;
-        total = total + row.interest;
-        l = next;
-        k += 1;
-    }
-    total
+    rows_of(loan, count).fold(0.0, |total, row| total + row.interest)
 }
 
 // The interest of the whole term at the worked-out payment, whatever the terms are.
+#[tactic(auto, unfolding(crate::specs::Totals::interest_sum, crate::specs::Payment::loan_of, crate::specs::Month::end_month))]
 pub(crate) fn interest_sum(terms: Terms) -> f64
     ensures { result ≡ interest_sum terms }
 {
@@ -51,19 +40,7 @@ fn balance_after(loan: Loan, count: u32) -> f64
     requires { loan.done + count ≤ end_month loan }
     ensures { result ≡ balance_after loan count }
 {
-    let course = crate::kinds::course_of(Kind::Level, loan.term);
-    let mut l = loan;
-    let mut balance = loan.balance;
-    let mut k: u32 = 0;
-    while k < count {
-        let month = crate::rows::any_month(l, course);
-        let row = month.row;
-        let next = month.next;
-        balance = row.balance;
-        l = next;
-        k += 1;
-    }
-    balance
+    rows_of(loan, count).fold(loan.balance, |_, row| row.balance)
 }
 
 // The balance after so many months; past the term it is what the last row leaves.

@@ -79,6 +79,14 @@ module _ {Item : Type 0} (k : ℕ) (bad : Item → Bool) where
       go : (n m : ℕ) → placed (at_place 0 n m) ≡ refused_at (cond (nat_lt n m) (Some n) None)
       go n m = grind arith
 
+  -- and at that place itself, where a u32 counts the items
+  pub judged_by_position : (items : List Item) → length items ≤ largest → verdict ((record { number = k; causes = map bad items }) ∷ []) ≡ refused_at (position bad items)
+  unfolding judged
+  judged_by_position items h = rw (from_place 0 items) (go (position_or_len bad items) (length items) h)
+    where
+      go : (n m : ℕ) → m ≤ largest → at_place 0 n m ≡ refused_at (cond (nat_lt n m) (Some n) None)
+      go n m l = grind arith
+
 -- a line over a list whose items have no cause
 pub none_bad : {Item : Type 0} (k p : ℕ) (bad : Item → Bool) (items : List Item) (d : Item) → ((i : ℕ) → i < length items → bad (get_or items i d) ≡ false)
     → ◌≡◌ {A = Outcome Unit} (accepted tt) (first_or k p (map bad items) (accepted tt))
