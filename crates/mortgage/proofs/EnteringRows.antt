@@ -94,7 +94,7 @@ rows_more room d k n years₀ years years' e e' =
     ∙ ap (λ (j : ℕ). entered_up_to (rows_from room 0 d) j years₀) s
 
 -- the rows up to the year's end, or as many as are left, are of one year, and its line is lent
-pub of_one_year : (d k count n : ℕ) → n ≡ min (count - k) (12 - (d + k) % 12) → k < count → (0 < n) × ((d + k) % 12 + n ≤ 12) × (k + n ≤ count)
+pub of_one_year : (d k count n : ℕ) → n ≡ min (12 - (d + k) % 12) (count - k) → k < count → (0 < n) × ((d + k) % 12 + n ≤ 12) × (k + n ≤ count)
 of_one_year d k count n e h = (omega arith, omega arith, omega arith)
 
 pub line_lent : (d k count years : ℕ) → k < count → started_years (d + count) * year_width ≤ years → line_behind (d + k) * year_width + year_width ≤ years

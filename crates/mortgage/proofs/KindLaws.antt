@@ -1,21 +1,22 @@
 -- The kinds of a loan: line 16 of the table as each meets it; what an adjustable loan is given for a month; its rows due, its lines and its next row by its course; and its opening. Assumes nothing.
 use mathlib.Core.Path.{◌≡◌, refl, sym, ap, ◌∙◌}
 use mathlib.Core.Bool.{Bool, true, false, not, cond, ◌&&◌, ◌||◌}
-use mathlib.Core.List.{List, [], ◌∷◌, map}
-use Prim.Native.Nat.{ℕ, ◌+◌, ◌-◌, ◌<◌, ◌≤◌, ◌%◌}
+use mathlib.Core.List.{List, [], ◌∷◌}
+use Prim.Native.Nat.{ℕ, ◌-◌, ◌<◌, ◌≤◌, ◌%◌}
 use native.Mathlib.Omega.{arith}
 use lib.Dec.{eqb, ltb, leb}
-use lib.ListN.{length, take, get_or, length-take}
-use lib.Seq.{get_or-take}
-use lib.Ieee.{Float, nan}
+use lib.ListN.{length, length-take}
+use lib.Ieee.{Float}
 use borrow.Author.Tests.{ltb-true, ltb-false, eqb-true, lt-ltb, le-ltb, le-leb, lt-leb, eq-eqb, ne_eqb}
 use Rattle.refusals.specs.declared.Refusal.{Refusal}
-use Rattle.refusals.specs.Outcome.{Outcome, refused, accepted, Line, line, alone, first_or, judged}
-use Rattle.refusals.specs.Table.{bad_amount, bad_term, bad_number, past_end, bad_initial, bad_cap, too_few_entries, bad_entry}
+use Rattle.refusals.specs.Outcome.{refused, accepted, Line, line, alone, first_or, judged}
+use Rattle.refusals.specs.Table.{bad_term, past_end, bad_initial, bad_cap, too_few_entries, bad_entry}
 use Rattle.refusals.proofs.Verdicts.{verdict, refused_by, accepted_by}
 use Rattle.refusals.proofs.OneCause.{caused, clear, all_clear}
 use Rattle.refusals.proofs.LaterLines.{refused_first, accepted_first}
-use Rattle.refusals.proofs.Placing.{Rest, turn, begun, goes_on, ended, accepted_itself}
+use Rattle.refusals.proofs.Placing.{refused_at, by_position}
+use Rattle.std.specs.Prelude.{position, Some, None}
+use Rattle.numbers.specs.Whole.{largest}
 use Rattle.records.specs.declared.Row.{Row}
 use Rattle.records.specs.declared.Terms.{Terms}
 use Rattle.mortgage.specs.declared.Loan.{Loan}
@@ -25,13 +26,13 @@ use Rattle.mortgage.specs.declared.kinds.Kind.{Kind}
 use Rattle.mortgage.specs.declared.kinds.Kind.TheVariants as kind_is
 use Rattle.mortgage.specs.declared.rates.Coming.{Coming}
 use Rattle.mortgage.specs.Terms.{terms_lines}
-use Rattle.mortgage.specs.Payment.{monthly_rate, growth, payment_by, payment, loan_of}
-use Rattle.mortgage.specs.Kinds.{Way, way_of, course_of, later_years, entries_read, bad_adjustment, kind_lines}
+use Rattle.mortgage.specs.Payment.{payment, loan_of}
+use Rattle.mortgage.specs.Kinds.{Way, adjustable, way_of, course_of, later_years, entries_read, bad_adjustment, kind_lines}
 use Rattle.mortgage.specs.Rates.{begins_later_year, adjusted_to, in_force}
 use Rattle.mortgage.specs.Openings.{starting_terms, kind_opened_with}
 use Rattle.mortgage.specs.Month.{row_on, next_on, end_month, due, row_of, next_of}
 use Rattle.mortgage.specs.Rows.{finished, next, state_lines, next_row}
-use Rattle.mortgage.specs.inner.Coming.{coming_behind, Listed}
+use Rattle.mortgage.specs.inner.Coming.{coming_behind, with_coming, Listed}
 use Rattle.mortgage.proofs.RowLaws.{in_force_done}
 use Rattle.std.specs.declared.result.Result.TheVariants.{Ok, Err}
 use Rattle.std.specs.declared.result.Result.{Result}
@@ -46,98 +47,20 @@ at_least a b = go (ltb b a) (ltb-true b a) (ltb-false b a)
     go false f g = le-leb a b (g refl)
 
 -- ---- line 16
--- the tests of lines 1 and 9 are those of a cap, of an initial rate and of an entry
-cap_cause : (x : Float) → bad_amount x ≡ bad_cap x
-unfolding bad_amount bad_cap
-cap_cause x = refl
-
-initial_cause : (x : Float) → bad_number x ≡ bad_initial x
-unfolding bad_number bad_initial
-initial_cause x = refl
-
-entry_cause : (x : Float) → bad_number x ≡ bad_entry x
-unfolding bad_number bad_entry
-entry_cause x = refl
-
--- the causes that an adjustable loan names alone, asked one after the other
-abbrev Named : Adjustment → Bool
-Named a = bad_initial a.initial || bad_cap a.cap || bad_cap a.lifetime
-
-module _ (a : Adjustment) (x : Bool) (first : x ≡ bad_number a.initial) where
-  initial_is : (t : Bool) → x ≡ t → bad_initial a.initial ≡ t
-  initial_is t e = sym (initial_cause a.initial) ∙ sym first ∙ e
-
-  pub initial_bad : x ≡ true → true ≡ Named a
-  initial_bad e = rw (initial_is true e)
-
-  module _ (y : Bool) (second : y ≡ bad_amount a.cap) (passes : x ≡ false) where
-    cap_is : (t : Bool) → y ≡ t → bad_cap a.cap ≡ t
-    cap_is t e = sym (cap_cause a.cap) ∙ sym second ∙ e
-
-    pub cap_bad : y ≡ true → true ≡ Named a
-    cap_bad e = rw (initial_is false passes, cap_is true e)
-
-    pub lifetime_decides : (z : Bool) → y ≡ false → z ≡ bad_amount a.lifetime → z ≡ Named a
-    lifetime_decides z e third = third ∙ cap_cause a.lifetime ∙ rw (initial_is false passes, cap_is false e)
-
--- the first entries of an index list, asked one by one: what the line says from the entry i on
-abbrev pub EntriesFrom : List Float → ℕ → ℕ → Outcome Unit
-EntriesFrom index read i = Rest 16 bad_entry (take read index) nan i
-
-pub entries_begun : (index : List Float) (read : ℕ) → verdict ((record { number = 16; causes = map bad_entry (take read index) }) ∷ []) ≡ EntriesFrom index read 0
-entries_begun index read = begun 16 bad_entry (take read index) nan
-
-module _ (index : List Float) (read : ℕ) (lent : read ≤ length index) (o : Outcome Unit) (i : ℕ) (here : o ≡ EntriesFrom index read i) where
-  module _ (b : Bool) (asked : b ≡ bad_number (get_or index i nan)) (h : i < read) where
-    among : i < length (take read index)
-    among = simp length-take (omega arith)
-
-    entry_is : (t : Bool) → b ≡ t → bad_entry (get_or (take read index) i nan) ≡ t
-    entry_is t e = rw (get_or-take) (sym (entry_cause (get_or index i nan)) ∙ sym asked ∙ e)
-
-    pub entry_bad : b ≡ true → refused 16 i ≡ o
-    entry_bad e =
-        sym (here ∙ turn 16 bad_entry (take read index) nan i among ∙ ap (λ (t : Bool). cond t (refused 16 i) (EntriesFrom index read (i + 1))) (entry_is true e))
-
-    pub entry_good : b ≡ false → o ≡ EntriesFrom index read (i + 1)
-    entry_good e = goes_on 16 bad_entry (take read index) nan o i here among (entry_is false e)
-
-  pub entries_ended : read ≤ i → accepted tt ≡ o
-  entries_ended h = accepted_itself o (ended 16 bad_entry (take read index) nan o i here (simp length-take (omega arith)))
-
 -- a line whose single causes stand before those of a list
-single_caused : (k : ℕ) (b : Bool) (bs : List Bool) → b ≡ true → refused k 0 ≡ verdict ((record { number = k; causes = alone b bs }) ∷ [])
+single_first : (k : ℕ) (b : Bool) (bs : List Bool) → verdict ((record { number = k; causes = alone b bs }) ∷ []) ≡ cond b (refused k 0) (verdict ((record { number = k; causes = bs }) ∷ []))
 unfolding judged first_or
-single_caused k b [] e = rw e
-single_caused k b (x ∷ bs) e = rw e
+single_first k true [] = refl
+single_first k true (x ∷ bs) = refl
+single_first k false [] = refl
+single_first k false (x ∷ bs) = refl
 
-single_clear : (k : ℕ) (b : Bool) (bs : List Bool) → b ≡ false → verdict ((record { number = k; causes = bs }) ∷ []) ≡ verdict ((record { number = k; causes = alone b bs }) ∷ [])
-unfolding judged first_or
-single_clear k b [] e = rw e
-single_clear k b (x ∷ bs) e = rw e
-
--- as an adjustable loan meets it
-module _ (a : Adjustment) (index : List Float) (term read : ℕ) (b : Bool) (named : b ≡ Named a) where
-  abbrev Few : Bool
-  Few = too_few_entries (later_years term) (length index)
-
-  abbrev Entries : List Bool
-  Entries = map bad_entry (entries_read index term)
-
-  few_is : (t : Bool) → b ≡ false → Few ≡ t → (Named a || Few) ≡ t
-  few_is t e f = rw (← named, e) f
-
-  pub named_bad : b ≡ true → refused 16 0 ≡ verdict (bad_adjustment a index term ∷ [])
-  named_bad e = single_caused 16 (Named a || Few) Entries (rw (← named, e))
-
-  module _ (passes : b ≡ false) (reads : read ≡ later_years term) where
-    pub too_few_entries_lem : length index < read → refused 16 0 ≡ verdict (bad_adjustment a index term ∷ [])
-    unfolding too_few_entries
-    too_few_entries_lem h = single_caused 16 (Named a || Few) Entries (few_is true passes (lt-ltb (length index) (later_years term) (omega arith)))
-
-    pub entries_decide : read ≤ length index → verdict ((record { number = 16; causes = map bad_entry (take read index) }) ∷ []) ≡ verdict (bad_adjustment a index term ∷ [])
-    unfolding too_few_entries
-    entries_decide h = rw reads (single_clear 16 (Named a || Few) Entries (few_is false passes (le-ltb (length index) (later_years term) (omega arith))))
+-- as an adjustable loan meets it: what it names alone and a list too short, and then the first entry that is not finite
+pub adjustment_judged : (a : Adjustment) (index : List Float) (term : ℕ) → later_years term ≤ largest
+    → verdict (bad_adjustment a index term ∷ [])
+    ≡ cond (bad_initial a.initial || bad_cap a.cap || bad_cap a.lifetime || too_few_entries (later_years term) (length index)) (refused 16 0) (refused_at 16 bad_entry (position bad_entry (entries_read index term)))
+adjustment_judged a index term h =
+    single_first 16 _ _ ∙ ap (cond _ (refused 16 0)) (by_position 16 bad_entry (entries_read index term) (simp length-take (omega arith)))
 
 -- as a kind meets it that has one cause
 module _ (ls : List Line) (x b : Bool) (is : ls ≡ line 16 x ∷ []) (asked : b ≡ x) where
@@ -157,36 +80,14 @@ later_year done e = go (ltb 0 done) (eqb (done % 12) 0) (ltb-true 0 done) (eqb-t
     go true false f g h = let z : ◌≡◌ {A = ℕ} 0 1 = cc in absurd (omega arith)
     go false t f g h = let z : ◌≡◌ {A = ℕ} 0 1 = cc in absurd (omega arith)
 
--- the loan of a year that begins, and of one that goes on
-module _ (l : Loan) (b : Bool) (begins : b ≡ begins_later_year l.done) where
-  pub year_begun : (coming : Coming) (r pay : Float) → b ≡ true → (begins_later_year l.done ≡ true → coming.factor ≡ growth (monthly_rate coming.rate) (l.term - l.done))
-      → r ≡ monthly_rate coming.rate → pay ≡ payment_by l.balance r (l.term - l.done) coming.factor
-      → record { term = l.term; rate = coming.rate; payment = pay; done = l.done; balance = l.balance } ≡ cond (begins_later_year l.done) (adjusted_to coming.rate l) l
-  unfolding adjusted_to payment
-  year_begun coming r pay e grows er ep = rw (ep, er, grows (sym begins ∙ e), sym begins ∙ e)
+-- where another month is due, what comes behind the months done is what is given for it
+either : (b : Bool) (coming : Coming) (l m : Loan) → with_coming (Some coming) l ≡ m → with_coming (cond (b && true) (Some coming) None) l ≡ cond b m l
+either true coming l m e = e
+either false coming l m e = refl
 
-  pub year_goes_on : (m : Loan) → b ≡ false → l ≡ cond (begins_later_year l.done) m l
-  year_goes_on m e = rw (sym begins ∙ e)
-
-module _ (a : Adjustment) (index : List Float) where
-  -- what the next month's year begins with is at hand, where it begins a later year
-  abbrev pub AtHand : Loan → Coming → Type 0
-  AtHand l coming = begins_later_year l.done ≡ true → l.done < l.term → coming ≡ coming_behind a l.rate l.done l.term index
-
-  pub at_hand : (l : Loan) (coming : Coming) → (11 < l.done → l.done < l.term → coming ≡ coming_behind a l.rate l.done l.term index) → AtHand l coming
-  at_hand l coming is begins runs = let z = later_year l.done begins in is (omega (arith, z.0, z.1)) runs
-
-module _ (a : Adjustment) (l : Loan) (index : List Float) (coming : Coming) (is : AtHand a index l coming) (runs : l.done < l.term) where
-  pub coming_grows : begins_later_year l.done ≡ true → coming.factor ≡ growth (monthly_rate coming.rate) (l.term - l.done)
-  coming_grows e = let x = is e runs in rw x
-
-  pub given_is : (kind : Kind) (m : Loan) → kind ≡ kind_is.Adjustable a → m ≡ cond (begins_later_year l.done) (adjusted_to coming.rate l) l → m ≡ in_force (way_of kind index) l
-  unfolding in_force
-  given_is kind m k e = e ∙ rw k (either (begins_later_year l.done) (λ t. ap (λ (x : Coming). adjusted_to x.rate l) (is t runs)))
-    where
-      either : (t : Bool) {x y : Loan} → (t ≡ true → x ≡ y) → cond t x l ≡ cond t y l
-      either true f = f refl
-      either false f = refl
+pub coming_given : (a : Adjustment) (index : List Float) (l : Loan) → l.done < l.term → with_coming (coming_behind a l.rate l.done l.term index) l ≡ in_force (adjustable a index) l
+unfolding in_force adjusted_to payment
+coming_given a index l h = rw (lt-ltb l.done l.term h) (either (begins_later_year l.done) _ l _ refl)
 
 pub adjustable_listed : (kind : Kind) (a : Adjustment) (index : List Float) (term : ℕ) → kind ≡ kind_is.Adjustable a → Listed (way_of kind index) term → later_years term ≤ length index
 adjustable_listed kind a index term k h = rw k at h

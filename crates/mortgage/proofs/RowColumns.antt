@@ -1,40 +1,55 @@
--- Columns of a level loan's rows, walked row by row on its course: the interest column added up, and the balance column's last entry. Assumes nothing.
-use mathlib.Core.Path.{◌≡◌, sym}
-use Prim.Native.Nat.{ℕ, ◌+◌, ◌<◌, ◌≤◌}
-use native.Mathlib.Numerals.{add-one}
-use native.Mathlib.Omega.{arith}
+-- Columns of a level loan's rows, folded row by row: the interest column added up, and the balance column's last entry. Assumes nothing.
+use mathlib.Core.Path.{◌≡◌, refl, sym, ap, ◌∙◌}
+use Prim.Native.Nat.{ℕ, zero, suc}
 use lib.Ieee.{Float, binary64, add}
+use Rattle.std.specs.Prelude.{fold}
+use Rattle.numbers.specs.Clamps.{plus_zero}
 use Rattle.numbers.specs.Sums.{added_up}
 use Rattle.records.specs.declared.Row.{Row}
-use Rattle.steps.proofs.Portions.{steps_on}
+use Rattle.steps.specs.Steps.{stepped}
 use Rattle.mortgage.specs.declared.Loan.{Loan}
 use Rattle.mortgage.specs.declared.kinds.Course.{Course}
 use Rattle.mortgage.specs.Kinds.{level, course_of}
-use Rattle.mortgage.specs.Month.{row_on, next_on}
-use Rattle.mortgage.specs.Level.{end_month, row_of, next_of, after}
+use Rattle.mortgage.specs.Rates.{in_force}
+use Rattle.mortgage.specs.Month.{row_on, next_on, row_of}
+use Rattle.mortgage.specs.Rows.{after_on, after}
 use Rattle.mortgage.specs.Totals.{interest_at, balance_after}
-use Rattle.mortgage.proofs.RowLaws.{end_after, done_after}
-use Rattle.mortgage.proofs.KindLaws.{given_due}
-use Rattle.mortgage.proofs.SteadyKinds.{level_steady, course_kept, level_month}
+use Rattle.mortgage.specs.inner.RowsToCome.{rows_to_come}
+use Rattle.mortgage.proofs.RowLaws.{term_after}
+use Rattle.mortgage.proofs.SteadyKinds.{level_after}
 
--- the loan l in hand after k rows of the loan l₀, whose course is c
-module _ (l₀ l : Loan) (k : ℕ) (reached : l ≡ after k l₀) (c : Course) (on : c ≡ course_of level l₀.term) where
-  pub column_goes_on : (n : ℕ) → k < n → l₀.done + n ≤ end_month l₀ → l.done < c.end
-  column_goes_on n h b =
-      let due : l.done < end_month l = rw reached (omega (arith, done_after level k l₀, end_after level k l₀)) in
-      given_due level l c (course_kept c k l₀ l on reached) l (sym (level_steady l)) due
+module _ (c : Course) where
+  one_on : (n : ℕ) (l : Loan) → after_on c n (next_on c l) ≡ next_on c (after_on c n l)
+  unfolding stepped
+  one_on zero l = refl
+  one_on (suc n) l = ap (next_on c) (one_on n l)
 
-  module _ (row : Row) (next : Loan) (month : (row ≡ row_on c l) × (next ≡ next_on c l)) where
-    is_next : (row ≡ row_of l) × (next ≡ next_of l)
-    is_next = level_month c k l₀ l on reached row next month
+  -- a fold over one row more ends with that row
+  fold_more : (g : Float → Row → Float) (z : Float) (n : ℕ) (l : Loan) → fold g z (rows_to_come c (suc n) l) ≡ g (fold g z (rows_to_come c n l)) (row_on c (after_on c n l))
+  unfolding rows_to_come stepped
+  fold_more g z zero l = refl
+  fold_more g z (suc n) l = fold_more g (g z (row_on c l)) n (next_on c l) ∙ ap (λ (m : Loan). g (fold g z (rows_to_come c (suc n) l)) (row_on c m)) (one_on n l)
 
-    pub reaches : next ≡ after (k + 1) l₀
-    reaches = steps_on next_of k l₀ l next reached is_next.1
+module _ (l : Loan) where
+  abbrev its : Course
+  its = course_of level l.term
 
-    pub interest_added : (total : Float) → total ≡ added_up (interest_at l₀) k → add binary64 total row.interest ≡ added_up (interest_at l₀) (k + 1)
-    unfolding added_up
-    interest_added total h = rw (add-one k, is_next.0, reached, h)
+  row_at : (n : ℕ) → row_on its (after_on its n l) ≡ row_of level (after level n l)
+  unfolding row_of in_force
+  row_at n = sym (ap (λ (t : ℕ). row_on (course_of level t) (after level n l)) (term_after level n l) ∙ ap (row_on its) (level_after n l))
 
-    pub balance_shown : row.balance ≡ balance_after l₀ (k + 1)
-    unfolding balance_after
-    balance_shown = rw (add-one k, is_next.0, reached)
+  abbrev pub interest_more : Float → Row → Float
+  interest_more total r = add binary64 total r.interest
+
+  pub interest_folded : (n : ℕ) → fold interest_more plus_zero (rows_to_come its n l) ≡ added_up (interest_at l) n
+  unfolding added_up rows_to_come
+  interest_folded zero = refl
+  interest_folded (suc n) = fold_more its interest_more plus_zero n l ∙ rw (interest_folded n, row_at n)
+
+  abbrev pub last_balance : Float → Row → Float
+  last_balance balance r = r.balance
+
+  pub balance_folded : (n : ℕ) → fold last_balance l.balance (rows_to_come its n l) ≡ balance_after l n
+  unfolding balance_after rows_to_come
+  balance_folded zero = refl
+  balance_folded (suc n) = fold_more its last_balance l.balance n l ∙ ap (λ (r : Row). r.balance) (row_at n)

@@ -8,7 +8,11 @@ use Rattle.records.specs.declared.Row.{Row}
 use Rattle.mortgage.specs.declared.Loan.{Loan}
 use Rattle.mortgage.specs.declared.kinds.Course.{Course}
 use Rattle.mortgage.specs.Row.{width}
-use Rattle.mortgage.specs.Kinds.{Way, level, interest_only, balloon, course_of}
+use Rattle.mortgage.specs.declared.kinds.Adjustment.{Adjustment}
+use Rattle.mortgage.specs.declared.kinds.Kind.{Kind}
+use Rattle.mortgage.specs.declared.kinds.Kind.TheVariants as kind_is
+use Rattle.mortgage.specs.Kinds.{Way, level, interest_only, balloon, way_of, course_of}
+use Rattle.mortgage.specs.inner.Laying.{LaysOn, LaysOf}
 use Rattle.mortgage.specs.Rates.{in_force}
 use Rattle.mortgage.specs.Payment.{monthly_rate}
 use Rattle.mortgage.specs.RowRule.{interest_of}
@@ -30,12 +34,11 @@ module _ (way : Way) (steady : (l : Loan) → in_force way l ≡ l) where
   steady_rows k l = stretch_rows way l k (λ i h b. steady (after way i l)) ∙ ap (rows_on (course way l) k) (steady l)
 
   -- rows laid on its course are the kind's
-  pub steady_laid : (c : Course) (k : ℕ) (l l' : Loan) (room room' : List Float) → c ≡ course way l → l' ≡ after_on c k l → room' ≡ laid width k (rows_on c k l) room
-      → (l' ≡ after way k l) × (room' ≡ laid width k (rows way k l) room)
-  steady_laid c k l l' room room' ec el er = (
-    el ∙ ap (λ (d : Course). after_on d k l) ec ∙ sym (steady_after k l),
-    er ∙ ap (λ (d : Course). laid width k (rows_on d k l) room) ec ∙ ap (λ (laying : List Float). laid width k laying room) (sym (steady_rows k l)),
-  )
+  pub steady_laid : (c : Course) {k : ℕ} {l l' : Loan} {room room' : List Float} → c ≡ course way l → LaysOn c k l room l' room' → LaysOf way k l room l' room'
+  steady_laid c {k} {l} {l'} {room} {room'} ec on = record {
+    state = on.state ∙ ap (λ (d : Course). after_on d k l) ec ∙ sym (steady_after k l);
+    stand = on.stand ∙ ap (λ (d : Course). laid width k (rows_on d k l) room) ec ∙ ap (λ (laying : List Float). laid width k laying room) (sym (steady_rows k l));
+  }
 
 -- ---- which kinds
 pub level_steady : (l : Loan) → in_force level l ≡ l
@@ -49,6 +52,13 @@ interest_only_steady months l = refl
 pub balloon_steady : (month : ℕ) (l : Loan) → in_force (balloon month) l ≡ l
 unfolding in_force
 balloon_steady month l = refl
+
+-- every kind but the adjustable one
+pub others_steady : (kind : Kind) (index : List Float) → ((a : Adjustment) → kind ≡ kind_is.Adjustable a → ⊥) → (l : Loan) → in_force (way_of kind index) l ≡ l
+others_steady kind_is.Level index h l = level_steady l
+others_steady (kind_is.InterestOnly months) index h l = interest_only_steady months l
+others_steady (kind_is.Balloon month) index h l = balloon_steady month l
+others_steady (kind_is.Adjustable a) index h l = absurd (h a refl)
 
 -- ---- the level kind
 pub level_after : (k : ℕ) (l : Loan) → after level k l ≡ after_on (course_of level l.term) k l

@@ -10,7 +10,7 @@ use Rattle.mortgage.specs.declared.Loan.{Loan}
 use Rattle.mortgage.specs.declared.rows.Month.{Month}
 use Rattle.std.specs.declared.option.Option.{Option}
 use Rattle.std.specs.declared.option.Option.TheVariants.{None, Some}
-use Rattle.mortgage.specs.Rows.{NextRow, finished, next, next_outcome}
+use Rattle.mortgage.specs.Rows.{next, next_outcome}
 use Rattle.mortgage.proofs.payment.monthly_rate.Kinds as monthly_rate_kinds
 use Rattle.mortgage.proofs.payment.monthly_rate.Reads as monthly_rate
 use Rattle.mortgage.proofs.payment.monthly_payment.Kinds as monthly_payment_kinds
@@ -56,7 +56,6 @@ use Rattle.mortgage.proofs.years.look_up_kind_year.Reads as look_up_kind_year
 use Rattle.std.specs.declared.result.Result.TheVariants.{Ok, Err}
 use Rattle.std.specs.declared.result.Result.{Result}
 use Rattle.refusals.specs.declared.Refusal.{Refusal}
-use Rattle.refusals.specs.Answers.{outcome}
 
 same_month : (m n : Month) → next m.row m.next ≡ next n.row n.next → m ≡ n
 same_month m n e =

@@ -1,5 +1,5 @@
 -- How tight the promises of totals, savings and break-even are: whatever a function is given, any two results that its contract allows are equal. Assumes nothing.
-use mathlib.Core.Path.{◌≡◌, sym, ap, ◌∙◌}
+use mathlib.Core.Path.{sym, ◌∙◌}
 use Rattle.numbers.proofs.Determined.{Determined}
 use Rattle.refusals.proofs.OneToOne.{one_to_one}
 use Rattle.mortgage.proofs.totals.total_interest.Kinds as total_interest_kinds
@@ -12,10 +12,6 @@ use Rattle.mortgage.proofs.savings.prepayment_savings.Kinds as prepayment_saving
 use Rattle.mortgage.proofs.savings.prepayment_savings.Reads as prepayment_savings
 use Rattle.mortgage.proofs.breakeven.refinance_breakeven.Kinds as refinance_breakeven_kinds
 use Rattle.mortgage.proofs.breakeven.refinance_breakeven.Reads as refinance_breakeven
-use Rattle.std.specs.declared.result.Result.TheVariants.{Ok, Err}
-use Rattle.std.specs.declared.result.Result.{Result}
-use Rattle.refusals.specs.declared.Refusal.{Refusal}
-use Rattle.refusals.specs.Answers.{outcome}
 
 pub total_interest_determined : Determined 0 total_interest_kinds.ps total_interest_kinds.r total_interest.Post
 total_interest_determined κs a x y e e' p q = one_to_one x y (p ∙ sym q)

@@ -2,7 +2,7 @@
 -- places behind the lines stay, and a year that the rows end within has fewer months. Assumes nothing.
 use mathlib.Core.Path.{◌≡◌, refl, sym, ap, ◌∙◌}
 use mathlib.Core.Logic.{◌⊎◌, inl, inr}
-use mathlib.Core.Bool.{Bool, true, false}
+use mathlib.Core.Bool.{Bool, true, false, cond}
 use mathlib.Core.List.{List}
 use Prim.Native.Nat.{ℕ, ◌+◌, ◌-◌, ◌*◌, ◌%◌, ◌<◌, ◌≤◌}
 use native.Mathlib.Omega.{arith}
@@ -20,7 +20,7 @@ use Rattle.mortgage.specs.Years.{started_years, months_in, year_width, line_behi
 use Rattle.mortgage.specs.YearDraws.{fewer_than_started, drawn_with_years, filled_with_years, years_after, years_by, summed}
 use Rattle.mortgage.proofs.RowLaws.{in_force_done, done_after}
 use Rattle.mortgage.proofs.YearLaws.{length_entered, places_before_stay, places_behind_stay}
-use Rattle.mortgage.proofs.YearCases.{years_bad_term, years_too_few, as_drawn}
+use Rattle.mortgage.proofs.YearCases.{drawn_in_order}
 
 -- ---- the months of a year among the first n
 pub whole_years : (n year : ℕ) → 0 < year → year < started_years n → months_in year n ≡ 12
@@ -39,15 +39,12 @@ module _ (way : Way) where
   module _ (l : Loan) (room years : List Float) where
     -- ---- a draw that is accepted is the plain draw
     pub as_the_plain_draw : (d : Portion) → drawn_with_years way l room years ≡ accepted d → drawn way l room ≡ accepted d
-    as_the_plain_draw d e = go (bad_term l.term) refl (fewer_than_started l (length years)) refl
+    as_the_plain_draw d e = go (bad_term l.term) (fewer_than_started l (length years)) (sym (drawn_in_order way l room years) ∙ e)
       where
-        never : (k p : ℕ) → refused k p ≡ drawn_with_years way l room years → drawn way l room ≡ accepted d
-        never k p r = let both : ◌≡◌ {A = Outcome Portion} (refused k p) (accepted d) = r ∙ e in let z : ◌≡◌ {A = ℕ} 0 1 = cc in absurd (omega arith)
-
-        go : (bad : Bool) → bad_term l.term ≡ bad → (few : Bool) → fewer_than_started l (length years) ≡ few → drawn way l room ≡ accepted d
-        go true t few f = never 2 0 (years_bad_term way l room years t)
-        go false t true f = never 3 0 (years_too_few way l room years t f)
-        go false t false f = as_drawn way l room years t f ∙ e
+        go : (bad few : Bool) → cond bad (refused 2 0) (cond few (refused 3 0) (drawn way l room)) ≡ accepted d → drawn way l room ≡ accepted d
+        go true few r = cc
+        go false true r = cc
+        go false false r = r
 
     -- and leaves the room that the plain draw leaves
     pub as_the_plain_room : (d : Portion) → drawn_with_years way l room years ≡ accepted d → filled_with_years way l room years ≡ filled way l room
@@ -56,7 +53,7 @@ module _ (way : Way) where
 
     -- with lines enough there is no difference at all
     pub as_the_plain_answer : bad_term l.term ≡ false → fewer_than_started l (length years) ≡ false → drawn_with_years way l room years ≡ drawn way l room
-    as_the_plain_answer t f = sym (as_drawn way l room years t f)
+    as_the_plain_answer t f = drawn_in_order way l room years ∙ rw (t, f)
 
     -- ---- a refusal leaves the room and the lines
     pub refused_leaves_all : (k p : ℕ) → drawn_with_years way l room years ≡ refused k p → (filled_with_years way l room years ≡ room) × (summed way l room years ≡ years)

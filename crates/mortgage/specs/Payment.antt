@@ -4,7 +4,7 @@ use Rattle.std.specs.Float.{binary64}
 use Rattle.std.specs.Float.Ieee.{add, sub, mul, div, eq, of_int}
 use Rattle.numbers.specs.Literals.{one, twelve}
 use Rattle.elementary.specs.WholePower.{whole_power}
-use Rattle.refusals.specs.Outcome.{Outcome, refused, accepted, judged}
+use Rattle.refusals.specs.Outcome.{Outcome, judged}
 use Rattle.records.specs.declared.Terms.{Terms}
 use Rattle.mortgage.specs.declared.Loan.{Loan}
 use Rattle.mortgage.specs.Terms.{terms_lines}

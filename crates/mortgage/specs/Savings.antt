@@ -4,7 +4,7 @@ use Rattle.std.specs.Float.{binary64}
 use Rattle.std.specs.Float.Ieee.{add, sub, mul, lt, le}
 use Rattle.numbers.specs.Literals.{millionth}
 use Rattle.numbers.specs.Clamps.{plus_zero, raised, lowered}
-use Rattle.refusals.specs.Outcome.{Outcome, refused, accepted, judged}
+use Rattle.refusals.specs.Outcome.{Outcome, judged}
 use Rattle.records.specs.declared.Terms.{Terms}
 use Rattle.mortgage.specs.declared.savings.Paydown.{Paydown}
 use Rattle.mortgage.specs.declared.savings.Savings.{Savings}

@@ -1,15 +1,16 @@
 // Draws: the rows of a loan in hand of any kind, as many as are due and the lent room holds.
-ghost use Rattle.std.specs.Prelude.{◌≡◌, ◌+◌, ◌*◌, ◌<◌, ◌≤◌, min, length};
+ghost use Rattle.std.specs.Prelude.{◌≡◌, ◌+◌, ◌*◌, ◌<◌, ◌≤◌, length};
 ghost use Rattle.std.proofs.lemmas.List.Edits.{sets};
 ghost use Rattle.mortgage.specs.Row.{width, places};
 ghost use Rattle.mortgage.specs.Kinds.{way_of, adjustable, later_years};
 ghost use Rattle.mortgage.specs.Month.{end_month};
-ghost use Rattle.steps.specs.Steps.{laid};
-ghost use Rattle.mortgage.specs.Rows.{after_on, rows_on, after, rows};
+ghost use Rattle.steps.specs.Steps.{fitting, laid};
+ghost use Rattle.mortgage.specs.Rows.{rows};
 ghost use Rattle.refusals.specs.Answers.{outcome};
 ghost use Rattle.mortgage.specs.Draws.{draw_lines, portion, drawn, filled};
 ghost use Rattle.mortgage.specs.Level.{drawn as level_drawn, filled as level_filled};
 ghost use Rattle.mortgage.specs.inner.Coming.{Listed};
+ghost use Rattle.mortgage.specs.inner.Laying.{MayDraw, Layable, LaysOn, LaysOf};
 ghost use Rattle.refusals.specs.Outcome.{judged};
 
 use crate::Loan;
@@ -35,15 +36,11 @@ struct Run {
     loan: Loan,
 }
 
-// The smaller of the rows due and the rows that the room holds.
-pub(crate) fn fewer(due: u32, room: usize) -> u32
-    ensures { result ≡ min due room }
+// Of the rows due, those that so many places hold.
+pub(crate) fn rows_within(due: u32, places: usize) -> u32
+    ensures { result ≡ fitting due places width }
 {
-    if room < due as usize {
-        room as u32
-    } else {
-        due
-    }
+    (due as usize).min(places / WIDTH) as u32
 }
 
 // The numbers of a row, from a place of the room.
@@ -51,125 +48,117 @@ pub(crate) fn put_row(room: &mut [f64], at: usize, row: Row)
     requires { at + width ≤ length room.old }
     ensures { room.new ≡ sets room.old at (places row) }
 {
-    room[at] = row.month as f64;
-    room[at + 1] = row.payment;
-    room[at + 2] = row.principal;
-    room[at + 3] = row.interest;
-    room[at + 4] = row.balance;
+    room[at..at + WIDTH].copy_from_slice(&[
+        row.month as f64,
+        row.payment,
+        row.principal,
+        row.interest,
+        row.balance,
+    ]);
 }
 
 // Rows of ordinary months, at most so many: it stops before a month whose principal a bound changes.
 // The bounds are ways out of the loop, so that each row waits only for a product and two differences.
+#[tactic(auto, unfolding(steps::specs::Steps::stepped, steps::specs::Steps::pieces))]
 fn ordinary_rows(loan: Loan, course: Course, room: &mut [f64], most: u32) -> Run
     requires { (most * width ≤ length room.old) × (course.only ≤ loan.done) × (loan.done + most < course.end) }
-    ensures count_le_most { (result.count ≤ most) × (result.loan ≡ after_on course result.count loan) }
-    ensures room_after { room.new ≡ laid width result.count (rows_on course result.count loan) room.old }
+    ensures laid { LaysOn course result.count loan room.old result.loan room.new }
+    ensures at_most { result.count ≤ most }
 {
     let rate = crate::payment::monthly_rate(loan.rate);
     let mut l = loan;
-    let mut at: usize = 0;
-    let mut k: u32 = 0;
-    while k < most {
-        let interest = l.balance * rate;
-        let principal = l.payment - interest;
-        if principal > 0.0 {} else {
-            break;
-        }
-        if principal < l.balance {} else {
-            break;
-        }
-        let month = crate::rows::ordinary_month(l, course, interest, principal);
-        let row = month.row;
-        let next = month.next;
-        put_row(room, at, row);
-        l = next;
-        at += WIDTH;
-        k += 1;
+    for k in 0..most {
+        let Some(month) = crate::rows::ordinary_month(l, course, l.balance * rate) else {
+            return Run { count: k, loan: l };
+        };
+        put_row(room, k as usize * WIDTH, month.row);
+        l = month.next;
     }
-    Run { count: k, loan: l }
+    Run {
+        count: most,
+        loan: l,
+    }
 }
 
 // The next rows on a course, whatever months they are of.
+#[tactic(auto, unfolding(steps::specs::Steps::stepped, steps::specs::Steps::pieces))]
 fn any_rows(loan: Loan, course: Course, room: &mut [f64], count: u32) -> Loan
-    requires { (count * width ≤ length room.old) × (loan.done + count ≤ course.end) }
-    ensures value { result ≡ after_on course count loan }
-    ensures room_after { room.new ≡ laid width count (rows_on course count loan) room.old }
+    requires { Layable course.end loan count room.old }
+    ensures { LaysOn course count loan room.old result room.new }
 {
     let mut l = loan;
-    let mut at: usize = 0;
-    let mut k: u32 = 0;
-    while k < count {
+    for k in 0..count {
         let month = crate::rows::any_month(l, course);
-        let row = month.row;
-        let next = month.next;
-        put_row(room, at, row);
-        l = next;
-        at += WIDTH;
-        k += 1;
+        put_row(room, k as usize * WIDTH, month.row);
+        l = month.next;
     }
     l
 }
 
 // The next rows behind the months of interest alone: ordinary months in a loop of their own, then what is left. The last month of a loan is no ordinary one.
 pub(crate) fn lay_rows(loan: Loan, course: Course, room: &mut [f64], count: u32, most: u32) -> Loan
-    requires width_in_bounds { (count * width ≤ length room.old) × (course.only ≤ loan.done) × (loan.done + count ≤ course.end) }
-    requires most_le_count { (most ≤ count) × (loan.done + most < course.end) }
-    ensures value { result ≡ after_on course count loan }
-    ensures room_after { room.new ≡ laid width count (rows_on course count loan) room.old }
+    requires layable { Layable course.end loan count room.old }
+    requires ordinary { (most ≤ count) × (course.only ≤ loan.done) × (loan.done + most < course.end) }
+    ensures { LaysOn course count loan room.old result room.new }
 {
     let run = ordinary_rows(loan, course, room, most);
-    let k = run.count;
-    let next = run.loan;
-    let at = k as usize * WIDTH;
-    any_rows(next, course, &mut room[at..], count - k)
+    any_rows(
+        run.loan,
+        course,
+        &mut room[run.count as usize * WIDTH..],
+        count - run.count,
+    )
 }
 
 // The same, with as many ordinary months as there may be.
+#[tactic(auto, unfolding(steps::specs::Steps::stepped, steps::specs::Steps::pieces))]
 fn lay_stretch(loan: Loan, course: Course, room: &mut [f64], count: u32) -> Loan
-    requires { (count * width ≤ length room.old) × (course.only ≤ loan.done) × (loan.done + count ≤ course.end) }
-    ensures value { result ≡ after_on course count loan }
-    ensures room_after { room.new ≡ laid width count (rows_on course count loan) room.old }
+    requires layable { Layable course.end loan count room.old }
+    requires only_behind { course.only ≤ loan.done }
+    ensures { LaysOn course count loan room.old result room.new }
 {
     if count == 0 {
         return loan;
     }
-    let most = fewer(course.end - loan.done - 1, count as usize);
+    let most = count.min(course.end - loan.done - 1);
     lay_rows(loan, course, room, count, most)
 }
 
 // The next rows on a course: those of interest alone, then the others.
 fn lay_course(loan: Loan, course: Course, room: &mut [f64], count: u32) -> Loan
-    requires { (count * width ≤ length room.old) × (loan.done + count ≤ course.end) }
-    ensures value { result ≡ after_on course count loan }
-    ensures room_after { room.new ≡ laid width count (rows_on course count loan) room.old }
+    requires { Layable course.end loan count room.old }
+    ensures { LaysOn course count loan room.old result room.new }
 {
     if course.only <= loan.done {
         return lay_stretch(loan, course, room, count);
     }
-    let k = fewer(course.only - loan.done, count as usize);
-    let next = any_rows(loan, course, room, k);
-    let at = k as usize * WIDTH;
-    let rest = count - k;
-    if rest == 0 {
+    let alone = count.min(course.only - loan.done);
+    let next = any_rows(loan, course, room, alone);
+    if alone == count {
         return next;
     }
-    lay_stretch(next, course, &mut room[at..], rest)
+    lay_stretch(
+        next,
+        course,
+        &mut room[alone as usize * WIDTH..],
+        count - alone,
+    )
 }
 
 // The next rows of one year: ordinary months first, here, where the loan goes through no memory from one year to the next, then what is left.
 fn lay_year(loan: Loan, course: Course, room: &mut [f64], count: u32) -> Loan
-    requires width_in_bounds { (count * width ≤ length room.old) × (course.only ≤ loan.done) × (loan.done + count ≤ course.end) }
-    requires count_nonzero { 0 < count }
-    ensures value { result ≡ after_on course count loan }
-    ensures room_after { room.new ≡ laid width count (rows_on course count loan) room.old }
+    requires layable { Layable course.end loan count room.old }
+    requires only_behind { (course.only ≤ loan.done) × (0 < count) }
+    ensures { LaysOn course count loan room.old result room.new }
 {
-    let due = course.end - loan.done;
-    let most = fewer(due - 1, count as usize);
+    let most = count.min(course.end - loan.done - 1);
     let run = ordinary_rows(loan, course, room, most);
-    let k = run.count;
-    let next = run.loan;
-    let at = k as usize * WIDTH;
-    lay_stretch(next, course, &mut room[at..], count - k)
+    lay_stretch(
+        run.loan,
+        course,
+        &mut room[run.count as usize * WIDTH..],
+        count - run.count,
+    )
 }
 
 // The next rows of an adjustable loan, year by year: what the next year begins with is worked out before this year's rows, which it does not wait for.
@@ -180,10 +169,9 @@ fn lay_years(
     room: &mut [f64],
     count: u32,
 ) -> Loan
-    requires width_in_bounds { (count * width ≤ length room.old) × (loan.done + count ≤ loan.term) × (later_years loan.term ≤ length index.now) }
-    requires term_bound { loan.term ≤ 1200 }
-    ensures value { result ≡ after (adjustable adjustment index.now) count loan }
-    ensures room_after { room.new ≡ laid width count (rows (adjustable adjustment index.now) count loan) room.old }
+    requires layable { Layable loan.term loan count room.old }
+    requires listed { (loan.term ≤ 1200) × (later_years loan.term ≤ length index.now) }
+    ensures { LaysOf (adjustable adjustment index.now) count loan room.old result room.new }
 {
     let course = Course {
         only: 0,
@@ -192,14 +180,14 @@ fn lay_years(
     let mut l = loan;
     let mut coming = crate::rates::coming_behind(adjustment, l.rate, l.done, l.term, index);
     let mut k: u32 = 0;
+    // A turn goes on to the year's end, or to the last row that is asked for: no range has such steps.
     while k < count {
         let begun = crate::rates::with_coming(l, coming);
-        let months = 12 - begun.done % 12;
-        let n = fewer(count - k, months as usize);
+        let n = (12 - begun.done % 12).min(count - k);
         coming = crate::rates::coming_behind(
             adjustment,
             begun.rate,
-            begun.done + months,
+            begun.done + n,
             begun.term,
             index,
         );
@@ -210,11 +198,11 @@ fn lay_years(
 }
 
 // The next rows of a loan of any kind.
+#[tactic(auto, unfolding(crate::specs::Month::end_month))]
 fn lay_kind(kind: Kind, loan: Loan, index: &[f64], room: &mut [f64], count: u32) -> Loan
-    requires width_in_bounds { (count * width ≤ length room.old) × (loan.done + count ≤ end_month (way_of kind index.now) loan) × Listed (way_of kind index.now) loan.term }
-    requires term_bound { loan.term ≤ 1200 }
-    ensures value { result ≡ after (way_of kind index.now) count loan }
-    ensures room_after { room.new ≡ laid width count (rows (way_of kind index.now) count loan) room.old }
+    requires layable { Layable (end_month (way_of kind index.now) loan) loan count room.old }
+    requires listed { (loan.term ≤ 1200) × Listed (way_of kind index.now) loan.term }
+    ensures { LaysOf (way_of kind index.now) count loan room.old result room.new }
 {
     match kind {
         Kind::Adjustable(adjustment) => lay_years(adjustment, loan, index, room, count),
@@ -226,6 +214,7 @@ fn lay_kind(kind: Kind, loan: Loan, index: &[f64], room: &mut [f64], count: u32)
 }
 
 // The lines of the table that a draw meets: past the end no row is due, so that 3 and 10 are never both there.
+#[tactic(auto, unfolding(refusals::specs::Outcome::judged, refusals::specs::Outcome::first_or, refusals::specs::Table::past_end, refusals::specs::Table::no_room, crate::specs::Month::due, crate::specs::Month::end_month))]
 fn judge_draw(kind: Kind, loan: Loan, index: &[f64], places: usize) -> Result<(), Refusal>
     ensures { outcome result ≡ judged (draw_lines (way_of kind index.now) loan places) tt }
 {
@@ -236,32 +225,33 @@ fn judge_draw(kind: Kind, loan: Loan, index: &[f64], places: usize) -> Result<()
     if end < loan.done {
         return Err(refusals::refuse(Cause::PastEnd));
     }
-    if end > loan.done {
-        if places < WIDTH {
-            return Err(refusals::refuse(Cause::Room));
-        }
+    if end > loan.done && places < WIDTH {
+        return Err(refusals::refuse(Cause::Room));
     }
     crate::kinds::judge_kind(kind, loan.term, index)
 }
 
 // The rows that are due and that the room holds, once no line has a cause.
+#[tactic(auto, unfolding(crate::specs::Draws::portion, crate::specs::Month::due, crate::specs::Month::end_month))]
 fn lay_due(kind: Kind, loan: Loan, index: &[f64], room: &mut [f64]) -> Portion
-    requires done_bound { (loan.done ≤ end_month (way_of kind index.now) loan) × Listed (way_of kind index.now) loan.term }
-    requires term_bound { loan.term ≤ 1200 }
+    requires { MayDraw (way_of kind index.now) loan (length room.old) }
     ensures value { result ≡ portion (way_of kind index.now) loan (length room.old) }
     ensures room_after { room.new ≡ laid width result.written (rows (way_of kind index.now) result.written loan) room.old }
 {
     let due = crate::rows::kind_rows_due(kind, loan);
-    let count = fewer(due, room.len() / WIDTH);
-    let next = lay_kind(kind, loan, index, room, count);
+    let written = rows_within(due, room.len());
     Portion {
-        written: count,
-        owed: due - count,
-        loan: next,
+        written,
+        owed: due - written,
+        loan: lay_kind(kind, loan, index, room, written),
     }
 }
 
 // Writes as many rows as the room holds and the loan still owes, and hands the loan back; the list is read by an adjustable loan alone.
+<<<<<<< HEAD
+=======
+#[tactic(auto, using(refusals::proofs::Verdicts::judged_carried), unfolding(crate::specs::Draws::drawn, crate::specs::Draws::filled))]
+>>>>>>> 5f235c2c3d746ce8f74b47d826f2b71b473357b8
 pub fn draw_kind(
     kind: Kind,
     loan: Loan,
@@ -271,10 +261,8 @@ pub fn draw_kind(
     ensures result_value { outcome result ≡ drawn (way_of kind index.now) loan room.old }
     ensures room_after { room.new ≡ filled (way_of kind index.now) loan room.old }
 {
-    match judge_draw(kind, loan, index, room.len()) {
-        Err(refusal) => Err(refusal),
-        Ok(()) => Ok(lay_due(kind, loan, index, room)),
-    }
+    judge_draw(kind, loan, index, room.len())?;
+    Ok(lay_due(kind, loan, index, room))
 }
 
 // The same of a level loan.

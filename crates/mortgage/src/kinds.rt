@@ -1,9 +1,9 @@
 // The kinds of a loan: what each needs, which months it has, and line 16 of the table.
-ghost use Rattle.std.specs.Prelude.{◌≡◌, ◌||◌, List, [], ◌∷◌, map, ◌≤◌, length, take, Float};
+ghost use Rattle.std.specs.Prelude.{◌≡◌, ◌||◌, List, [], ◌∷◌, Float, position};
 ghost use Rattle.refusals.specs.Outcome.{judged};
 ghost use Rattle.refusals.specs.Table.{bad_period, bad_balloon, bad_initial, bad_cap, too_few_entries, bad_entry};
 ghost use Rattle.refusals.specs.Answers.{outcome};
-ghost use Rattle.mortgage.specs.Kinds.{way_of, course_of, later_years, bad_adjustment, bad_end, kind_lines};
+ghost use Rattle.mortgage.specs.Kinds.{way_of, level, course_of, later_years, bad_adjustment, bad_end, kind_lines};
 
 use refusals::{Cause, Refusal};
 
@@ -36,7 +36,7 @@ pub(crate) fn course_of(kind: Kind, term: u32) -> Course
     ensures { (index : List Float) → result ≡ course_of (way_of kind index) term }
 {
     match kind {
-        Kind::Level => Course { only: 0, end: term },
+        Kind::Level | Kind::Adjustable(_) => Course { only: 0, end: term },
         Kind::InterestOnly(months) => Course {
             only: months,
             end: term,
@@ -45,106 +45,84 @@ pub(crate) fn course_of(kind: Kind, term: u32) -> Course
             only: 0,
             end: month,
         },
-        Kind::Adjustable(adjustment) => Course { only: 0, end: term },
     }
+}
+
+// The course of a level loan.
+pub(crate) fn level_course(term: u32) -> Course
+    ensures { result ≡ course_of level term }
+{
+    course_of(Kind::Level, term)
 }
 
 // How many entries of the index list a term reads: one for each started year after the first.
 pub(crate) fn later_years(term: u32) -> u32
     ensures { result ≡ later_years term }
 {
-    if term == 0 {
-        return 0;
-    }
-    (term - 1) / 12
+    term.saturating_sub(1) / 12
 }
 
 // So many months of interest alone, in a term.
+#[tactic(auto, unfolding(refusals::specs::Table::bad_period))]
 fn bad_period(months: u32, term: u32) -> bool
     ensures { result ≡ bad_period months term }
 {
-    if months == 0 {
-        return true;
-    }
-    months >= term
+    months == 0 || months >= term
 }
 
 // The month of a balloon, in a term.
+#[tactic(auto, unfolding(refusals::specs::Table::bad_balloon))]
 fn bad_balloon(month: u32, term: u32) -> bool
     ensures { result ≡ bad_balloon month term }
 {
-    if month == 0 {
-        return true;
-    }
-    month > term
+    month == 0 || month > term
 }
 
 // What an adjustable loan names alone.
+#[tactic(auto, unfolding(refusals::specs::Table::bad_amount, refusals::specs::Table::bad_number, refusals::specs::Table::bad_initial, refusals::specs::Table::bad_cap))]
 fn bad_adjustment(adjustment: Adjustment) -> bool
     ensures { result ≡ (bad_initial adjustment.initial || bad_cap adjustment.cap || bad_cap adjustment.lifetime) }
 {
-    if refusals::bad_number(adjustment.initial) {
-        return true;
-    }
-    if refusals::bad_amount(adjustment.cap) {
-        return true;
-    }
-    refusals::bad_amount(adjustment.lifetime)
+    refusals::bad_number(adjustment.initial)
+        || refusals::bad_amount(adjustment.cap)
+        || refusals::bad_amount(adjustment.lifetime)
 }
 
-// The first so many entries of the index list: the first that is not finite is refused at its index.
-fn judge_entries(index: &[f64], read: u32) -> Result<(), Refusal>
-    requires { read ≤ length index.now }
-    ensures { outcome result ≡ judged ((record { number = 16; causes = map bad_entry (take read index.now) }) ∷ []) tt }
+// The first entry that is not finite.
+#[tactic(auto, unfolding(refusals::specs::Table::bad_number, refusals::specs::Table::bad_entry))]
+fn first_bad(entries: &[f64]) -> Option<usize>
+    ensures { result ≡ position bad_entry entries.now }
 {
-    let mut k: u32 = 0;
-    while k < read {
-        if refusals::bad_number(index[k as usize]) {
-            return Err(refusals::Refusal {
-                cause: Cause::Kind,
-                place: k,
-            });
-        }
-        k += 1;
-    }
-    Ok(())
+    entries.iter().position(|rate| refusals::bad_number(*rate))
 }
 
-// Line 16, as an adjustable loan meets it.
+// Line 16, as an adjustable loan meets it: what it names alone and a list too short are refused at 0, and else the first entry read that is not finite at its index.
+#[tactic(auto, using(crate::proofs::KindLaws::adjustment_judged), unfolding(refusals::specs::Table::too_few_entries))]
 fn judge_adjustment(adjustment: Adjustment, term: u32, index: &[f64]) -> Result<(), Refusal>
     ensures { outcome result ≡ judged (bad_adjustment adjustment index.now term ∷ []) tt }
 {
-    if bad_adjustment(adjustment) {
+    let read = later_years(term) as usize;
+    if bad_adjustment(adjustment) || index.len() < read {
         return Err(refusals::refuse(Cause::Kind));
     }
-    let read = later_years(term);
-    if index.len() < read as usize {
-        return Err(refusals::refuse(Cause::Kind));
+    match first_bad(&index[..read]) {
+        Some(i) => Err(refusals::refuse_at(Cause::Kind, i)),
+        None => Ok(()),
     }
-    judge_entries(index, read)
 }
 
 // Line 16, as any kind meets it.
+#[tactic(auto, unfolding(refusals::specs::Outcome::judged, refusals::specs::Outcome::first_or))]
 pub fn judge_kind(kind: Kind, term: u32, index: &[f64]) -> Result<(), Refusal>
     ensures { outcome result ≡ judged (kind_lines (way_of kind index.now) term) tt }
 {
     match kind {
-        Kind::Level => Ok(()),
-        Kind::InterestOnly(months) => {
-            if bad_period(months, term) {
-                Err(refusals::refuse(Cause::Kind))
-            } else {
-                Ok(())
-            }
-        }
-        Kind::Balloon(month) => {
-            if bad_balloon(month, term) {
-                Err(refusals::refuse(Cause::Kind))
-            } else {
-                Ok(())
-            }
-        }
+        Kind::InterestOnly(months) if bad_period(months, term) => Err(refusals::refuse(
+            Cause::Kind,
+        )),
+        Kind::Balloon(month) if bad_balloon(month, term) => Err(refusals::refuse(Cause::Kind)),
         Kind::Adjustable(adjustment) => judge_adjustment(adjustment, term, index),
+        _ => Ok(()),
     }
 }
 

@@ -4,6 +4,7 @@
 pub mod breakeven;
 pub mod draws;
 pub mod kinds;
+mod months;
 pub mod opening;
 pub mod pairs;
 pub mod payment;

@@ -11,6 +11,7 @@ use records::Terms;
 use refusals::Refusal;
 
 // The loan in hand before its first month.
+#[tactic(auto, unfolding(crate::specs::Payment::loan_of))]
 pub(crate) fn loan_of(terms: Terms, payment: f64) -> Loan
     ensures { result ≡ loan_of terms payment }
 {
@@ -23,15 +24,15 @@ pub(crate) fn loan_of(terms: Terms, payment: f64) -> Loan
     }
 }
 
+#[tactic(auto, using(refusals::proofs::Verdicts::judged_carried), unfolding(crate::specs::Payment::opened_with))]
 pub fn open_with_payment(terms: Terms, payment: f64) -> Result<Loan, Refusal>
     ensures { outcome result ≡ opened_with terms payment }
 {
-    match crate::terms::judge_terms(terms) {
-        Err(refusal) => Err(refusal),
-        Ok(()) => Ok(loan_of(terms, payment)),
-    }
+    crate::terms::judge_terms(terms)?;
+    Ok(loan_of(terms, payment))
 }
 
+#[tactic(auto, unfolding(crate::specs::Payment::opened))]
 pub fn open(terms: Terms) -> Result<Loan, Refusal>
     ensures { outcome result ≡ opened terms }
 {
@@ -44,9 +45,8 @@ fn starting_terms(kind: Kind, terms: Terms) -> Terms
 {
     match kind {
         Kind::Adjustable(adjustment) => Terms {
-            principal: terms.principal,
             rate: adjustment.initial,
-            term: terms.term,
+            ..terms
         },
         _ => terms,
     }
@@ -59,9 +59,8 @@ fn kind_worked_out(kind: Kind, terms: Terms) -> f64
     match kind {
         Kind::InterestOnly(months) => {
             let level = Terms {
-                principal: terms.principal,
-                rate: terms.rate,
-                term: months_behind(terms.term, months),
+                term: terms.term.saturating_sub(months),
+                ..terms
             };
             crate::payment::worked_out(level)
         }
@@ -69,14 +68,11 @@ fn kind_worked_out(kind: Kind, terms: Terms) -> f64
     }
 }
 
-// The months of a term behind its first so many.
-fn months_behind(term: u32, months: u32) -> u32
-    ensures { result ≡ term - months }
-{
-    if term < months { 0 } else { term - months }
-}
-
 // Opens a loan of any kind with a payment.
+<<<<<<< HEAD
+=======
+#[tactic(auto, using(refusals::proofs::Verdicts::judged_carried, crate::proofs::TermsLaws::terms_first), unfolding(crate::specs::Openings::kind_opened_with))]
+>>>>>>> 5f235c2c3d746ce8f74b47d826f2b71b473357b8
 fn open_kind_with_payment(
     kind: Kind,
     terms: Terms,
@@ -85,16 +81,13 @@ fn open_kind_with_payment(
 ) -> Result<Loan, Refusal>
     ensures { outcome result ≡ kind_opened_with (way_of kind index.now) terms payment }
 {
-    match crate::terms::judge_terms(terms) {
-        Err(refusal) => Err(refusal),
-        Ok(()) => match crate::kinds::judge_kind(kind, terms.term, index) {
-            Err(refusal) => Err(refusal),
-            Ok(()) => Ok(loan_of(starting_terms(kind, terms), payment)),
-        },
-    }
+    crate::terms::judge_terms(terms)?;
+    crate::kinds::judge_kind(kind, terms.term, index)?;
+    Ok(loan_of(starting_terms(kind, terms), payment))
 }
 
 // Opens a loan of any kind with the worked-out payment; the list is read by an adjustable loan alone.
+#[tactic(auto, unfolding(crate::specs::Openings::kind_opened))]
 pub fn open_kind(kind: Kind, terms: Terms, index: &[f64]) -> Result<Loan, Refusal>
     ensures { outcome result ≡ kind_opened (way_of kind index.now) terms }
 {

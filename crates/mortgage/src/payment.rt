@@ -7,12 +7,14 @@ use records::Terms;
 use refusals::Refusal;
 
 // A twelfth of the annual rate.
+#[tactic(auto, unfolding(crate::specs::Payment::monthly_rate))]
 pub fn monthly_rate(rate: f64) -> f64
     ensures { result ≡ monthly_rate rate }
 {
     rate / 12.0
 }
 
+#[tactic(auto, unfolding(crate::specs::Payment::level_payment))]
 fn level_payment(principal: f64, r: f64, factor: f64) -> f64
     ensures { result ≡ level_payment principal r factor }
 {
@@ -20,6 +22,7 @@ fn level_payment(principal: f64, r: f64, factor: f64) -> f64
 }
 
 // The growth of 1 over so many months.
+#[tactic(auto, unfolding(crate::specs::Payment::growth))]
 pub(crate) fn growth(r: f64, months: u32) -> f64
     ensures { result ≡ growth r months }
 {
@@ -38,6 +41,7 @@ pub(crate) fn payment_by(principal: f64, r: f64, months: u32, factor: f64) -> f6
 }
 
 // The payment that the terms work out to, whatever they are.
+#[tactic(auto, unfolding(crate::specs::Payment::payment))]
 pub(crate) fn worked_out(terms: Terms) -> f64
     ensures { result ≡ payment terms }
 {
@@ -45,11 +49,10 @@ pub(crate) fn worked_out(terms: Terms) -> f64
     payment_by(terms.principal, r, terms.term, growth(r, terms.term))
 }
 
+#[tactic(auto, using(refusals::proofs::Verdicts::judged_carried), unfolding(crate::specs::Payment::monthly_payment))]
 pub fn monthly_payment(terms: Terms) -> Result<f64, Refusal>
     ensures { outcome result ≡ monthly_payment terms }
 {
-    match crate::terms::judge_terms(terms) {
-        Err(refusal) => Err(refusal),
-        Ok(()) => Ok(worked_out(terms)),
-    }
+    crate::terms::judge_terms(terms)?;
+    Ok(worked_out(terms))
 }

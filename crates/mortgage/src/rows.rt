@@ -1,8 +1,8 @@
 // One row of a loan in hand, by document 01's row rule, on a course of months and of any kind.
-ghost use Rattle.std.specs.Prelude.{◌≡◌, ◌+◌, ◌<◌, ◌≤◌, true, List, Float};
+ghost use Rattle.std.specs.Prelude.{◌≡◌, ◌+◌, ◌<◌, ◌≤◌, List, Float, IfSome};
 ghost use Rattle.std.specs.Float.{binary64};
-ghost use Rattle.std.specs.Float.Ieee.{sub, lt};
-ghost use Rattle.numbers.specs.Clamps.{plus_zero, raised, lowered};
+ghost use Rattle.std.specs.Float.Ieee.{sub};
+ghost use Rattle.numbers.specs.Clamps.{raised, lowered};
 ghost use Rattle.mortgage.specs.Payment.{monthly_rate};
 ghost use Rattle.mortgage.specs.RowRule.{interest_of};
 ghost use Rattle.mortgage.specs.Kinds.{way_of, kind_lines};
@@ -26,11 +26,13 @@ pub struct Month {
 }
 
 // The rows that are still due: none where more months are done than the loan has.
+#[tactic(auto, unfolding(crate::specs::Month::due, crate::specs::Month::end_month))]
 pub fn kind_rows_due(kind: Kind, loan: Loan) -> u32
     ensures { (index : List Float) → result ≡ due (way_of kind index) loan }
 {
-    let end = crate::kinds::course_of(kind, loan.term).end;
-    if end < loan.done { 0 } else { end - loan.done }
+    crate::kinds::course_of(kind, loan.term)
+        .end
+        .saturating_sub(loan.done)
 }
 
 pub fn rows_due(loan: Loan) -> u32
@@ -54,11 +56,9 @@ fn month_of(loan: Loan, payment: f64, principal: f64, interest: f64, left: f64, 
         balance: shown,
     };
     let next = Loan {
-        term: loan.term,
-        rate: loan.rate,
-        payment: loan.payment,
         done: month,
         balance: left,
+        ..loan
     };
     Month { row, next }
 }
@@ -89,6 +89,7 @@ fn paying(loan: Loan, payment: f64, principal: f64, interest: f64) -> Month
 }
 
 // Any month that is due on a course: one of interest alone, the last, or any other.
+#[tactic(auto, unfolding(crate::specs::Month::row_on, crate::specs::Month::next_on, crate::specs::Month::interest_alone, crate::specs::Month::last, crate::specs::Month::principal, crate::specs::Month::paid, crate::specs::Month::remaining, crate::specs::RowRule::interest_of, crate::specs::RowRule::principal_of, crate::specs::RowRule::payment_of))]
 pub(crate) fn any_month(loan: Loan, course: Course) -> Month
     requires { loan.done < course.end }
     ensures { (result.row ≡ row_on course loan) × (result.next ≡ next_on course loan) }
@@ -104,18 +105,23 @@ pub(crate) fn any_month(loan: Loan, course: Course) -> Month
     paying(loan, loan.payment, principal, interest)
 }
 
-// A month before the last that pays not interest alone, and whose principal neither bound changes: its new balance is above 0, so the column needs no raising.
-pub(crate) fn ordinary_month(loan: Loan, course: Course, interest: f64, principal: f64) -> Month
+// A month before the last that pays not interest alone, where neither bound changes its principal, and else none: its new balance is above 0, so the column needs no raising.
+pub(crate) fn ordinary_month(loan: Loan, course: Course, interest: f64) -> Option<Month>
     requires only_le_done { (course.only ≤ loan.done) × (loan.done + 1 < course.end) }
-    requires interest_value { (interest ≡ interest_of (monthly_rate loan.rate) loan.balance) × (principal ≡ sub binary64 loan.payment interest) }
-    requires principal_value { (lt plus_zero principal ≡ true) × (lt principal loan.balance ≡ true) }
-    ensures { (result.row ≡ row_on course loan) × (result.next ≡ next_on course loan) }
+    requires interest_value { interest ≡ interest_of (monthly_rate loan.rate) loan.balance }
+    ensures { IfSome result (λ month. (month.row ≡ row_on course loan) × (month.next ≡ next_on course loan)) }
 {
-    let left = loan.balance - principal;
-    month_of(loan, loan.payment, principal, interest, left, left)
+    let principal = loan.payment - interest;
+    if principal > 0.0 && principal < loan.balance {
+        let left = loan.balance - principal;
+        Some(month_of(loan, loan.payment, principal, interest, left, left))
+    } else {
+        None
+    }
 }
 
 // Lines 2, 10 and 16, asked of a state that may be made up.
+#[tactic(auto, unfolding(refusals::specs::Outcome::judged, refusals::specs::Outcome::first_or, refusals::specs::Table::past_end, crate::specs::Month::end_month))]
 fn judge_state(kind: Kind, loan: Loan, index: &[f64]) -> Result<(), Refusal>
     ensures { outcome result ≡ judged (state_lines (way_of kind index.now) loan) tt }
 {
@@ -129,6 +135,7 @@ fn judge_state(kind: Kind, loan: Loan, index: &[f64]) -> Result<(), Refusal>
 }
 
 // The next month of a loan of any kind, once it is due.
+#[tactic(auto, using(crate::proofs::RowLaws::in_force_done), unfolding(crate::specs::Month::row_of, crate::specs::Month::next_of, crate::specs::Month::end_month))]
 fn month_due(kind: Kind, loan: Loan, index: &[f64]) -> Month
     requires done_bound { (loan.done < end_month (way_of kind index.now) loan) × (end_month (way_of kind index.now) loan ≤ loan.term) }
     requires listed { Listed (way_of kind index.now) loan.term }
@@ -139,6 +146,7 @@ fn month_due(kind: Kind, loan: Loan, index: &[f64]) -> Month
 }
 
 // The next row alone of a loan of any kind, from a state that may be made up, or none of a finished loan; the list is read by an adjustable loan alone.
+#[tactic(auto, using(refusals::proofs::Verdicts::judged_carried), unfolding(crate::specs::Rows::next_row, crate::specs::Month::due))]
 pub fn next_kind_row(kind: Kind, loan: Loan, index: &[f64]) -> Result<Option<Month>, Refusal>
     ensures { next_outcome result ≡ next_row (way_of kind index.now) loan }
 {

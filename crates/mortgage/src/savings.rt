@@ -22,6 +22,7 @@ pub struct Savings {
 }
 
 // One month of paying down: lowered to the balance first and raised to 0 after.
+#[tactic(auto, unfolding(crate::specs::Savings::paid_down))]
 fn month_down(payment: f64, r: f64, state: Paydown) -> Paydown
     requires { state.months < 4294967295 }
     ensures { result ≡ paid_down payment r state }
@@ -37,6 +38,7 @@ fn month_down(payment: f64, r: f64, state: Paydown) -> Paydown
 }
 
 // Paying down: while the balance is above 0, at most so many months, stopping once it is at or below 1e-6.
+#[tactic(auto, unfolding(crate::specs::Savings::paid_down_for, crate::specs::Savings::paid_down))]
 fn pay_down(payment: f64, r: f64, principal: f64, most: u32) -> Paydown
     ensures { result ≡ paid_down_for payment r most (record { balance = principal; months = 0; interest = plus_zero }) }
 {
@@ -45,22 +47,20 @@ fn pay_down(payment: f64, r: f64, principal: f64, most: u32) -> Paydown
         months: 0,
         interest: 0.0,
     };
-    let mut k: u32 = 0;
-    while k < most {
-        if state.balance > 0.0 {} else {
+    for _ in 0..most {
+        if !(state.balance > 0.0) {
             break;
         }
-        let next = month_down(payment, r, state);
-        state = next;
+        state = month_down(payment, r, state);
         if state.balance <= 1e-6 {
             break;
         }
-        k += 1;
     }
     state
 }
 
 // The months and the interest saved, whatever the terms are, for a term of at most 1,200.
+#[tactic(auto, unfolding(crate::specs::Savings::saved, crate::specs::Savings::paid_off))]
 fn saved_by(terms: Terms, extra: f64) -> Savings
     requires { terms.term ≤ 1200 }
     ensures { result ≡ saved terms extra }
@@ -70,24 +70,16 @@ fn saved_by(terms: Terms, extra: f64) -> Savings
     let end = pay_down(payment, r, terms.principal, 2 * terms.term);
     let base = crate::totals::interest_sum(terms);
     Savings {
-        months: months_less(terms.term, end.months),
+        months: terms.term.saturating_sub(end.months),
         interest: numbers::clamps::raise_to_zero(base - end.interest),
     }
 }
 
-// a less b, and 0 where b is more.
-fn months_less(a: u32, b: u32) -> u32
-    ensures { result ≡ a - b }
-{
-    if a < b { 0 } else { a - b }
-}
-
 // Months and interest saved by paying so much more each month.
+#[tactic(auto, using(refusals::proofs::Verdicts::judged_carried, crate::proofs::PayingDown::accepted_term), unfolding(crate::specs::Savings::prepayment_savings))]
 pub fn prepayment_savings(terms: Terms, extra: f64) -> Result<Savings, Refusal>
     ensures { outcome result ≡ prepayment_savings terms extra }
 {
-    match crate::terms::judge_terms(terms) {
-        Err(refusal) => Err(refusal),
-        Ok(()) => Ok(saved_by(terms, extra)),
-    }
+    crate::terms::judge_terms(terms)?;
+    Ok(saved_by(terms, extra))
 }

@@ -7,6 +7,7 @@ ghost use Rattle.mortgage.specs.Terms.{terms_lines};
 use records::Terms;
 use refusals::{Cause, Refusal};
 
+#[tactic(auto, unfolding(refusals::specs::Outcome::judged, refusals::specs::Outcome::first_or))]
 pub fn judge_terms(terms: Terms) -> Result<(), Refusal>
     ensures { outcome result ≡ judged (terms_lines terms) tt }
 {

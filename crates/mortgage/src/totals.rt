@@ -6,7 +6,7 @@ ghost use Rattle.mortgage.specs.Level.{end_month};
 ghost use Rattle.mortgage.specs.Totals.{interest_at, interest_sum, total_interest, balance_after, remaining_balance, loan_to_value};
 
 use crate::Loan;
-use crate::kinds::Kind;
+use crate::months::rows_of;
 use records::Terms;
 use refusals::Refusal;
 
@@ -15,22 +15,11 @@ fn interest_over(loan: Loan, count: u32) -> f64
     requires { loan.done + count ≤ end_month loan }
     ensures { result ≡ added_up (interest_at loan) count }
 {
-    let course = crate::kinds::course_of(Kind::Level, loan.term);
-    let mut l = loan;
-    let mut total = 0.0;
-    let mut k: u32 = 0;
-    while k < count {
-        let month = crate::rows::any_month(l, course);
-        let row = month.row;
-        let next = month.next;
-        total = total + row.interest;
-        l = next;
-        k += 1;
-    }
-    total
+    rows_of(loan, count).fold(0.0, |total, row| total + row.interest)
 }
 
 // The interest of the whole term at the worked-out payment, whatever the terms are.
+#[tactic(auto, unfolding(crate::specs::Totals::interest_sum, crate::specs::Payment::loan_of, crate::specs::Month::end_month))]
 pub(crate) fn interest_sum(terms: Terms) -> f64
     ensures { result ≡ interest_sum terms }
 {
@@ -38,13 +27,12 @@ pub(crate) fn interest_sum(terms: Terms) -> f64
     interest_over(crate::opening::loan_of(terms, payment), terms.term)
 }
 
+#[tactic(auto, using(refusals::proofs::Verdicts::judged_carried), unfolding(crate::specs::Totals::total_interest))]
 pub fn total_interest(terms: Terms) -> Result<f64, Refusal>
     ensures { outcome result ≡ total_interest terms }
 {
-    match crate::terms::judge_terms(terms) {
-        Err(refusal) => Err(refusal),
-        Ok(()) => Ok(interest_sum(terms)),
-    }
+    crate::terms::judge_terms(terms)?;
+    Ok(interest_sum(terms))
 }
 
 // The balance column after the next rows; after none, the balance in hand.
@@ -52,52 +40,27 @@ fn balance_after(loan: Loan, count: u32) -> f64
     requires { loan.done + count ≤ end_month loan }
     ensures { result ≡ balance_after loan count }
 {
-    let course = crate::kinds::course_of(Kind::Level, loan.term);
-    let mut l = loan;
-    let mut balance = loan.balance;
-    let mut k: u32 = 0;
-    while k < count {
-        let month = crate::rows::any_month(l, course);
-        let row = month.row;
-        let next = month.next;
-        balance = row.balance;
-        l = next;
-        k += 1;
-    }
-    balance
-}
-
-fn smaller(a: u32, b: u32) -> u32
-    ensures { result ≡ min a b }
-{
-    if a < b { a } else { b }
+    rows_of(loan, count).fold(loan.balance, |_, row| row.balance)
 }
 
 // The balance after so many months; past the term it is what the last row leaves.
+#[tactic(auto, using(refusals::proofs::Verdicts::judged_carried), unfolding(crate::specs::Totals::remaining_balance, crate::specs::Payment::loan_of, crate::specs::Month::end_month))]
 pub fn remaining_balance(terms: Terms, months: u32) -> Result<f64, Refusal>
     ensures { outcome result ≡ remaining_balance terms months }
 {
-    match crate::terms::judge_terms(terms) {
-        Err(refusal) => Err(refusal),
-        Ok(()) => {
-            let payment = crate::payment::worked_out(terms);
-            let loan = crate::opening::loan_of(terms, payment);
-            Ok(balance_after(loan, smaller(months, terms.term)))
-        }
-    }
+    crate::terms::judge_terms(terms)?;
+    let loan = crate::opening::loan_of(terms, crate::payment::worked_out(terms));
+    Ok(balance_after(loan, months.min(terms.term)))
 }
 
 // Loan to value; a value of zero gives +infinity.
+#[tactic(auto, using(refusals::proofs::Verdicts::judged_carried), unfolding(crate::specs::Totals::loan_to_value))]
 pub fn ltv(terms: Terms, value: f64) -> Result<f64, Refusal>
     ensures { outcome result ≡ loan_to_value terms value }
 {
-    match crate::terms::judge_terms(terms) {
-        Err(refusal) => Err(refusal),
-        Ok(()) => {
-            if value == 0.0 {
-                return Ok(numbers::sizes::infinity());
-            }
-            Ok(terms.principal / value)
-        }
+    crate::terms::judge_terms(terms)?;
+    if value == 0.0 {
+        return Ok(numbers::sizes::infinity());
     }
+    Ok(terms.principal / value)
 }

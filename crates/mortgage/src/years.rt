@@ -11,7 +11,7 @@ ghost use Rattle.mortgage.specs.Level.{drawn_with_years as level_drawn_with_year
 ghost use Rattle.mortgage.specs.inner.RoomRows.{rows_from, with_rows};
 
 use crate::Loan;
-use crate::draws::{Portion, WIDTH, fewer};
+use crate::draws::{Portion, WIDTH};
 use crate::kinds::Kind;
 use refusals::{Cause, Refusal};
 
@@ -38,13 +38,11 @@ pub struct Year {
 fn started_years(months: u32) -> u32
     ensures { result ≡ started_years months }
 {
-    if months == 0 {
-        return 0;
-    }
-    (months - 1) / 12 + 1
+    months.div_ceil(12)
 }
 
 // Whether the lent lines are fewer than the term's started years.
+#[tactic(auto, unfolding(refusals::specs::Table::too_few_lines))]
 fn too_few(term: u32, places: usize) -> bool
     ensures { result ≡ too_few_lines (started_years term) (places / year_width) }
 {
@@ -81,13 +79,16 @@ fn put_line(years: &mut [f64], place: usize, year: Year)
     requires { place + year_width ≤ length years.old }
     ensures { years.new ≡ sets years.old place (year_places year) }
 {
-    years[place] = year.months;
-    years[place + 1] = year.interest;
-    years[place + 2] = year.principal;
-    years[place + 3] = year.balance;
+    years[place..place + YEAR_WIDTH].copy_from_slice(&[
+        year.months,
+        year.interest,
+        year.principal,
+        year.balance,
+    ]);
 }
 
 // The line that the row behind so many months is added to, which stands at that place: one that begins a year starts at 0.
+#[tactic(auto, unfolding(crate::specs::Years::goes_on_from))]
 fn line_to_go_on_from(years: &[f64], place: usize, done: u32) -> Year
     requires { (place ≡ done / 12 * year_width) × (place + year_width ≤ length years.now) }
     ensures { result ≡ goes_on_from done years.now }
@@ -100,22 +101,20 @@ fn line_to_go_on_from(years: &[f64], place: usize, done: u32) -> Year
 }
 
 // A line with so many rows added to it, which stand in the room from a place on.
+#[tactic(auto, unfolding(crate::specs::inner::RoomRows::with_rows, crate::specs::Years::with_row))]
 fn with_rows(year: Year, room: &[f64], at: usize, count: u32) -> Year
     requires { at + count * width ≤ length room.now }
     ensures { result ≡ with_rows (rows_from room.now at 0) count year }
 {
     let mut line = year;
-    let mut place = at;
-    let mut k: u32 = 0;
-    while k < count {
+    for k in 0..count as usize {
+        let place = at + k * WIDTH;
         line = Year {
             months: line.months + 1.0,
             interest: line.interest + room[place + INTEREST],
             principal: line.principal + room[place + PRINCIPAL],
             balance: room[place + BALANCE],
         };
-        place += WIDTH;
-        k += 1;
     }
     line
 }
@@ -128,31 +127,32 @@ fn enter_year(room: &[f64], at: usize, count: u32, done: u32, years: &mut [f64])
     ensures { years.new ≡ entered_up_to (rows_from room.now at done) count years.old }
 {
     let place = (done / 12) as usize * YEAR_WIDTH;
-    if count == 12 {
-        let year = with_rows(line_unbegun(), room, at, 12);
-        put_line(years, place, year);
+    let year = if count == 12 {
+        with_rows(line_unbegun(), room, at, 12)
     } else {
-        let line = line_to_go_on_from(years, place, done);
-        let year = with_rows(line, room, at, count);
-        put_line(years, place, year);
-    }
+        with_rows(line_to_go_on_from(years, place, done), room, at, count)
+    };
+    put_line(years, place, year);
 }
 
 // Enters the rows that stand at the start of the room, the first of them behind so many months, year by year.
+#[tactic(auto, unfolding(crate::specs::Years::entered_up_to))]
 fn enter_rows(room: &[f64], count: u32, done: u32, years: &mut [f64])
     requires { (count * width ≤ length room.now) × (done + count ≤ 1200) × (started_years (done + count) * year_width ≤ length years.old) }
     ensures { years.new ≡ entered_up_to (rows_from room.now 0 done) count years.old }
 {
     let mut k: u32 = 0;
+    // A turn goes on to the year's end, or to the last row: no range has such steps.
     while k < count {
         let months = done + k;
-        let rows = fewer(count - k, (12 - months % 12) as usize);
+        let rows = (12 - months % 12).min(count - k);
         enter_year(room, k as usize * WIDTH, rows, months, years);
         k += rows;
     }
 }
 
 // The draw of a loan of any kind, with the rows that it wrote entered into their years' lines. It hands the loan back as the draw does.
+#[tactic(auto, using(crate::proofs::YearCases::drawn_in_order), unfolding(crate::specs::YearDraws::filled_with_years, crate::specs::YearDraws::summed, crate::specs::Draws::filled))]
 pub fn draw_kind_with_years(
     kind: Kind,
     loan: Loan,
@@ -170,13 +170,9 @@ pub fn draw_kind_with_years(
     if too_few(loan.term, years.len()) {
         return Err(refusals::refuse(Cause::Room));
     }
-    match crate::draws::draw_kind(kind, loan, index, room) {
-        Err(refusal) => Err(refusal),
-        Ok(portion) => {
-            enter_rows(room, portion.written, loan.done, years);
-            Ok(portion)
-        }
-    }
+    let portion = crate::draws::draw_kind(kind, loan, index, room)?;
+    enter_rows(room, portion.written, loan.done, years);
+    Ok(portion)
 }
 
 // The same of a level loan.
@@ -189,6 +185,7 @@ pub fn draw_with_years(loan: Loan, room: &mut [f64], years: &mut [f64]) -> Resul
 }
 
 // The line of a year, counted from 1, once a row of that year is drawn; of a kind the month that ends the loan is read alone.
+#[tactic(auto, unfolding(crate::specs::YearDraws::looked_up, refusals::specs::Outcome::judged, refusals::specs::Outcome::first_or, refusals::specs::Table::past_end, refusals::specs::Table::no_row_drawn, crate::specs::Month::end_month))]
 pub fn look_up_kind_year(kind: Kind, loan: Loan, years: &[f64], year: u32) -> Result<Year, Refusal>
     ensures { (index : List Float) → outcome result ≡ looked_up (way_of kind index) loan years.now year }
 {
@@ -201,10 +198,7 @@ pub fn look_up_kind_year(kind: Kind, loan: Loan, years: &[f64], year: u32) -> Re
     if crate::kinds::course_of(kind, loan.term).end < loan.done {
         return Err(refusals::refuse(Cause::PastEnd));
     }
-    if year == 0 {
-        return Err(refusals::refuse(Cause::Year));
-    }
-    if started_years(loan.done) < year {
+    if year == 0 || started_years(loan.done) < year {
         return Err(refusals::refuse(Cause::Year));
     }
     if crate::kinds::bad_end(kind, loan.term) {

@@ -26,7 +26,7 @@ carried_first v k p [] rest = refl
 carried_first v k p (true ∷ bs) rest = refl
 carried_first v k p (false ∷ bs) rest = carried_first v k (suc p) bs rest
 
-judged_carried : {Value : Type 0} (ls : List Line) (v : Value) → judged ls v ≡ carried v (verdict ls)
+pub judged_carried : {Value : Type 0} (ls : List Line) (v : Value) → judged ls v ≡ carried v (verdict ls)
 unfolding judged
 judged_carried [] v = refl
 judged_carried (l ∷ ls) v =

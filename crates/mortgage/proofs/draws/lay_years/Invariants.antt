@@ -4,7 +4,7 @@ use Rattle.mortgage.proofs.YearByYear.{Underway}
 use Rattle.mortgage.proofs.draws.lay_years.Given as goal
 
 abbrev pub invariant-loop-k : goal.invariant-loop-k
-invariant-loop-k l = Underway l.adjustment l.index l.initial.l l.initial.room l.count l.room l.l l.coming l.k
+invariant-loop-k l = Underway l.adjustment l.index l.count l.initial.l l.initial.room l.k l.l l.room l.coming
 
 abbrev pub decreases-loop-k : goal.decreases-loop-k
 decreases-loop-k l = l.count - l.k

@@ -14,15 +14,13 @@ use Rattle.mortgage.proofs.pairs.lay_from.Goals as goal
 
 pub lay_rows-requires : goal.lay_rows-requires
 lay_rows-requires c =
-    let o = c.level_course-course in
-    let e = end_is level c.args.loan o.result o.ensures in
-    let z = ap (λ (d : Course). d.only) o.ensures in
-    record { width_in_bounds = (simp (length-take, length-drop) (omega arith), omega (arith, z), omega (arith, e, c.requires.2)); most_le_count = (omega arith, omega (arith, e, c.requires.0, c.requires.2)) }
+    let course = c.level_course-course in
+    let ends = end_is level c.args.loan course.result course.ensures in
+    let alone = ap (λ (d : Course). d.only) course.ensures in
+    record { layable = record { held = simp (length-take, length-drop) (omega arith); due = omega (arith, ends) }; ordinary = (omega arith, omega (arith, alone), omega (arith, ends)) }
 
 pub returns : goal.returns
 returns c =
-    let y = c.lay_rows in
-    let o = c.level_course-course in
     let a = c.args in
-    let r = steady_laid level level_steady o.result a.count a.loan y.result _ _ o.ensures y.ensures.value y.ensures.room_after in
-    record { value = r.0; room_after = written_at (next_of level) (row_places level) width (wide level) a.room.now a.at a.count a.loan _ c.requires.1 r.1 }
+    let whole = steady_laid level level_steady _ c.level_course-course.ensures c.lay_rows.ensures in
+    record { value = whole.state; room_after = written_at (next_of level) (row_places level) width (wide level) a.room.now a.at a.count a.loan _ c.requires.1 whole.stand }

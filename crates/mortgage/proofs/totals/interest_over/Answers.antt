@@ -1,29 +1,14 @@
--- `mortgage::totals::interest_over` meets its contract: after k rows the total is the interest of k rows. Assumes nothing.
-use mathlib.Core.Path.{◌≡◌, refl, ◌∙◌, ap}
-use mathlib.Core.List.{[]}
-use native.Mathlib.Omega.{arith}
-use Rattle.numbers.specs.Sums.{added_up}
-use Rattle.steps.specs.Steps.{stepped}
-use Rattle.mortgage.proofs.RowColumns.{column_goes_on, reaches, interest_added}
+-- `mortgage::totals::interest_over` meets its contract: the rows' interest, folded, is added up. Assumes nothing.
+use mathlib.Core.Path.{◌∙◌}
+use Rattle.std.proofs.Common.{rules}
+use Rattle.std.proofs.lemmas.Iterator.Consumers.{YieldsList-from_first, fold_from_yields_List}
+use Rattle.mortgage.specs.declared.months.NextRows.{NextRows}
+use Rattle.mortgage.specs.inner.RowsToCome.{rows_to_come}
+use Rattle.mortgage.proofs.RowColumns.{interest_more, interest_folded}
 use Rattle.mortgage.proofs.totals.interest_over.Goals as goal
-
-pub loop-k-init : goal.loop-k-init
-unfolding stepped added_up
-loop-k-init c = (refl, refl, omega arith)
-
-pub any_month-month-requires : goal.any_month-month-requires
-any_month-month-requires c = column_goes_on _ _ _ c.loop-k.invariant.0 _ (c.course_of-course.ensures []) _ c.loop-k-test.true c.requires
-
-pub loop-k-preserved : goal.loop-k-preserved
-loop-k-preserved c =
-    let on = c.course_of-course.ensures [] in (
-      reaches _ _ _ c.loop-k.invariant.0 _ on _ _ c.any_month-month.ensures,
-      interest_added _ _ _ c.loop-k.invariant.0 _ on _ _ c.any_month-month.ensures _ c.loop-k.invariant.1,
-      omega arith,
-    )
 
 pub returns : goal.returns
 returns c =
-    let head = c.loop-k in
-    let e : head.k ≡ c.args.count = omega arith in
-    head.invariant.1 ∙ ap (added_up _) e
+    let a = c.args in
+    fold_from_yields_List _ (interest_more a.loan) _ _ c.fold.ensures.ran (YieldsList-from_first (λ x. x) (λ (s : NextRows). rows_to_come s.course s.left s.loan) _ c.rows_of.ensures) (λ t x u q k. search rules)
+    ∙ interest_folded a.loan a.count

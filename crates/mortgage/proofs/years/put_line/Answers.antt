@@ -1,17 +1,11 @@
--- `mortgage::years::put_line` meets its contract: stores at the places of a line, one after the other, are the stores of the list. Assumes nothing.
+-- `mortgage::years::put_line` meets its contract: a part written over is so many stores, one after the other. Assumes nothing.
 use native.Mathlib.Omega.{arith}
-use native.Mathlib.Numerals.{unary_clauses}
-use lib.ListN.{length-set}
+use Rattle.std.proofs.lemmas.Grind.{common_steps}
+use Rattle.std.proofs.lemmas.List.Edits.{sets-eq}
+use Rattle.mortgage.specs.Years.{year_places}
 use Rattle.mortgage.proofs.years.put_line.Goals as goal
 
-pub bounds-years-place-2 : goal.bounds-years-place-2
-bounds-years-place-2 c = simp length-set (omega arith)
-
-pub bounds-years-place-3 : goal.bounds-years-place-3
-bounds-years-place-3 c = simp length-set (omega arith)
-
-pub bounds-years-place-4 : goal.bounds-years-place-4
-bounds-years-place-4 c = simp length-set (omega arith)
-
 pub returns : goal.returns
-returns c = simp unary_clauses
+returns c =
+    let a = c.args in
+    grind (arith, common_steps, sets-eq (year_places a.year) a.years.now a.place c.requires)
