@@ -248,10 +248,7 @@ fn lay_due(kind: Kind, loan: Loan, index: &[f64], room: &mut [f64]) -> Portion
 }
 
 // Writes as many rows as the room holds and the loan still owes, and hands the loan back; the list is read by an adjustable loan alone.
-<<<<<<< HEAD
-=======
 #[tactic(auto, using(refusals::proofs::Verdicts::judged_carried), unfolding(crate::specs::Draws::drawn, crate::specs::Draws::filled))]
->>>>>>> 5f235c2c3d746ce8f74b47d826f2b71b473357b8
 pub fn draw_kind(
     kind: Kind,
     loan: Loan,

@@ -69,10 +69,7 @@ fn kind_worked_out(kind: Kind, terms: Terms) -> f64
 }
 
 // Opens a loan of any kind with a payment.
-<<<<<<< HEAD
-=======
 #[tactic(auto, using(refusals::proofs::Verdicts::judged_carried, crate::proofs::TermsLaws::terms_first), unfolding(crate::specs::Openings::kind_opened_with))]
->>>>>>> 5f235c2c3d746ce8f74b47d826f2b71b473357b8
 fn open_kind_with_payment(
     kind: Kind,
     terms: Terms,
