@@ -69,6 +69,7 @@ impl Periods {
 }
 
 // The day number of a date from 1900 on, by its rank.
+#[tactic(auto, using(crate::proofs::YearDays::at_most_366, crate::proofs::MonthDays::at_most_372), unfolding(crate::specs::DayNumbers::day_number, crate::specs::inner::Ranks::date_of))]
 fn number_at(rank: u32) -> u32
     requires { (22800 ≤ rank / 32) × (rank / 32 ≤ 26399) }
     ensures { result ≡ day_number (date_of rank) }
