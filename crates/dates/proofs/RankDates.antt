@@ -1,4 +1,4 @@
--- Dates by their ranks: the date of a rank, its day number; and the ranks of a span's bounds, as the code works them out. Assumes nothing.
+-- Dates by their ranks: the date of a rank; and the ranks of a span's bounds, as the code works them out. Assumes nothing.
 use mathlib.Core.Path.{◌≡◌, ap, ◌∙◌}
 use mathlib.Core.Logic.{⊎_elim}
 use mathlib.Core.Bool.{true}
@@ -9,7 +9,6 @@ use borrow.Author.Tests.{leb-true, leb-false}
 use Rattle.dates.specs.declared.Date.{Date}
 use Rattle.dates.specs.declared.periods.Span.{Span}
 use Rattle.dates.specs.Calendar.{days_in, is_date}
-use Rattle.dates.specs.DayNumbers.{days_before_year, days_before_month, day_number}
 use Rattle.dates.specs.Months.{month_index}
 use Rattle.dates.specs.Periods.{is_span, uncut, bound, period_count}
 use Rattle.dates.specs.inner.Ranks.{rank, date_of}
@@ -45,16 +44,6 @@ rank_in_years d e =
     let b = index_bounds d e in
     let k = (shaped d e).day_high in
     (omega arith, omega arith)
-
--- ---- its day number
-pub number_is : (r p q : ℕ) → p ≡ days_before_year (r / 32 / 12) → q ≡ days_before_month (r / 32 / 12) (r / 32 % 12 + 1) → 1 + p + q + r % 32 ≡ day_number (date_of r)
-unfolding day_number date_of
-number_is r p q e f =
-    let g : days_before_month (r / 32 / 12) (r / 32 % 12 + 1) ≡ days_before_month (r / 32 / 12) (suc (r / 32 % 12)) = ap (days_before_month (r / 32 / 12)) (next (r / 32 % 12)) in
-    omega arith
-  where
-    next : (n : ℕ) → n + 1 ≡ suc n
-    next n = omega arith
 
 -- ---- the bounds of a span
 module _ (s : Span) (e : is_span s ≡ true) where

@@ -39,6 +39,7 @@ pub fn is_date(date: Date) -> bool
 }
 
 // Line 15 of one date.
+#[tactic(auto, unfolding(refusals::specs::Outcome::judged, refusals::specs::Outcome::first_or, refusals::specs::Table::no_such_date))]
 pub(crate) fn judge_date(date: Date) -> Result<(), Refusal>
     ensures { outcome result ≡ judged (date_lines date) tt }
 {

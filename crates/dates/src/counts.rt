@@ -20,6 +20,7 @@ pub fn bad_dates(first: Date, second: Date) -> bool
     !is_date(first) || !is_date(second) || !is_after(first, second)
 }
 
+#[tactic(auto, unfolding(refusals::specs::Outcome::judged, refusals::specs::Outcome::first_or))]
 fn judge_dates(first: Date, second: Date) -> Result<(), Refusal>
     ensures { outcome result ≡ judged (dates_line first second ∷ []) tt }
 {
@@ -48,6 +49,7 @@ pub(crate) fn second_day(first: u32, second: u32) -> u32
 }
 
 // The actual days of two dates, 0 where the second is not later.
+#[tactic(auto, unfolding(crate::specs::Calendar::is_date, crate::specs::Counts::actual_days))]
 pub fn actual_days(first: Date, second: Date) -> u32
     ensures { is_date first ≡ true → is_date second ≡ true → result ≡ actual_days first second }
 {
@@ -66,6 +68,7 @@ pub fn thirty_days(first: Date, second: Date) -> u32
 }
 
 // Actual days between two dates.
+#[tactic(auto, using(crate::proofs::Following::three_good), unfolding(crate::specs::Answers::actual_days_of, refusals::specs::Outcome::judged, refusals::specs::Outcome::first_or))]
 pub fn actual_days_between(first: Date, second: Date) -> Result<u32, Refusal>
     ensures { outcome result ≡ actual_days_of first second }
 {
@@ -74,6 +77,7 @@ pub fn actual_days_between(first: Date, second: Date) -> Result<u32, Refusal>
 }
 
 // The 30/360 count between two dates.
+#[tactic(auto, unfolding(crate::specs::Answers::thirty_days_of, refusals::specs::Outcome::judged, refusals::specs::Outcome::first_or))]
 pub fn thirty_days_between(first: Date, second: Date) -> Result<u32, Refusal>
     ensures { outcome result ≡ thirty_days_of first second }
 {

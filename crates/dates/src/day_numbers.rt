@@ -16,6 +16,7 @@ const FIRST: u32 = 2;
 const LAST: u32 = 109574;
 
 // The days of the years from 1900 before a year: 365 each, and one more for each fourth year that is no century, and for each fourth century.
+#[tactic(auto, using(crate::proofs::YearDays::by_rule))]
 pub(crate) fn days_before_year(year: u32) -> u32
     requires { (1900 ≤ year) × (year < 65536) }
     ensures { result ≡ days_before_year year }
@@ -52,6 +53,7 @@ pub(crate) fn number_of(date: Date) -> u32
     1 + days_before_year(year) + days_before_month(year, month) + u32::from(date.day)
 }
 
+#[tactic(auto, unfolding(crate::specs::Answers::day_number_of, crate::specs::Calendar::is_date, refusals::specs::Outcome::judged, refusals::specs::Outcome::first_or, refusals::specs::Table::no_such_date))]
 pub fn day_number(date: Date) -> Result<u32, Refusal>
     ensures { outcome result ≡ day_number_of date }
 {
@@ -86,6 +88,7 @@ fn month_at(year: u32, days: u32) -> u32
 }
 
 // The date so many days after 1 January 1900.
+#[tactic(auto, using(crate::proofs::Parts::days_in_bounds, crate::proofs::MonthDays::next_month, crate::proofs::Asked::rest_of_year), unfolding(crate::specs::Calendar::is_date, crate::specs::DayNumbers::day_number))]
 fn date_at(days: u32) -> Date
     requires { days < 109573 }
     ensures { (is_date result ≡ true) × (day_number result ≡ 2 + days) }
@@ -110,6 +113,7 @@ fn has_date(number: u32) -> bool
 }
 
 // The date of a day number.
+#[tactic(auto, using(crate::proofs::InOrder::has_bounds, crate::proofs::InOrder::none_numbered, crate::proofs::Asked::its_date))]
 pub fn date_of(number: u32) -> Result<Date, Refusal>
     ensures { outcome result ≡ date_numbered number }
 {

@@ -31,6 +31,7 @@ pub(crate) fn day_in_month(index: u32, day: u8) -> Date
     }
 }
 
+#[tactic(auto, using(crate::proofs::LaterMonths::index_bounds, crate::proofs::Asked::too_late), unfolding(crate::specs::Answers::months_later_of, crate::specs::Months::months_later, refusals::specs::Outcome::judged, refusals::specs::Outcome::first_or, refusals::specs::Table::no_such_date))]
 pub fn months_later(date: Date, months: u32) -> Result<Date, Refusal>
     ensures { outcome result ≡ months_later_of date months }
 {

@@ -35,6 +35,7 @@ fn months_between(first: Date, second: Date) -> u32
 }
 
 // How many periods: as many as are over before the second date, and the one that ends there.
+#[tactic(auto, using(crate::proofs::Bounds::is_whole, crate::proofs::Bounds::one_more, crate::proofs::Bounds::no_more, crate::proofs::Bounds::whole_within))]
 pub fn period_count(span: Span) -> u32
     ensures { is_span span ≡ true → result ≡ period_count span }
 {

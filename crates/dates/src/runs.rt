@@ -12,20 +12,64 @@ use crate::day_numbers::{days_before_month, days_before_year};
 use crate::months::month_index;
 use crate::periods::{Span, is_span, period_count};
 
-// The rank of the date where period i of so many ends, counted from 1: the last ends at the second date.
-fn rank_at(span: Span, count: u32, i: u32) -> u32
-    requires { (is_span span ≡ true) × (count ≡ period_count span) }
-    ensures { result ≡ rank (bound span i) }
-{
-    if i >= count {
-        return 32 * month_index(span.second) + u32::from(span.second.day);
+// Two dates in order, and how many periods there are between them.
+#[derive(Clone, Copy)]
+struct Periods {
+    span: Span,
+    count: u32,
+    ghost in_order: { is_span span ≡ true },
+    ghost counted: { count ≡ period_count span },
+}
+
+impl Periods {
+    // The rank of the date where period i ends, counted from 1: the last ends at the second date.
+    #[tactic(auto, using(crate::proofs::RankDates::second_index, crate::proofs::RankDates::index_within))]
+    fn rank_at(self, i: u32) -> u32
+        ensures { result ≡ rank (bound self.span i) }
+    {
+        let span = self.span;
+        if i >= self.count {
+            return 32 * month_index(span.second) + u32::from(span.second.day);
+        }
+        let index = month_index(span.first) + i * span.step;
+        let last = days_in(index / 12, index % 12 + 1);
+        32 * index + u32::from(span.first.day).min(last)
     }
-    let index = month_index(span.first) + i * span.step;
-    let last = days_in(index / 12, index % 12 + 1);
-    32 * index + u32::from(span.first.day).min(last)
+
+    // The ranks of the bounds after the first ones, as many as the list has places.
+    fn put_ranks(self, first: u32, ranks: &mut [u32])
+        requires { first + length ranks.old ≤ self.count + 1 }
+        ensures { Follows (λ j. rank (bound self.span (first + j))) (length ranks.new) ranks.new }
+    {
+        put_each(ranks, |j| self.rank_at(first + j as u32));
+    }
+
+    // The days of at most 64 periods after the first ones, as many as the lists have places.
+    fn put_days(self, first: u32, thirties: bool, elapsed: &mut [u32], counted: &mut [u32])
+        requires { (first + length elapsed.old ≤ self.count) × (length elapsed.old ≤ 64) × (length elapsed.old ≡ length counted.old) }
+        ensures { DaysListed self.span thirties first (length elapsed.new) elapsed.new counted.new }
+    {
+        let bounds = elapsed.len() + 1;
+        // Room for the bounds of 64 periods.
+        let mut ranks = [0; 65];
+        let ranks = &mut ranks[..bounds];
+        self.put_ranks(first, ranks);
+        let mut numbers = [0; 65];
+        let numbers = &mut numbers[..bounds];
+        put_numbers(ranks, numbers);
+        let from = number_at(self.rank_at(0));
+        put_elapsed(from, numbers, elapsed);
+        // The two counts read different lists, so the caller's flag says which of them is put.
+        if thirties {
+            put_thirties(ranks, counted);
+        } else {
+            put_actual(numbers, counted);
+        }
+    }
 }
 
 // The day number of a date from 1900 on, by its rank.
+#[tactic(auto, using(crate::proofs::YearDays::at_most_366, crate::proofs::MonthDays::at_most_372), unfolding(crate::specs::DayNumbers::day_number, crate::specs::inner::Ranks::date_of))]
 fn number_at(rank: u32) -> u32
     requires { (22800 ≤ rank / 32) × (rank / 32 ≤ 26399) }
     ensures { result ≡ day_number (date_of rank) }
@@ -55,15 +99,7 @@ fn put_each<F: Fn(usize) -> u32>(places: &mut [u32], value: F)
     }
 }
 
-// The ranks of the bounds after the first ones, as many as the list has places.
-fn put_ranks(span: Span, count: u32, first: u32, ranks: &mut [u32])
-    requires { (is_span span ≡ true) × (count ≡ period_count span) × (first + length ranks.old ≤ count + 1) }
-    ensures { Follows (λ j. rank (bound span (first + j))) (length ranks.new) ranks.new }
-{
-    put_each(ranks, |j| rank_at(span, count, first + j as u32));
-}
-
-// Their day numbers.
+// The day numbers of ranks.
 fn put_numbers(ranks: &[u32], numbers: &mut [u32])
     requires { (length numbers.old ≤ length ranks.now) × ((j : ℕ) → j < length numbers.old → (22800 ≤ entry ranks.now j / 32) × (entry ranks.now j / 32 ≤ 26399)) }
     ensures { Follows (λ j. day_number (date_of (entry ranks.now j))) (length numbers.new) numbers.new }
@@ -95,35 +131,6 @@ fn put_thirties(ranks: &[u32], counted: &mut [u32])
     put_each(counted, |j| thirty_at(ranks[j], ranks[j + 1]));
 }
 
-// The days of at most 64 periods after the first ones, as many as the lists have places.
-fn fill_days(
-    span: Span,
-    count: u32,
-    first: u32,
-    thirties: bool,
-    elapsed: &mut [u32],
-    counted: &mut [u32],
-)
-    requires { (is_span span ≡ true) × (count ≡ period_count span) × (first + length elapsed.old ≤ count) × (length elapsed.old ≤ 64) × (length elapsed.old ≡ length counted.old) }
-    ensures { DaysListed span thirties first (length elapsed.new) elapsed.new counted.new }
-{
-    let bounds = elapsed.len() + 1;
-    // Room for the bounds of 64 periods.
-    let mut ranks = [0; 65];
-    let ranks = &mut ranks[..bounds];
-    put_ranks(span, count, first, ranks);
-    let mut numbers = [0; 65];
-    let numbers = &mut numbers[..bounds];
-    put_numbers(ranks, numbers);
-    let from = number_at(rank_at(span, count, 0));
-    put_elapsed(from, numbers, elapsed);
-    if thirties {
-        put_thirties(ranks, counted);
-    } else {
-        put_actual(numbers, counted);
-    }
-}
-
 // Whether a span has so many periods after the first ones, and no more than 64.
 fn has_run(span: Span, first: u32, places: usize) -> bool
     ensures { result ≡ (is_span span && leb places 64 && leb (first + places) (period_count span)) }
@@ -138,6 +145,10 @@ pub fn put_days(span: Span, first: u32, thirties: bool, elapsed: &mut [u32], cou
     ensures { is_span span ≡ true → first + length elapsed.new ≤ period_count span → length elapsed.new ≤ 64 → length elapsed.new ≡ length counted.new → DaysListed span thirties first (length elapsed.new) elapsed.new counted.new }
 {
     if elapsed.len() == counted.len() && has_run(span, first, elapsed.len()) {
-        fill_days(span, period_count(span), first, thirties, elapsed, counted);
+        let periods = Periods {
+            span,
+            count: period_count(span),
+        };
+        periods.put_days(first, thirties, elapsed, counted);
     }
 }
