@@ -35,9 +35,6 @@ module _ (tenors pars : List Float) where
       ∙ ap (λ (n : ℕ). take n (zeros_of ++ replicate (120 - length zeros_of) plus_zero)) (sym (one_each (length tenors)))
       ∙ take-append_seam zeros_of _
 
-  fits : {m : ℕ} → m ≡ length zeros_of + length (replicate (120 - length zeros_of) plus_zero) → length tenors ≤ m
-  fits e = omega (arith, one_each (length tenors))
-
   module _ (curve : DiscountCurve) (v : Result Unit Refusal) (judged_so : outcome v ≡ verdict (par_lines tenors pars)) (is : curve ≡ bootstrapped tenors pars) (ok : v ≡ (Ok tt)) where
     pub solved : accepted zeros_of ≡ from_par_rates tenors pars
     unfolding from_par_rates
@@ -50,12 +47,10 @@ module _ (tenors pars : List Float) where
     pub in_front : take curve.knots curve.zeros ≡ zeros_of
     in_front = front curve curve_is
 
-    pub few : length (take curve.knots curve.zeros) ≤ 120
-    few =
-        let n = accepted_counts tenors pars (sym (ap outcome ok) ∙ judged_so) in
-        rw in_front (omega (arith, n.1, one_each (length tenors)))
+    pub all_in_front : curve.knots ≡ length zeros_of
+    unfolding curve_of
+    all_in_front = rw curve_is (sym (one_each (length tenors)))
 
     -- the room holds them
-    pub within : curve.knots ≤ length curve.zeros
-    unfolding curve_of in_room
-    within = rw curve_is (fits (length-append zeros_of (replicate (120 - length zeros_of) plus_zero)))
+    pub few : curve.knots ≤ 120
+    few = let n = accepted_counts tenors pars (sym (ap outcome ok) ∙ judged_so) in omega (arith, n.1, all_in_front, one_each (length tenors))

@@ -1,7 +1,7 @@
--- How a call's result and its lent places follow from what was read and what was answered, case by case. Assumes nothing.
+-- How a call's result and its lent places follow from what was answered, case by case. Assumes nothing.
 use mathlib.Core.Path.{◌≡◌, ap, ◌∙◌}
 use Prim.Native.Nat.{ℕ}
-use Rattle.refusals.specs.Outcome.{Outcome, refused, accepted, and_then}
+use Rattle.refusals.specs.Outcome.{Outcome, refused, accepted}
 use Rattle.mortgage.specs.declared.Loan.{Loan}
 use Rattle.senyolanda.specs.Told.{refusal_result, told}
 
@@ -21,15 +21,3 @@ module _ {B C : Type 0} (laid : B → C) (before : C) where
 
   pub told_as : (o q : Outcome B) (y : ℕ × C) → y ≡ told laid o before → o ≡ q → y ≡ told laid q before
   told_as o q y h e = h ∙ ap (λ (x : Outcome B). told laid x before) e
-
-  -- ---- of what is asked of a value that was read first
-  module _ {A : Type 0} (asked : A → Outcome B) (o : Outcome A) where
-    pub not_read : (k p x : ℕ) → refused k p ≡ o → x ≡ refusal_result k p → ◌≡◌ {A = ℕ × C} (x, before) (told laid (and_then o asked) before)
-    not_read k p x e h = refused_so (and_then o asked) k p x (ap (λ (q : Outcome A). and_then q asked) e) h
-
-    pub asked_of : (v : A) (y : ℕ × C) (answer : Outcome B) → accepted v ≡ o → y ≡ told laid answer before → answer ≡ asked v → y ≡ told laid (and_then o asked) before
-    asked_of v y answer e h g = h ∙ ap (λ (q : Outcome B). told laid q before) (g ∙ ap (λ (q : Outcome A). and_then q asked) e)
-
-    -- the same of what a function that was called has read
-    pub of_what_was_read : (q : Outcome A) (y : ℕ × C) → y ≡ told laid (and_then o asked) before → o ≡ q → y ≡ told laid (and_then q asked) before
-    of_what_was_read q y h e = h ∙ ap (λ (x : Outcome A). told laid (and_then x asked) before) e

@@ -1,8 +1,7 @@
 pub mod AtTheDoor
 pub mod Bootstrap
 pub mod CodeWaits
-pub mod Codes
-pub mod Copied
+pub mod Coded
 pub mod DatedAmounts
 pub mod Exactly
 pub mod ExactlyPools

@@ -7,7 +7,12 @@ use Prim.Native.Nat.{ℕ, suc, ◌<◌}
 use native.Mathlib.Omega.{arith}
 use lib.ListN.{take}
 use lib.Ieee.{Float}
-use Rattle.refusals.specs.Outcome.{Outcome, refused, accepted, Line, alone, above, first_or, judged, and_then}
+use Rattle.std.specs.declared.result.Result.{Result}
+use Rattle.std.specs.declared.result.Result.TheVariants.{Ok, Err}
+use Rattle.std.specs.Result.{MatchResult, IsErrAnd}
+use Rattle.refusals.specs.declared.Refusal.{Refusal}
+use Rattle.refusals.specs.Answers.{outcome}
+use Rattle.refusals.specs.Outcome.{Outcome, refused, accepted, Line, line, alone, above, first_or, judged, and_then}
 use Rattle.refusals.specs.Places.{placed}
 use Rattle.refusals.specs.Table.{bad_code}
 use Rattle.refusals.proofs.Judging.{exactly, followed, judged_in_parts}
@@ -15,7 +20,18 @@ use Rattle.refusals.proofs.NumbersWithin.{between, within}
 use Rattle.refusals.proofs.Verdicts.{verdict}
 use Rattle.pool.specs.declared.speed.Speed.{Speed}
 use Rattle.pool.specs.Loans.{bad_records, pool_lines}
-use Rattle.senyolanda.specs.Pools.{last_speed, speed_at, speed_lines, speed_for}
+use Rattle.senyolanda.specs.Pools.{last_speed, speed_at, speed_of, speed_lines, speed_for}
+
+-- ---- a code that is refused alone
+pub out_of_set : {Value : Type 0} (v : Value) (bad : Bool) (k p : ℕ) → refused k p ≡ judged (line 11 bad ∷ []) v → (bad ≡ true) × (k ≡ 11) × (p ≡ 0)
+unfolding judged first_or
+out_of_set v true k p e = (refl, cc, cc)
+out_of_set v false k p e = let z : ◌≡◌ {A = Bool} false true = cc in (z, cc, cc)
+
+in_set : {Value : Type 0} (v : Value) (bad : Bool) (w : Value) → accepted w ≡ judged (line 11 bad ∷ []) v → (bad ≡ false) × (w ≡ v)
+unfolding judged first_or
+in_set v true w e = let z : ◌≡◌ {A = Bool} true false = cc in (z, cc)
+in_set v false w e = (refl, cc)
 
 abbrev Eleven : List Bool → Line
 Eleven causes = record { number = 11; causes = causes }
@@ -130,3 +146,12 @@ module _ (bytes : List ℕ) (no_room : Bool) (code : ℕ) where
         go false good =
             ap (λ (o : Outcome Speed). and_then o asked) (sym (known_speed (speed_at code number) good refl))
             ∙ ap (λ (ls : List Line). placed (judged ls (v (speed_at code number)))) (sym (known_lines good))
+
+    -- ---- the speed that was read, or the refusal that goes before it
+    pub speed_or : (known given : Result Speed Refusal) {Instead : Refusal → Refusal → Type 0} → outcome known ≡ speed_of code number
+        → MatchResult known (λ (s : Speed). given ≡ Ok s) (λ (r : Refusal). IsErrAnd given (λ (q : Refusal). Instead r q))
+        → ((r q : Refusal) → Instead r q → outcome (Err r) ≡ speed_of code number → outcome (Err q) ≡ speed_for bytes no_room code number) → outcome given ≡ speed_for bytes no_room code number
+    unfolding speed_of
+    speed_or (Ok s) given is m instead = let set = in_set _ _ _ is in rw m (known_speed s set.0 set.1)
+    speed_or (Err r) (Ok s) is m instead = absurd m
+    speed_or (Err r) (Err q) is m instead = instead r q m is

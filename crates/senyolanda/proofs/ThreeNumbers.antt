@@ -6,7 +6,8 @@ use mathlib.Core.List.{[], ◌∷◌}
 use Prim.Native.Nat.{ℕ, ◌<◌}
 use native.Mathlib.Omega.{arith}
 use lib.Dec.{ltb}
-use borrow.Author.Tests.{lt-ltb, le-ltb, ltb-true, ltb-false, not-false}
+use borrow.Author.Tests.{lt-ltb}
+use Rattle.std.specs.Prelude.{Option, Some, None, IfSome, is_some, unwrap_or}
 use Rattle.refusals.specs.Outcome.{Outcome, refused, judged}
 use Rattle.refusals.specs.Table.{no_such_date, bad_dates}
 use Rattle.dates.specs.declared.Date.{Date}
@@ -23,16 +24,20 @@ use Rattle.senyolanda.specs.Dates.{held_by_record}
 abbrev pub Alike : Date → Date → Type 0
 Alike d e = (d ≡ e) ⊎ ((is_date d ≡ false) × (is_date e ≡ false))
 
--- ---- numbers that are too large
-module _ (d : Date) where
-  pub late_year : 2199 < d.year → is_date d ≡ false
-  late_year h = sym (no_date d (λ (p : Parts d). let l = p.not_late in omega arith))
+-- ---- numbers that are too large for a date's fields are too large for any date
+not_held : (d : Date) → held_by_record d ≡ false → is_date d ≡ false
+not_held d e =
+    sym (no_date d (λ (p : Parts d). (
+    let year : ltb d.year 0x1_0000 ≡ true = lt-ltb d.year 0x1_0000 (omega (arith, p.not_late)) in
+    let month : ltb d.month 0x100 ≡ true = lt-ltb d.month 0x100 (omega (arith, p.month_high)) in
+    let day : ltb d.day 0x100 ≡ true = lt-ltb d.day 0x100 (omega (arith, p.day_high, days_in_bounds d.year d.month)) in
+    let z : true ≡ false = rw (year, month, day) at e in
+    cc
+    )))
 
-  pub late_month : 12 < d.month → is_date d ≡ false
-  late_month h = sym (no_date d (λ (p : Parts d). let l = p.month_high in omega arith))
-
-  pub late_day : 31 < d.day → is_date d ≡ false
-  late_day h = sym (no_date d (λ (p : Parts d). let l = p.day_high in let m = days_in_bounds d.year d.month in omega arith))
+pub held_or : (held : Option Date) (d other : Date) → IfSome held (λ (x : Date). x ≡ d) → is_some held ≡ held_by_record d → is_date other ≡ false → Alike (unwrap_or held other) d
+held_or (Some x) d other e h is = inl e
+held_or None d other e h is = inr (is, not_held d (sym h))
 
 -- ---- what is asked of dates that are alike
 pub same_number : (d e : Date) → Alike d e → day_number_of d ≡ day_number_of e
@@ -66,44 +71,3 @@ module _ {Value : Type 0} (counted : Date → Date → Value) where
   same_between a b c d (inr h) k = sym (bad_first a b h.0) ∙ bad_first c d h.1
   same_between a b c d (inl h) (inl k) = rw (h, k)
   same_between a b c d (inl h) (inr k) = sym (bad_second a b k.0) ∙ bad_second c d k.1
-
--- ---- what a record can hold
-turned : (n : ℕ) (t : Bool) → ltb 255 n ≡ t → t ≡ not (ltb n 256)
-turned n true e = let h = ltb-true 255 n e in rw (le-ltb n 256 (omega arith))
-turned n false e = let h = ltb-false 255 n e in rw (lt-ltb n 256 (omega arith))
-
-module _ (d : Date) where
-  pub no_year : 65535 < d.year → true ≡ no_such_date (held_by_record d)
-  unfolding no_such_date
-  no_year h = rw (le-ltb d.year 0x1_0000 (omega arith))
-
-  pub no_month : d.year < 65536 → 255 < d.month → true ≡ no_such_date (held_by_record d)
-  unfolding no_such_date
-  no_month y h = rw (lt-ltb d.year 0x1_0000 y, le-ltb d.month 0x100 (omega arith))
-
-  pub by_its_day : d.year < 65536 → d.month < 256 → ltb 255 d.day ≡ no_such_date (held_by_record d)
-  unfolding no_such_date
-  by_its_day y m = rw (lt-ltb d.year 0x1_0000 y, lt-ltb d.month 0x100 m) (turned d.day (ltb 255 d.day) refl)
-
-  pub held_so : no_such_date (held_by_record d) ≡ false → (d.year < 65536) × (d.month < 256) × (d.day < 256)
-  unfolding no_such_date
-  held_so e =
-      let p = both (ltb d.year 0x1_0000 && ltb d.month 0x100) (ltb d.day 0x100) (not-false (held_by_record d) e) in
-      let q = both (ltb d.year 0x1_0000) (ltb d.month 0x100) p.0 in
-      (ltb-true d.year 0x1_0000 q.0, ltb-true d.month 0x100 q.1, ltb-true d.day 0x100 p.1)
-
--- of two dates
-pub first_not : (a b : Bool) → no_such_date a ≡ true → no_such_date (a && b) ≡ true
-unfolding no_such_date
-first_not true b e = cc
-first_not false b e = refl
-
-pub second_not : (a b : Bool) → no_such_date a ≡ false → no_such_date b ≡ true → no_such_date (a && b) ≡ true
-unfolding no_such_date
-second_not true b e h = h
-second_not false b e h = refl
-
-pub both_held : (a b : Bool) → no_such_date a ≡ false → no_such_date b ≡ false → no_such_date (a && b) ≡ false
-unfolding no_such_date
-both_held true b e h = h
-both_held false b e h = e

@@ -14,6 +14,17 @@ use crate::kinds::{draw_kind, draw_kind_with_years, next_kind_row, open_kind};
 use crate::loans::{AMOUNTS, COUNTS};
 use mortgage::kinds::{Adjustment, Kind};
 
+// The kind that an initial rate and two caps make.
+fn kind_of(initial: f64, cap: f64, lifetime: f64) -> Kind
+    ensures { result ≡ Kind.Adjustable (adjustment_of initial cap lifetime) }
+{
+    Kind::Adjustable(Adjustment {
+        initial,
+        cap,
+        lifetime,
+    })
+}
+
 // Opens a loan whose first year runs at the initial rate, with the worked-out payment.
 #[unsafe(no_mangle)]
 pub extern "C" fn senyolanda_open_adjustable(
@@ -27,11 +38,7 @@ pub extern "C" fn senyolanda_open_adjustable(
 ) -> u64
     ensures { (result, (counts.new, amounts.new)) ≡ told loan_numbers (and_then (read_terms «record».now) (kind_opened (adjustable (adjustment_of initial cap lifetime) index.now))) (counts.old, amounts.old) }
 {
-    let kind = Kind::Adjustable(Adjustment {
-        initial,
-        cap,
-        lifetime,
-    });
+    let kind = kind_of(initial, cap, lifetime);
     open_kind(record, kind, index, counts, amounts)
 }
 
@@ -51,11 +58,7 @@ pub extern "C" fn senyolanda_draw_adjustable(
     ensures owed_after { (result, (counts.new, amounts.new, written.new, owed.new)) ≡ told portion_numbers (drawn (adjustable (adjustment_of initial cap lifetime) index.now) (loan_in counts.old amounts.old) room.old) (counts.old, amounts.old, written.old, owed.old) }
     ensures room_after { room.new ≡ filled (adjustable (adjustment_of initial cap lifetime) index.now) (loan_in counts.old amounts.old) room.old }
 {
-    let kind = Kind::Adjustable(Adjustment {
-        initial,
-        cap,
-        lifetime,
-    });
+    let kind = kind_of(initial, cap, lifetime);
     draw_kind(kind, index, counts, amounts, room, written, owed)
 }
 
@@ -77,11 +80,7 @@ pub extern "C" fn senyolanda_draw_adjustable_with_years(
     ensures room_after { room.new ≡ filled_with_years (adjustable (adjustment_of initial cap lifetime) index.now) (loan_in counts.old amounts.old) room.old years.old }
     ensures years_after { years.new ≡ summed (adjustable (adjustment_of initial cap lifetime) index.now) (loan_in counts.old amounts.old) room.old years.old }
 {
-    let kind = Kind::Adjustable(Adjustment {
-        initial,
-        cap,
-        lifetime,
-    });
+    let kind = kind_of(initial, cap, lifetime);
     draw_kind_with_years(kind, index, counts, amounts, room, years, written, owed)
 }
 
@@ -100,10 +99,6 @@ pub extern "C" fn senyolanda_next_adjustable_row(
 ) -> u64
     ensures { (result, (counts.new, amounts.new, «record».new, written.new, owed.new)) ≡ told (kind_next_numbers (adjustable (adjustment_of initial cap lifetime) index.now) counts.old amounts.old «record».old) (next_row (adjustable (adjustment_of initial cap lifetime) index.now) (loan_in counts.old amounts.old)) (counts.old, amounts.old, «record».old, written.old, owed.old) }
 {
-    let kind = Kind::Adjustable(Adjustment {
-        initial,
-        cap,
-        lifetime,
-    });
+    let kind = kind_of(initial, cap, lifetime);
     next_kind_row(kind, index, counts, amounts, record, written, owed)
 }

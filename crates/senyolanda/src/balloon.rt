@@ -14,9 +14,11 @@ ghost use Rattle.senyolanda.specs.Loans.{loan_in, loan_numbers, portion_numbers,
 
 use crate::kinds::{NO_INDEX, draw_kind, draw_kind_with_years, next_kind_row, open_kind};
 use crate::loans::{AMOUNTS, COUNTS, loan_in, put_loan};
-use crate::results::refusal_result;
-use crate::years::put_year;
+use crate::results::put;
+use crate::years::year_places;
 use mortgage::kinds::Kind;
+use mortgage::opening::open_balloon_with_payment;
+use records::terms_record::read_terms;
 
 // Opens a loan with a balloon in a month with the worked-out payment.
 #[unsafe(no_mangle)]
@@ -42,13 +44,10 @@ pub extern "C" fn senyolanda_open_balloon_with_payment(
 ) -> u64
     ensures { (result, (counts.new, amounts.new)) ≡ told loan_numbers (and_then (read_terms «record».now) (λ (t : Terms). kind_opened_with (balloon month) t given)) (counts.old, amounts.old) }
 {
-    match records::terms_record::read_terms(record) {
-        Err(refusal) => refusal_result(refusal),
-        Ok(terms) => {
-            let opening = mortgage::opening::open_balloon_with_payment(terms, month, given);
-            put_loan(opening, counts, amounts)
-        }
-    }
+    let opening = read_terms(record).and_then(|terms| open_balloon_with_payment(
+        terms, month, given,
+    ));
+    put_loan(opening, counts, amounts)
 }
 
 // Writes as many rows as the room holds and the loan still owes.
@@ -138,8 +137,6 @@ pub extern "C" fn senyolanda_look_up_balloon_year(
     ensures { (result, line.new) ≡ told year_places (looked_up (balloon month) (loan_in counts.now amounts.now) years.now year) line.old }
 {
     let loan = loan_in(counts, amounts);
-    put_year(
-        mortgage::years::look_up_kind_year(Kind::Balloon(month), loan, years, year),
-        line,
-    )
+    let found = mortgage::years::look_up_kind_year(Kind::Balloon(month), loan, years, year);
+    put(found.map(year_places), line)
 }

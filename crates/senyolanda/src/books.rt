@@ -1,32 +1,10 @@
 // Books of loans: kind 1 records end to end, drawn in one call.
 ghost use Rattle.std.specs.Prelude.{◌≡◌, length};
-ghost use Rattle.book.specs.Book.{book_drawn, book_room, book_answers, book_outcome};
+ghost use Rattle.book.specs.Book.{book_drawn, book_room, book_answers};
 ghost use Rattle.senyolanda.specs.Told.{told};
 ghost use Rattle.senyolanda.specs.Books.{progress_numbers};
 
 use crate::results::{ACCEPTED, refusal_result};
-use book::BookProgress;
-use refusals::Refusal;
-
-// How far a book was drawn.
-fn put_progress(
-    drawing: Result<BookProgress, Refusal>,
-    finished: &mut u32,
-    cut: &mut u32,
-    waiting: &mut u32,
-) -> u64
-    ensures { (result, (finished.new, cut.new, waiting.new)) ≡ told progress_numbers (book_outcome drawing) (finished.old, cut.old, waiting.old) }
-{
-    match drawing {
-        Err(refusal) => refusal_result(refusal),
-        Ok(progress) => {
-            *finished = progress.finished;
-            *cut = progress.cut;
-            *waiting = progress.waiting;
-            ACCEPTED
-        }
-    }
-}
 
 // Draws each loan whole, one behind the other, as far as the room goes.
 #[unsafe(no_mangle)]
@@ -42,10 +20,13 @@ pub extern "C" fn senyolanda_draw_book(
     ensures room_after { room.new ≡ book_room records.now answers.old room.old }
     ensures answers_after { answers.new ≡ book_answers records.now answers.old room.old }
 {
-    put_progress(
-        book::draw_book(records, answers, room),
-        finished,
-        cut,
-        waiting,
-    )
+    match book::draw_book(records, answers, room) {
+        Err(refusal) => refusal_result(refusal),
+        Ok(progress) => {
+            *finished = progress.finished;
+            *cut = progress.cut;
+            *waiting = progress.waiting;
+            ACCEPTED
+        }
+    }
 }

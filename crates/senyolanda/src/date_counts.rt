@@ -1,14 +1,14 @@
 // Dates as three numbers: day numbers, the days between two dates, a date so many months later.
-ghost use Rattle.std.specs.Prelude.{◌≡◌, false, ◌⊎◌};
+ghost use Rattle.std.specs.Prelude.{◌≡◌, false, ◌⊎◌, IfSome, is_some};
 ghost use Rattle.dates.specs.Calendar.{is_date};
-ghost use Rattle.refusals.specs.Answers.{outcome};
 ghost use Rattle.dates.specs.Answers.{day_number_of, date_numbered, actual_days_of, thirty_days_of, months_later_of};
 ghost use Rattle.senyolanda.specs.Told.{told, told_number};
-ghost use Rattle.senyolanda.specs.Dates.{date_of, date_numbers, dated_fraction_by};
+ghost use Rattle.senyolanda.specs.Dates.{date_of, date_numbers, held_by_record, dated_fraction_by};
 
-use crate::results::{ACCEPTED, put_count, put_number, refusal_result};
+use crate::codes::day_count_of;
+use crate::results::put;
 use dates::Date;
-use refusals::{Cause, Refusal};
+use swaps::day_counts::dated_fraction;
 
 // The numbers of a date: year, month, day.
 pub const DATE_NUMBERS: usize = 3;
@@ -17,50 +17,42 @@ pub const DATE_NUMBERS: usize = 3;
 fn date_of(year: u32, month: u32, day: u32) -> Date
     ensures { (result ≡ date_of year month day) ⊎ ((is_date result ≡ false) × (is_date (date_of year month day) ≡ false)) }
 {
-    if year > 2199 {
-        return no_date();
-    }
-    if month > 12 {
-        return no_date();
-    }
-    if day > 31 {
-        return no_date();
-    }
-    Date {
-        year: year as u16,
-        month: month as u8,
-        day: day as u8,
-    }
-}
-
-fn no_date() -> Date
-    ensures { is_date result ≡ false }
-{
-    Date {
+    held_date(year, month, day).unwrap_or(Date {
         year: 0,
         month: 0,
         day: 0,
-    }
+    })
 }
 
-fn put_date(answer: Result<Date, Refusal>, date: &mut [u32; DATE_NUMBERS]) -> u64
-    ensures { (result, date.new) ≡ told date_numbers (outcome answer) date.old }
+// The date of three numbers, of the calendar or not, where each fits in its field.
+pub(crate) fn held_date(year: u32, month: u32, day: u32) -> Option<Date>
+    ensures some { IfSome result (λ (d : Date). d ≡ date_of year month day) }
+    ensures when { is_some result ≡ held_by_record (date_of year month day) }
 {
-    match answer {
-        Err(refusal) => refusal_result(refusal),
-        Ok(given) => {
-            *date = [given.year as u32, given.month as u32, given.day as u32];
-            ACCEPTED
-        }
-    }
+    Some(Date {
+        year: u16::try_from(year).ok()?,
+        month: u8::try_from(month).ok()?,
+        day: u8::try_from(day).ok()?,
+    })
 }
 
+pub(crate) fn date_numbers(date: Date) -> [u32; DATE_NUMBERS]
+    ensures { result ≡ date_numbers date }
+{
+    [
+        u32::from(date.year),
+        u32::from(date.month),
+        u32::from(date.day),
+    ]
+}
+
+#[tactic(auto, using(crate::proofs::ThreeNumbers::same_number))]
 #[unsafe(no_mangle)]
 pub extern "C" fn senyolanda_day_number(year: u32, month: u32, day: u32, number: &mut u32) -> u64
     ensures { (result, number.new) ≡ told_number (day_number_of (date_of year month day)) number.old }
 {
     let date = date_of(year, month, day);
-    put_count(dates::day_numbers::day_number(date), number)
+    put(dates::day_numbers::day_number(date), number)
 }
 
 // The date of a day number.
@@ -68,9 +60,10 @@ pub extern "C" fn senyolanda_day_number(year: u32, month: u32, day: u32, number:
 pub extern "C" fn senyolanda_date_of_number(number: u32, date: &mut [u32; DATE_NUMBERS]) -> u64
     ensures { (result, date.new) ≡ told date_numbers (date_numbered number) date.old }
 {
-    put_date(dates::day_numbers::date_of(number), date)
+    put(dates::day_numbers::date_of(number).map(date_numbers), date)
 }
 
+#[tactic(auto, using(crate::proofs::ThreeNumbers::same_months), unfolding(crate::specs::Told::told))]
 #[unsafe(no_mangle)]
 pub extern "C" fn senyolanda_months_later(
     year: u32,
@@ -82,9 +75,13 @@ pub extern "C" fn senyolanda_months_later(
     ensures { (result, date.new) ≡ told date_numbers (months_later_of (date_of year month day) months) date.old }
 {
     let from = date_of(year, month, day);
-    put_date(dates::months::months_later(from, months), date)
+    put(
+        dates::months::months_later(from, months).map(date_numbers),
+        date,
+    )
 }
 
+#[tactic(auto, using(crate::proofs::ThreeNumbers::same_between), unfolding(dates::specs::Answers::actual_days_of))]
 #[unsafe(no_mangle)]
 pub extern "C" fn senyolanda_actual_days(
     first_year: u32,
@@ -99,9 +96,10 @@ pub extern "C" fn senyolanda_actual_days(
 {
     let first = date_of(first_year, first_month, first_day);
     let second = date_of(second_year, second_month, second_day);
-    put_count(dates::counts::actual_days_between(first, second), days)
+    put(dates::counts::actual_days_between(first, second), days)
 }
 
+#[tactic(auto, using(crate::proofs::ThreeNumbers::same_between), unfolding(dates::specs::Answers::thirty_days_of))]
 #[unsafe(no_mangle)]
 pub extern "C" fn senyolanda_days_30_360(
     first_year: u32,
@@ -116,10 +114,11 @@ pub extern "C" fn senyolanda_days_30_360(
 {
     let first = date_of(first_year, first_month, first_day);
     let second = date_of(second_year, second_month, second_day);
-    put_count(dates::counts::thirty_days_between(first, second), days)
+    put(dates::counts::thirty_days_between(first, second), days)
 }
 
 // The days between two dates, by a day count, as a fraction of a year.
+#[tactic(auto, using(crate::proofs::ThreeNumbers::same_between), unfolding(crate::specs::Told::told, crate::specs::Dates::dated_fraction_by, swaps::specs::DayCounts::dated_fraction_of))]
 #[unsafe(no_mangle)]
 pub extern "C" fn senyolanda_dated_fraction(
     day_count: u32,
@@ -133,16 +132,8 @@ pub extern "C" fn senyolanda_dated_fraction(
 ) -> u64
     ensures { (result, fraction.new) ≡ told_number (dated_fraction_by day_count (date_of first_year first_month first_day) (date_of second_year second_month second_day)) fraction.old }
 {
-    if day_count > 2 {
-        return refusal_result(refusals::refuse(Cause::Record));
-    }
     let first = date_of(first_year, first_month, first_day);
     let second = date_of(second_year, second_month, second_day);
-    match swaps::day_counts::day_count_of(day_count as u8) {
-        Err(refusal) => refusal_result(refusal),
-        Ok(given) => {
-            let answer = swaps::day_counts::dated_fraction(given, first, second);
-            put_number(answer, fraction)
-        }
-    }
+    let answer = day_count_of(day_count).and_then(|given| dated_fraction(given, first, second));
+    put(answer, fraction)
 }

@@ -2,50 +2,55 @@
 ghost use Rattle.std.specs.Prelude.{◌≡◌};
 ghost use Rattle.swaps.specs.Valuation.{fixed_leg_pv, floating_leg_pv, swap_npv, par_swap_rate, swap_dv01, swap_duration, value_swap};
 ghost use Rattle.swaps.specs.declared.AnySwap.{AnySwap};
-ghost use Rattle.senyolanda.specs.Told.{told, told_number};
+ghost use Rattle.refusals.specs.Outcome.{judged};
+ghost use Rattle.refusals.specs.Table.{bad_code};
+ghost use Rattle.swaps.specs.Codes.{last_code, day_count_at};
+ghost use Rattle.swaps.specs.DatedSwap.{uncoded_dated_lines};
+ghost use Rattle.senyolanda.specs.Told.{coded, told, told_number};
 ghost use Rattle.refusals.specs.Answers.{outcome};
-ghost use Rattle.senyolanda.specs.Swaps.{dated_by, dated_swap_read, of_dated_swap, is_true, valuation_numbers};
+ghost use Rattle.senyolanda.specs.Swaps.{dated_by, dated_swap_of, dated_swap_read, of_dated_swap, is_true, valuation_numbers};
 
-use crate::swap_values::{
-    put_duration, put_dv01, put_fixed_leg, put_floating_leg, put_npv, put_par_rate, put_values,
-};
+use crate::results::put;
+use crate::swap_values::valuation_numbers;
 use records::DatedSwapRecord;
 use refusals::Refusal;
 use swaps::day_counts::DayCount;
+use swaps::judging::judge_but_dates;
+use swaps::legs::{fixed_leg_pv, floating_leg_pv};
+use swaps::valuation::{par_swap_rate, swap_duration, swap_dv01, swap_npv, value_swap};
 use swaps::{AnySwap, DatedSwap};
 
 fn dated_by(day_count: DayCount, fields: DatedSwapRecord) -> DatedSwap
     ensures { result ≡ dated_by day_count fields }
 {
-    let first = fields.first;
-    let second = fields.second;
     DatedSwap {
         notional: fields.notional,
         fixed_rate: fields.rate,
         frequency: fields.frequency,
-        first,
-        second,
+        first: fields.first,
+        second: fields.second,
         day_count,
     }
 }
 
-// The swap of a record, over a curve. A code outside its set waits for what else the swap and the curve are refused with, but goes before its dates.
+// The day count of a dated swap, over a curve. A code outside its set waits for what else the swap and the curve are refused with, but goes before its dates.
+fn day_count_in(fields: DatedSwapRecord, tenors: &[f64], zeros: &[f64]) -> Result<DayCount, Refusal>
+    ensures { outcome result ≡ coded (bad_code last_code fields.count) (judged (uncoded_dated_lines (dated_swap_of fields) tenors.now zeros.now) tt) (day_count_at fields.count) }
+{
+    swaps::day_counts::day_count_of(fields.count).or_else(|unknown| {
+        let swap = dated_by(DayCount::Thirty360, fields);
+        judge_but_dates(swap, tenors, zeros).and(Err(unknown))
+    })
+}
+
+// The swap of a record, over a curve.
+#[tactic(auto, unfolding(crate::specs::Swaps::dated_swap_read))]
 fn dated_swap_in(bytes: &[u8], tenors: &[f64], zeros: &[f64]) -> Result<AnySwap, Refusal>
     ensures { outcome result ≡ dated_swap_read bytes.now tenors.now zeros.now }
 {
-    match records::dated_swap_record::read_dated_swap_uncoded(bytes) {
-        Err(refusal) => Err(refusal),
-        Ok(fields) => match swaps::day_counts::day_count_of(fields.count) {
-            Ok(day_count) => { Ok(AnySwap::Dated(dated_by(day_count, fields))) }
-            Err(unknown) => {
-                let swap = dated_by(DayCount::Thirty360, fields);
-                match swaps::judging::judge_but_dates(swap, tenors, zeros) {
-                    Err(refusal) => Err(refusal),
-                    Ok(()) => Err(unknown),
-                }
-            }
-        },
-    }
+    let fields = records::dated_swap_record::read_dated_swap_uncoded(bytes)?;
+    let day_count = day_count_in(fields, tenors, zeros)?;
+    Ok(AnySwap::Dated(dated_by(day_count, fields)))
 }
 
 #[unsafe(no_mangle)]
@@ -58,7 +63,7 @@ pub extern "C" fn senyolanda_dated_fixed_leg_pv(
     ensures { (result, pv.new) ≡ told_number (of_dated_swap «record».now tenors.now zeros.now (λ (s : AnySwap). fixed_leg_pv s tenors.now zeros.now)) pv.old }
 {
     let read = dated_swap_in(record, tenors, zeros);
-    put_fixed_leg(read, tenors, zeros, pv)
+    put(read.and_then(|swap| fixed_leg_pv(swap, tenors, zeros)), pv)
 }
 
 #[unsafe(no_mangle)]
@@ -71,7 +76,10 @@ pub extern "C" fn senyolanda_dated_floating_leg_pv(
     ensures { (result, pv.new) ≡ told_number (of_dated_swap «record».now tenors.now zeros.now (λ (s : AnySwap). floating_leg_pv s tenors.now zeros.now)) pv.old }
 {
     let read = dated_swap_in(record, tenors, zeros);
-    put_floating_leg(read, tenors, zeros, pv)
+    put(
+        read.and_then(|swap| floating_leg_pv(swap, tenors, zeros)),
+        pv,
+    )
 }
 
 #[unsafe(no_mangle)]
@@ -85,7 +93,10 @@ pub extern "C" fn senyolanda_dated_swap_npv(
     ensures { (result, npv.new) ≡ told_number (of_dated_swap «record».now tenors.now zeros.now (λ (s : AnySwap). swap_npv s tenors.now zeros.now (is_true receive_fixed))) npv.old }
 {
     let read = dated_swap_in(record, tenors, zeros);
-    put_npv(read, tenors, zeros, receive_fixed, npv)
+    put(
+        read.and_then(|swap| swap_npv(swap, tenors, zeros, receive_fixed != 0)),
+        npv,
+    )
 }
 
 #[unsafe(no_mangle)]
@@ -98,7 +109,10 @@ pub extern "C" fn senyolanda_dated_par_swap_rate(
     ensures { (result, rate.new) ≡ told_number (of_dated_swap «record».now tenors.now zeros.now (λ (s : AnySwap). par_swap_rate s tenors.now zeros.now)) rate.old }
 {
     let read = dated_swap_in(record, tenors, zeros);
-    put_par_rate(read, tenors, zeros, rate)
+    put(
+        read.and_then(|swap| par_swap_rate(swap, tenors, zeros)),
+        rate,
+    )
 }
 
 #[unsafe(no_mangle)]
@@ -112,7 +126,10 @@ pub extern "C" fn senyolanda_dated_swap_dv01(
     ensures { (result, dv01.new) ≡ told_number (of_dated_swap «record».now tenors.now zeros.now (λ (s : AnySwap). swap_dv01 s tenors.now zeros.now (is_true receive_fixed))) dv01.old }
 {
     let read = dated_swap_in(record, tenors, zeros);
-    put_dv01(read, tenors, zeros, receive_fixed, dv01)
+    put(
+        read.and_then(|swap| swap_dv01(swap, tenors, zeros, receive_fixed != 0)),
+        dv01,
+    )
 }
 
 #[unsafe(no_mangle)]
@@ -125,7 +142,10 @@ pub extern "C" fn senyolanda_dated_swap_duration(
     ensures { (result, duration.new) ≡ told_number (of_dated_swap «record».now tenors.now zeros.now (λ (s : AnySwap). swap_duration s tenors.now zeros.now)) duration.old }
 {
     let read = dated_swap_in(record, tenors, zeros);
-    put_duration(read, tenors, zeros, duration)
+    put(
+        read.and_then(|swap| swap_duration(swap, tenors, zeros)),
+        duration,
+    )
 }
 
 #[unsafe(no_mangle)]
@@ -139,5 +159,9 @@ pub extern "C" fn senyolanda_value_dated_swap(
     ensures { (result, valuation.new) ≡ told valuation_numbers (of_dated_swap «record».now tenors.now zeros.now (λ (s : AnySwap). value_swap s tenors.now zeros.now (is_true receive_fixed))) valuation.old }
 {
     let read = dated_swap_in(record, tenors, zeros);
-    put_values(read, tenors, zeros, receive_fixed, valuation)
+    put(
+        read.and_then(|swap| value_swap(swap, tenors, zeros, receive_fixed != 0))
+            .map(valuation_numbers),
+        valuation,
+    )
 }

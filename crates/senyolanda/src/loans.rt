@@ -3,7 +3,7 @@ ghost use Rattle.std.specs.Prelude.{◌≡◌, Float, List};
 ghost use Rattle.refusals.specs.Outcome.{and_then};
 ghost use Rattle.records.specs.declared.Terms.{Terms};
 ghost use Rattle.records.specs.Kinds.{read_terms};
-ghost use Rattle.refusals.specs.Answers.{number, outcome};
+ghost use Rattle.refusals.specs.Answers.{outcome};
 ghost use Rattle.mortgage.specs.Payment.{monthly_payment, opened, opened_with};
 ghost use Rattle.mortgage.specs.Rows.{next_outcome};
 ghost use Rattle.mortgage.specs.Kinds.{way_of};
@@ -12,24 +12,26 @@ ghost use Rattle.mortgage.specs.Totals.{total_interest, remaining_balance, loan_
 ghost use Rattle.mortgage.specs.Savings.{prepayment_savings};
 ghost use Rattle.listing.specs.Listing.{listed, listed_size, lines_over};
 ghost use Rattle.senyolanda.specs.Told.{told, told_number};
-ghost use Rattle.senyolanda.specs.Loans.{loan_in, loan_numbers, portion_numbers, kind_next_numbers, next_numbers, savings_numbers, breakeven_of};
+ghost use Rattle.senyolanda.specs.Loans.{loan_in, loan_numbers, portion_numbers, kind_next_numbers, next_numbers, savings_numbers, at, breakeven_of};
 
-use crate::results::{ACCEPTED, put_count, put_number, refusal_result};
+use crate::results::{ACCEPTED, put, put_two, refusal_result};
 use mortgage::Loan;
 use mortgage::draws::Portion;
 use mortgage::kinds::Kind;
 use mortgage::rows::Month;
 use mortgage::savings::Savings;
+use records::Terms;
+use records::terms_record::read_terms;
 use refusals::Refusal;
 
 #[unsafe(no_mangle)]
 pub extern "C" fn senyolanda_monthly_payment(record: &[u8], payment: &mut f64) -> u64
     ensures { (result, payment.new) ≡ told_number (and_then (read_terms «record».now) monthly_payment) payment.old }
 {
-    match records::terms_record::read_terms(record) {
-        Err(refusal) => refusal_result(refusal),
-        Ok(terms) => put_number(mortgage::payment::monthly_payment(terms), payment),
-    }
+    put(
+        read_terms(record).and_then(mortgage::payment::monthly_payment),
+        payment,
+    )
 }
 
 // Counts of a loan in hand: term, months done.
@@ -41,20 +43,25 @@ pub const AMOUNTS: usize = 3;
 pub(crate) fn loan_in(counts: &[u32; COUNTS], amounts: &[f64; AMOUNTS]) -> Loan
     ensures { result ≡ loan_in counts.now amounts.now }
 {
+    let [term, done] = *counts;
+    let [rate, payment, balance] = *amounts;
     Loan {
-        term: counts[0],
-        done: counts[1],
-        rate: amounts[0],
-        payment: amounts[1],
-        balance: amounts[2],
+        term,
+        rate,
+        payment,
+        done,
+        balance,
     }
 }
 
-fn hand_back(loan: Loan, counts: &mut [u32; COUNTS], amounts: &mut [f64; AMOUNTS])
-    ensures { (counts.new, amounts.new) ≡ loan_numbers loan }
+// What is handed back of a loan in hand: its counts and its amounts.
+pub(crate) fn loan_numbers(loan: Loan) -> ([u32; COUNTS], [f64; AMOUNTS])
+    ensures { result ≡ loan_numbers loan }
 {
-    *counts = [loan.term, loan.done];
-    *amounts = [loan.rate, loan.payment, loan.balance];
+    (
+        [loan.term, loan.done],
+        [loan.rate, loan.payment, loan.balance],
+    )
 }
 
 // A loan that was opened.
@@ -65,13 +72,7 @@ pub(crate) fn put_loan(
 ) -> u64
     ensures { (result, (counts.new, amounts.new)) ≡ told loan_numbers (outcome opening) (counts.old, amounts.old) }
 {
-    match opening {
-        Err(refusal) => refusal_result(refusal),
-        Ok(loan) => {
-            hand_back(loan, counts, amounts);
-            ACCEPTED
-        }
-    }
+    put_two(opening.map(loan_numbers), counts, amounts)
 }
 
 // Opens a loan with the worked-out payment.
@@ -83,10 +84,11 @@ pub extern "C" fn senyolanda_open(
 ) -> u64
     ensures { (result, (counts.new, amounts.new)) ≡ told loan_numbers (and_then (read_terms «record».now) opened) (counts.old, amounts.old) }
 {
-    match records::terms_record::read_terms(record) {
-        Err(refusal) => refusal_result(refusal),
-        Ok(terms) => put_loan(mortgage::opening::open(terms), counts, amounts),
-    }
+    put_loan(
+        read_terms(record).and_then(mortgage::opening::open),
+        counts,
+        amounts,
+    )
 }
 
 // Opens a loan with a given payment.
@@ -99,13 +101,10 @@ pub extern "C" fn senyolanda_open_with_payment(
 ) -> u64
     ensures { (result, (counts.new, amounts.new)) ≡ told loan_numbers (and_then (read_terms «record».now) (λ (t : Terms). opened_with t given)) (counts.old, amounts.old) }
 {
-    match records::terms_record::read_terms(record) {
-        Err(refusal) => refusal_result(refusal),
-        Ok(terms) => {
-            let opening = mortgage::opening::open_with_payment(terms, given);
-            put_loan(opening, counts, amounts)
-        }
-    }
+    let opening = read_terms(record).and_then(|terms| mortgage::opening::open_with_payment(
+        terms, given,
+    ));
+    put_loan(opening, counts, amounts)
 }
 
 // What a draw hands back.
@@ -121,7 +120,7 @@ pub(crate) fn put_portion(
     match drawing {
         Err(refusal) => refusal_result(refusal),
         Ok(portion) => {
-            hand_back(portion.loan, counts, amounts);
+            (*counts, *amounts) = loan_numbers(portion.loan);
             *written = portion.written;
             *owed = portion.owed;
             ACCEPTED
@@ -159,20 +158,18 @@ pub(crate) fn put_next(
 {
     match next {
         Err(refusal) => refusal_result(refusal),
-        Ok(month) => match month {
-            None => {
-                *written = 0;
-                *owed = 0;
-                ACCEPTED
-            }
-            Some(month) => {
-                records::row_record::write_row(month.row, record);
-                hand_back(month.next, counts, amounts);
-                *written = 1;
-                *owed = mortgage::rows::kind_rows_due(kind, month.next);
-                ACCEPTED
-            }
-        },
+        Ok(None) => {
+            *written = 0;
+            *owed = 0;
+            ACCEPTED
+        }
+        Ok(Some(month)) => {
+            records::row_record::write_row(month.row, record);
+            (*counts, *amounts) = loan_numbers(month.next);
+            *written = 1;
+            *owed = mortgage::rows::kind_rows_due(kind, month.next);
+            ACCEPTED
+        }
     }
 }
 
@@ -195,10 +192,10 @@ pub extern "C" fn senyolanda_next_row(
 pub extern "C" fn senyolanda_total_interest(record: &[u8], interest: &mut f64) -> u64
     ensures { (result, interest.new) ≡ told_number (and_then (read_terms «record».now) total_interest) interest.old }
 {
-    match records::terms_record::read_terms(record) {
-        Err(refusal) => refusal_result(refusal),
-        Ok(terms) => put_number(mortgage::totals::total_interest(terms), interest),
-    }
+    put(
+        read_terms(record).and_then(mortgage::totals::total_interest),
+        interest,
+    )
 }
 
 // The balance after so many months.
@@ -206,10 +203,10 @@ pub extern "C" fn senyolanda_total_interest(record: &[u8], interest: &mut f64) -
 pub extern "C" fn senyolanda_remaining_balance(record: &[u8], months: u32, balance: &mut f64) -> u64
     ensures { (result, balance.new) ≡ told_number (and_then (read_terms «record».now) (λ (t : Terms). remaining_balance t months)) balance.old }
 {
-    match records::terms_record::read_terms(record) {
-        Err(refusal) => refusal_result(refusal),
-        Ok(terms) => { put_number(mortgage::totals::remaining_balance(terms, months), balance) }
-    }
+    let remaining = read_terms(record).and_then(|terms| mortgage::totals::remaining_balance(
+        terms, months,
+    ));
+    put(remaining, balance)
 }
 
 // Loan to value.
@@ -217,23 +214,16 @@ pub extern "C" fn senyolanda_remaining_balance(record: &[u8], months: u32, balan
 pub extern "C" fn senyolanda_ltv(record: &[u8], value: f64, ratio: &mut f64) -> u64
     ensures { (result, ratio.new) ≡ told_number (and_then (read_terms «record».now) (λ (t : Terms). loan_to_value t value)) ratio.old }
 {
-    match records::terms_record::read_terms(record) {
-        Err(refusal) => refusal_result(refusal),
-        Ok(terms) => put_number(mortgage::totals::ltv(terms, value), ratio),
-    }
+    put(
+        read_terms(record).and_then(|terms| mortgage::totals::ltv(terms, value)),
+        ratio,
+    )
 }
 
-fn put_savings(answer: Result<Savings, Refusal>, months: &mut u32, interest: &mut f64) -> u64
-    ensures { (result, (months.new, interest.new)) ≡ told savings_numbers (outcome answer) (months.old, interest.old) }
+fn savings_numbers(savings: Savings) -> (u32, f64)
+    ensures { result ≡ savings_numbers savings }
 {
-    match answer {
-        Err(refusal) => refusal_result(refusal),
-        Ok(savings) => {
-            *months = savings.months;
-            *interest = savings.interest;
-            ACCEPTED
-        }
-    }
+    (savings.months, savings.interest)
 }
 
 // What paying so much more each month saves: months, and interest.
@@ -246,26 +236,26 @@ pub extern "C" fn senyolanda_prepayment_savings(
 ) -> u64
     ensures { (result, (months.new, interest.new)) ≡ told savings_numbers (and_then (read_terms «record».now) (λ (t : Terms). prepayment_savings t extra)) (months.old, interest.old) }
 {
-    match records::terms_record::read_terms(record) {
-        Err(refusal) => refusal_result(refusal),
-        Ok(terms) => {
-            put_savings(
-                mortgage::savings::prepayment_savings(terms, extra),
-                months,
-                interest,
-            )
-        }
-    }
+    let savings = read_terms(record).and_then(|terms| mortgage::savings::prepayment_savings(
+        terms, extra,
+    ));
+    put_two(savings.map(savings_numbers), months, interest)
 }
 
-// The same refusal at another place.
-fn at_place(refusal: Refusal, place: u32) -> Refusal
-    ensures { (number result.cause ≡ number refusal.cause) × (result.place ≡ place) }
+// The terms of a record, which is refused at its own place.
+fn read_terms_at(place: u32, record: &[u8]) -> Result<Terms, Refusal>
+    ensures { outcome result ≡ at place (read_terms «record».now) }
 {
-    Refusal {
-        cause: refusal.cause,
-        place,
-    }
+    read_terms(record).map_err(|refusal| Refusal { place, ..refusal })
+}
+
+#[tactic(auto, unfolding(crate::specs::Loans::breakeven_of))]
+fn breakeven(old_record: &[u8], new_record: &[u8], cost: f64, elapsed: u32) -> Result<u32, Refusal>
+    ensures { outcome result ≡ breakeven_of old_record.now new_record.now cost elapsed }
+{
+    let old = read_terms_at(0, old_record)?;
+    let new = read_terms_at(1, new_record)?;
+    mortgage::breakeven::refinance_breakeven(old, new, cost, elapsed)
 }
 
 // The month by which a new loan's smaller payment has earned its closing cost back.
@@ -279,16 +269,7 @@ pub extern "C" fn senyolanda_refinance_breakeven(
 ) -> u64
     ensures { (result, month.new) ≡ told_number (breakeven_of old_record.now new_record.now cost elapsed) month.old }
 {
-    match records::terms_record::read_terms(old_record) {
-        Err(refusal) => refusal_result(at_place(refusal, 0)),
-        Ok(old) => match records::terms_record::read_terms(new_record) {
-            Err(refusal) => refusal_result(at_place(refusal, 1)),
-            Ok(new) => {
-                let found = mortgage::breakeven::refinance_breakeven(old, new, cost, elapsed);
-                put_count(found, month)
-            }
-        },
-    }
+    put(breakeven(old_record, new_record, cost, elapsed), month)
 }
 
 // A loan's whole schedule as the lines of its listing, and how many bytes they are.
@@ -301,5 +282,5 @@ pub extern "C" fn senyolanda_listing(
     ensures size_after { (result, size.new) ≡ told_number (listed_size «record».now) size.old }
     ensures text_after { text.new ≡ lines_over (listed «record».now) text.old }
 {
-    put_count(listing::list_loan(record, text), size)
+    put(listing::list_loan(record, text), size)
 }

@@ -5,18 +5,25 @@ ghost use Rattle.yield_curve.specs.Fit.{fit};
 ghost use Rattle.senyolanda.specs.Told.{always, told, told_number};
 ghost use Rattle.senyolanda.specs.Models.{model_of, model_numbers, metrics_numbers};
 
-use crate::results::{ACCEPTED, put_number, refusal_result};
+use crate::results::{ACCEPTED, put};
 use yield_curve::nelson_siegel::NelsonSiegel;
 
 fn model_of(numbers: &[f64; 4]) -> NelsonSiegel
     ensures { result ≡ model_of numbers.now }
 {
+    let [beta0, beta1, beta2, decay] = *numbers;
     NelsonSiegel {
-        beta0: numbers[0],
-        beta1: numbers[1],
-        beta2: numbers[2],
-        decay: numbers[3],
+        beta0,
+        beta1,
+        beta2,
+        decay,
     }
+}
+
+fn model_numbers(model: NelsonSiegel) -> [f64; 4]
+    ensures { result ≡ model_numbers model }
+{
+    [model.beta0, model.beta1, model.beta2, model.decay]
 }
 
 // The model that lies nearest to the points of a curve.
@@ -28,20 +35,17 @@ pub extern "C" fn senyolanda_nelson_siegel_fit(
 ) -> u64
     ensures { (result, model.new) ≡ told model_numbers (fit times.now rates.now) model.old }
 {
-    match yield_curve::fitting::fit(times, rates) {
-        Err(refusal) => refusal_result(refusal),
-        Ok(fitted) => {
-            *model = [fitted.beta0, fitted.beta1, fitted.beta2, fitted.decay];
-            ACCEPTED
-        }
-    }
+    put(
+        yield_curve::fitting::fit(times, rates).map(model_numbers),
+        model,
+    )
 }
 
 #[unsafe(no_mangle)]
 pub extern "C" fn senyolanda_nelson_siegel_yield(model: &[f64; 4], t: f64, rate: &mut f64) -> u64
     ensures { (result, rate.new) ≡ told_number (yield_at (model_of model.now) t) rate.old }
 {
-    put_number(
+    put(
         yield_curve::nelson_siegel::yield_at(model_of(model), t),
         rate,
     )
@@ -55,7 +59,7 @@ pub extern "C" fn senyolanda_nelson_siegel_forward_rate(
 ) -> u64
     ensures { (result, rate.new) ≡ told_number (forward_rate_at (model_of model.now) t) rate.old }
 {
-    put_number(
+    put(
         yield_curve::nelson_siegel::forward_rate(model_of(model), t),
         rate,
     )

@@ -1,5 +1,5 @@
 // Pools: loans are lent as kind 1 records end to end; a prepayment speed is a code, its number, and a history beside it.
-ghost use Rattle.std.specs.Prelude.{◌≡◌, false, ◌&&◌, length};
+ghost use Rattle.std.specs.Prelude.{◌≡◌, false, ◌&&◌, length, ℕ, Float};
 ghost use Rattle.refusals.specs.Outcome.{and_then};
 ghost use Rattle.pool.specs.declared.speed.Speed.{Speed};
 ghost use Rattle.refusals.specs.Places.{placed};
@@ -10,11 +10,13 @@ ghost use Rattle.senyolanda.specs.Told.{told, told_number};
 ghost use Rattle.refusals.specs.Answers.{outcome};
 ghost use Rattle.senyolanda.specs.Pools.{speed_of, speed_for, smm_of, months_of, room_after, totals_numbers};
 
-use crate::results::{ACCEPTED, put_count, put_number, refusal_result};
+use crate::results::{put, refusal_result};
 use pool::speed::Speed;
+use pool::totals::Totals;
 use refusals::{Cause, Refusal};
 
 // The speed of a code: 0 CPR, 1 PSA, 2 a history.
+#[tactic(auto, unfolding(crate::specs::Pools::speed_of, crate::specs::Pools::speed_at, refusals::specs::Table::bad_code, refusals::specs::Outcome::judged, refusals::specs::Outcome::first_or))]
 fn speed_of(code: u32, number: f64) -> Result<Speed, Refusal>
     ensures { outcome result ≡ speed_of code number }
 {
@@ -26,8 +28,18 @@ fn speed_of(code: u32, number: f64) -> Result<Speed, Refusal>
     }
 }
 
-// The speed that a pool is asked with. A code outside its set waits for what else the pool is refused with, but goes before a bad record: both are 11, and a
-// single argument counts before a list item.
+// What a pool with an unknown speed code is refused with. The code waits for what else the pool is refused with, but goes before a bad record: both are 11, and
+// a single argument counts before a list item.
+fn refusal_beside(unknown: Refusal, records: &[u8], asked: bool, room: usize) -> Refusal
+    ensures { (code : ℕ) (speed : Float) → outcome (Err unknown) ≡ speed_of code speed → outcome (Err result) ≡ speed_for records.now (asked && too_little records.now room) code speed }
+{
+    match pool::loans::judge_pool(records, asked, room) {
+        Err(refusal) if refusal.cause != Cause::Record => refusal,
+        _ => unknown,
+    }
+}
+
+// The speed that a pool is asked with.
 fn speed_for(
     records: &[u8],
     asked: bool,
@@ -37,19 +49,11 @@ fn speed_for(
 ) -> Result<Speed, Refusal>
     ensures { outcome result ≡ speed_for records.now (asked && too_little records.now room) code number }
 {
-    match speed_of(code, number) {
-        Ok(speed) => Ok(speed),
-        Err(unknown) => match pool::loans::judge_pool(records, asked, room) {
-            Err(refusal) => match refusal.cause {
-                Cause::Record => Err(unknown),
-                _ => Err(refusal),
-            },
-            Ok(()) => Err(unknown),
-        },
-    }
+    speed_of(code, number).map_err(|unknown| refusal_beside(unknown, records, asked, room))
 }
 
 // The share of a balance that is prepaid in a month.
+#[tactic(auto, unfolding(crate::specs::Told::told, crate::specs::Pools::smm_of))]
 #[unsafe(no_mangle)]
 pub extern "C" fn senyolanda_monthly_smm(
     speed: u32,
@@ -60,16 +64,15 @@ pub extern "C" fn senyolanda_monthly_smm(
 ) -> u64
     ensures { (result, smm.new) ≡ told_number (smm_of speed number history.now month) smm.old }
 {
-    match speed_of(speed, number) {
-        Err(refusal) => refusal_result(refusal),
-        Ok(given) => {
-            *smm = pool::speed::monthly_smm(given, history, month);
-            ACCEPTED
-        }
-    }
+    let given = speed_of(speed, number);
+    put(
+        given.map(|speed| pool::speed::monthly_smm(speed, history, month)),
+        smm,
+    )
 }
 
 // Writes three numbers for each month of the longest term: principal, interest, prepayment.
+#[tactic(auto, unfolding(crate::specs::Told::told, crate::specs::Pools::months_of, crate::specs::Pools::room_after))]
 #[unsafe(no_mangle)]
 pub extern "C" fn senyolanda_pool_cash_flows(
     records: &[u8],
@@ -84,12 +87,10 @@ pub extern "C" fn senyolanda_pool_cash_flows(
 {
     match speed_for(records, true, room.len(), speed, number) {
         Err(refusal) => refusal_result(refusal),
-        Ok(given) => {
-            put_count(
-                pool::flows::cash_flows(records, given, history, room),
-                months,
-            )
-        }
+        Ok(given) => put(
+            pool::flows::cash_flows(records, given, history, room),
+            months,
+        ),
     }
 }
 
@@ -105,10 +106,11 @@ pub extern "C" fn senyolanda_pool_price(
 ) -> u64
     ensures { (result, price.new) ≡ told_number (and_then (speed_for records.now false speed number) (λ (s : Speed). placed (pool_price records.now s history.now rate))) price.old }
 {
-    match speed_for(records, false, 0, speed, number) {
-        Err(refusal) => refusal_result(refusal),
-        Ok(given) => { put_number(pool::price::price(records, given, history, rate), price) }
-    }
+    let given = speed_for(records, false, 0, speed, number);
+    put(
+        given.and_then(|speed| pool::price::price(records, speed, history, rate)),
+        price,
+    )
 }
 
 #[unsafe(no_mangle)]
@@ -122,15 +124,11 @@ pub extern "C" fn senyolanda_pool_duration(
 ) -> u64
     ensures { (result, duration.new) ≡ told_number (and_then (speed_for records.now false speed number) (λ (s : Speed). placed (pool_duration records.now s history.now rate))) duration.old }
 {
-    match speed_for(records, false, 0, speed, number) {
-        Err(refusal) => refusal_result(refusal),
-        Ok(given) => {
-            put_number(
-                pool::price::duration(records, given, history, rate),
-                duration,
-            )
-        }
-    }
+    let given = speed_for(records, false, 0, speed, number);
+    put(
+        given.and_then(|speed| pool::price::duration(records, speed, history, rate)),
+        duration,
+    )
 }
 
 #[unsafe(no_mangle)]
@@ -144,15 +142,17 @@ pub extern "C" fn senyolanda_pool_convexity(
 ) -> u64
     ensures { (result, convexity.new) ≡ told_number (and_then (speed_for records.now false speed number) (λ (s : Speed). placed (pool_convexity records.now s history.now rate))) convexity.old }
 {
-    match speed_for(records, false, 0, speed, number) {
-        Err(refusal) => refusal_result(refusal),
-        Ok(given) => {
-            put_number(
-                pool::price::convexity(records, given, history, rate),
-                convexity,
-            )
-        }
-    }
+    let given = speed_for(records, false, 0, speed, number);
+    put(
+        given.and_then(|speed| pool::price::convexity(records, speed, history, rate)),
+        convexity,
+    )
+}
+
+fn totals_numbers(sums: Totals) -> [f64; 3]
+    ensures { result ≡ totals_numbers sums }
+{
+    [sums.balance, sums.coupon, sums.maturity]
 }
 
 // Balance, and the coupon and maturity that it weighs.
@@ -160,11 +160,8 @@ pub extern "C" fn senyolanda_pool_convexity(
 pub extern "C" fn senyolanda_pool_totals(records: &[u8], totals: &mut [f64; 3]) -> u64
     ensures { (result, totals.new) ≡ told totals_numbers (placed (pool_totals records.now)) totals.old }
 {
-    match pool::totals::pool_totals(records) {
-        Err(refusal) => refusal_result(refusal),
-        Ok(sums) => {
-            *totals = [sums.balance, sums.coupon, sums.maturity];
-            ACCEPTED
-        }
-    }
+    put(
+        pool::totals::pool_totals(records).map(totals_numbers),
+        totals,
+    )
 }

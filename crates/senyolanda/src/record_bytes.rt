@@ -1,4 +1,6 @@
 // Readers and writers of records, kinds 1 to 5.
+#![tactic(auto, unfolding(crate::specs::Told::told, refusals::specs::Table::bad_code, refusals::specs::Table::no_such_date, refusals::specs::Outcome::judged, refusals::specs::Outcome::first_or))]
+
 ghost use Rattle.std.specs.Prelude.{◌≡◌, [], ◌∷◌};
 ghost use Rattle.refusals.specs.Outcome.{line, judged};
 ghost use Rattle.refusals.specs.Table.{bad_code, no_such_date};
@@ -9,9 +11,9 @@ ghost use Rattle.senyolanda.specs.Bonds.{bond_numbers};
 ghost use Rattle.senyolanda.specs.Dates.{date_of, held_by_record, written_lines};
 ghost use Rattle.senyolanda.specs.Swaps.{swap_numbers, dated_swap_numbers};
 
-use crate::date_counts::DATE_NUMBERS;
+use crate::codes::code_within;
+use crate::date_counts::{DATE_NUMBERS, date_numbers, held_date};
 use crate::results::{ACCEPTED, refusal_result};
-use dates::Date;
 use records::{BondRecord, DatedSwapRecord, Row, SwapRecord, Terms};
 use refusals::Cause;
 
@@ -69,7 +71,7 @@ pub extern "C" fn senyolanda_read_bond(
             *face = bond.face;
             *coupon = bond.coupon;
             *maturity = bond.maturity;
-            *frequency = bond.frequency as u32;
+            *frequency = u32::from(bond.frequency);
             ACCEPTED
         }
     }
@@ -86,17 +88,19 @@ pub extern "C" fn senyolanda_write_bond(
 ) -> u64
     ensures { (result, «record».new) ≡ told bond_bytes (judged (line 11 (bad_code 3 frequency) ∷ []) (record { face = face; coupon = coupon; maturity = maturity; frequency = frequency })) «record».old }
 {
-    if frequency > 3 {
-        return refusal_result(refusals::refuse(Cause::Record));
+    match code_within(frequency, 3) {
+        Err(refusal) => refusal_result(refusal),
+        Ok(frequency) => {
+            let bond = BondRecord {
+                face,
+                coupon,
+                maturity,
+                frequency,
+            };
+            records::bond_record::write_bond(bond, record);
+            ACCEPTED
+        }
     }
-    let bond = BondRecord {
-        face,
-        coupon,
-        maturity,
-        frequency: frequency as u8,
-    };
-    records::bond_record::write_bond(bond, record);
-    ACCEPTED
 }
 
 #[unsafe(no_mangle)]
@@ -163,7 +167,7 @@ pub extern "C" fn senyolanda_read_swap(
             *rate = swap.rate;
             *tenor = swap.tenor;
             *frequency = swap.frequency;
-            *day_count = swap.count as u32;
+            *day_count = u32::from(swap.count);
             ACCEPTED
         }
     }
@@ -181,18 +185,20 @@ pub extern "C" fn senyolanda_write_swap(
 ) -> u64
     ensures { (result, «record».new) ≡ told swap_bytes (judged (line 11 (bad_code 2 day_count) ∷ []) (record { notional = notional; rate = rate; tenor = tenor; frequency = frequency; count = day_count })) «record».old }
 {
-    if day_count > 2 {
-        return refusal_result(refusals::refuse(Cause::Record));
+    match code_within(day_count, 2) {
+        Err(refusal) => refusal_result(refusal),
+        Ok(count) => {
+            let swap = SwapRecord {
+                notional,
+                rate,
+                tenor,
+                frequency,
+                count,
+            };
+            records::swap_record::write_swap(swap, record);
+            ACCEPTED
+        }
     }
-    let swap = SwapRecord {
-        notional,
-        rate,
-        tenor,
-        frequency,
-        count: day_count as u8,
-    };
-    records::swap_record::write_swap(swap, record);
-    ACCEPTED
 }
 
 #[unsafe(no_mangle)]
@@ -211,31 +217,16 @@ pub extern "C" fn senyolanda_read_dated_swap(
     match records::dated_swap_record::read_dated_swap(record) {
         Err(refusal) => refusal_result(refusal),
         Ok(swap) => {
-            let from = swap.first;
-            let to = swap.second;
             *notional = swap.notional;
             *rate = swap.rate;
             *tenor = swap.tenor;
             *frequency = swap.frequency;
-            *first = [from.year as u32, from.month as u32, from.day as u32];
-            *second = [to.year as u32, to.month as u32, to.day as u32];
-            *day_count = swap.count as u32;
+            *first = date_numbers(swap.first);
+            *second = date_numbers(swap.second);
+            *day_count = u32::from(swap.count);
             ACCEPTED
         }
     }
-}
-
-// Line 15, of a date that a record cannot hold.
-fn too_large(year: u32, month: u32, day: u32) -> bool
-    ensures { result ≡ no_such_date (held_by_record (date_of year month day)) }
-{
-    if year > 0xffff {
-        return true;
-    }
-    if month > 0xff {
-        return true;
-    }
-    day > 0xff
 }
 
 // A day count code outside 0 to 2 is line 11, and a date that the record cannot hold is line 15; any other is written, of the calendar or not.
@@ -256,32 +247,23 @@ pub extern "C" fn senyolanda_write_dated_swap(
 ) -> u64
     ensures { (result, «record».new) ≡ told dated_swap_bytes (judged (written_lines day_count (date_of first_year first_month first_day) (date_of second_year second_month second_day)) (record { notional = notional; rate = rate; tenor = tenor; frequency = frequency; first = date_of first_year first_month first_day; second = date_of second_year second_month second_day; count = day_count })) «record».old }
 {
-    if day_count > 2 {
-        return refusal_result(refusals::refuse(Cause::Record));
+    let first = held_date(first_year, first_month, first_day);
+    let second = held_date(second_year, second_month, second_day);
+    match (code_within(day_count, 2), first, second) {
+        (Err(refusal), _, _) => refusal_result(refusal),
+        (Ok(count), Some(first), Some(second)) => {
+            let swap = DatedSwapRecord {
+                notional,
+                rate,
+                tenor,
+                frequency,
+                first,
+                second,
+                count,
+            };
+            records::dated_swap_record::write_dated_swap(swap, record);
+            ACCEPTED
+        }
+        _ => refusal_result(refusals::refuse(Cause::Date)),
     }
-    if too_large(first_year, first_month, first_day) {
-        return refusal_result(refusals::refuse(Cause::Date));
-    }
-    if too_large(second_year, second_month, second_day) {
-        return refusal_result(refusals::refuse(Cause::Date));
-    }
-    let swap = DatedSwapRecord {
-        notional,
-        rate,
-        tenor,
-        frequency,
-        first: Date {
-            year: first_year as u16,
-            month: first_month as u8,
-            day: first_day as u8,
-        },
-        second: Date {
-            year: second_year as u16,
-            month: second_month as u8,
-            day: second_day as u8,
-        },
-        count: day_count as u8,
-    };
-    records::dated_swap_record::write_dated_swap(swap, record);
-    ACCEPTED
 }

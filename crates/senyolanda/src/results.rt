@@ -12,28 +12,34 @@ pub(crate) const ACCEPTED: u64 = 0;
 pub(crate) fn refusal_result(refusal: Refusal) -> u64
     ensures { result ≡ refusal_result (number refusal.cause) refusal.place }
 {
-    refusal.number() as u64 + 0x1_0000_0000 * (refusal.place as u64)
+    u64::from(refusal.number()) + 0x1_0000_0000 * u64::from(refusal.place)
 }
 
-pub(crate) fn put_number(answer: Result<f64, Refusal>, place: &mut f64) -> u64
+// The result of a call that answers with a value, and the value in its place.
+pub(crate) fn put<T: Copy>(answer: Result<T, Refusal>, place: &mut T) -> u64
     ensures { (result, place.new) ≡ told_number (outcome answer) place.old }
 {
     match answer {
         Err(refusal) => refusal_result(refusal),
-        Ok(x) => {
-            *place = x;
+        Ok(value) => {
+            *place = value;
             ACCEPTED
         }
     }
 }
 
-pub(crate) fn put_count(answer: Result<u32, Refusal>, place: &mut u32) -> u64
-    ensures { (result, place.new) ≡ told_number (outcome answer) place.old }
+// The same of a value in two places.
+pub(crate) fn put_two<T: Copy, U: Copy>(
+    answer: Result<(T, U), Refusal>,
+    first: &mut T,
+    second: &mut U,
+) -> u64
+    ensures { (result, (first.new, second.new)) ≡ told_number (outcome answer) (first.old, second.old) }
 {
     match answer {
         Err(refusal) => refusal_result(refusal),
-        Ok(n) => {
-            *place = n;
+        Ok(values) => {
+            (*first, *second) = values;
             ACCEPTED
         }
     }
@@ -43,8 +49,5 @@ pub(crate) fn put_count(answer: Result<u32, Refusal>, place: &mut u32) -> u64
 pub(crate) fn verdict_result(verdict: Result<(), Refusal>) -> u64
     ensures { (result, tt) ≡ told_number (outcome verdict) tt }
 {
-    match verdict {
-        Err(refusal) => refusal_result(refusal),
-        Ok(()) => ACCEPTED,
-    }
+    verdict.map_or_else(refusal_result, |()| ACCEPTED)
 }

@@ -8,7 +8,7 @@ ghost use Rattle.spread_analytics.specs.Spread.{pv_cash_flows, z_spread, duratio
 ghost use Rattle.senyolanda.specs.Told.{always, told, told_number};
 ghost use Rattle.senyolanda.specs.Spreads.{spread_numbers, sensitivity_numbers};
 
-use crate::results::{ACCEPTED, put_count, put_number, refusal_result};
+use crate::results::{ACCEPTED, put, put_two};
 use refusals::Refusal;
 use spread_analytics::spread::{Sensitivity, Spread};
 use spread_analytics::units::BasisPoints;
@@ -31,7 +31,7 @@ pub extern "C" fn senyolanda_zero_curve_rate(
 ) -> u64
     ensures { (result, rate.new) ≡ told_number (rate_at tenors.now rates.now t) rate.old }
 {
-    put_number(
+    put(
         spread_analytics::rate_curves::rate_at(tenors, rates, t),
         rate,
     )
@@ -46,7 +46,7 @@ pub extern "C" fn senyolanda_swap_curve_rate(
 ) -> u64
     ensures { (result, rate.new) ≡ told_number (rate_at tenors.now rates.now tenor) rate.old }
 {
-    put_number(
+    put(
         spread_analytics::rate_curves::swap_rate_at(tenors, rates, tenor),
         rate,
     )
@@ -61,7 +61,7 @@ pub extern "C" fn senyolanda_zero_curve_discount_factor(
 ) -> u64
     ensures { (result, factor.new) ≡ told_number (discount_factor tenors.now rates.now t) factor.old }
 {
-    put_number(
+    put(
         spread_analytics::rate_curves::discount_factor(tenors, rates, t),
         factor,
     )
@@ -77,7 +77,7 @@ pub extern "C" fn senyolanda_zero_curve_forward_rate(
 ) -> u64
     ensures { (result, rate.new) ≡ told_number (forward_rate tenors.now rates.now t1 t2) rate.old }
 {
-    put_number(
+    put(
         spread_analytics::rate_curves::forward_rate(tenors, rates, t1, t2),
         rate,
     )
@@ -101,42 +101,29 @@ pub extern "C" fn senyolanda_bond_cash_flows(
     let count = spread_analytics::flows::bond_cash_flows(
         face, coupon, tenor, frequency, times, amounts,
     );
-    put_count(count, flows)
+    put(count, flows)
+}
+
+// A spread in points, and whether it was found.
+fn spread_numbers(spread: Spread) -> (f64, u32)
+    ensures { told spread_numbers (spread_outcome (Ok spread)) result ≡ always result }
+{
+    match spread {
+        Spread::Found(at) => (at.0, 1),
+        Spread::NoSignChange(nearer_end) => (nearer_end.0, 0),
+    }
 }
 
 pub(crate) fn put_spread(answer: Result<Spread, Refusal>, points: &mut f64, found: &mut u32) -> u64
     ensures { (result, (points.new, found.new)) ≡ told spread_numbers (spread_outcome answer) (points.old, found.old) }
 {
-    match answer {
-        Err(refusal) => refusal_result(refusal),
-        Ok(spread) => match spread {
-            Spread::Found(at) => {
-                *points = at.0;
-                *found = 1;
-                ACCEPTED
-            }
-            Spread::NoSignChange(nearer_end) => {
-                *points = nearer_end.0;
-                *found = 0;
-                ACCEPTED
-            }
-        },
-    }
+    put_two(answer.map(spread_numbers), points, found)
 }
 
-pub(crate) fn put_sensitivity(
-    answer: Result<Sensitivity, Refusal>,
-    sensitivity: &mut [f64; 2],
-) -> u64
-    ensures { (result, sensitivity.new) ≡ told sensitivity_numbers (outcome answer) sensitivity.old }
+pub(crate) fn sensitivity_numbers(given: Sensitivity) -> [f64; 2]
+    ensures { result ≡ sensitivity_numbers given }
 {
-    match answer {
-        Err(refusal) => refusal_result(refusal),
-        Ok(given) => {
-            *sensitivity = [given.duration, given.convexity];
-            ACCEPTED
-        }
-    }
+    [given.duration, given.convexity]
 }
 
 // The present value of flows over a curve and a spread.
@@ -152,7 +139,7 @@ pub extern "C" fn senyolanda_pv_cash_flows(
     ensures { (result, pv.new) ≡ told_number (pv_cash_flows times.now amounts.now tenors.now rates.now points) pv.old }
 {
     let spread = BasisPoints(points);
-    put_number(
+    put(
         spread_analytics::spread::pv_cash_flows(times, amounts, tenors, rates, spread),
         pv,
     )
@@ -188,8 +175,6 @@ pub extern "C" fn senyolanda_duration_convexity(
     ensures { (result, sensitivity.new) ≡ told sensitivity_numbers (duration_convexity times.now amounts.now tenors.now rates.now points) sensitivity.old }
 {
     let spread = BasisPoints(points);
-    put_sensitivity(
-        spread_analytics::spread::duration_convexity(times, amounts, tenors, rates, spread),
-        sensitivity,
-    )
+    let given = spread_analytics::spread::duration_convexity(times, amounts, tenors, rates, spread);
+    put(given.map(sensitivity_numbers), sensitivity)
 }

@@ -1,13 +1,12 @@
 // Year-end totals: the draw with lent lines beside its rows, and the lookup of a year.
 ghost use Rattle.std.specs.Prelude.{◌≡◌};
 ghost use Rattle.mortgage.specs.Years.{year_places};
-ghost use Rattle.refusals.specs.Answers.{outcome};
 ghost use Rattle.mortgage.specs.Level.{drawn_with_years, filled_with_years, summed, looked_up};
 ghost use Rattle.senyolanda.specs.Told.{told};
 ghost use Rattle.senyolanda.specs.Loans.{loan_in, portion_numbers};
 
 use crate::loans::{AMOUNTS, COUNTS, loan_in, put_portion};
-use crate::results::{ACCEPTED, refusal_result};
+use crate::results::put;
 use mortgage::years::Year;
 use refusals::Refusal;
 
@@ -29,20 +28,11 @@ pub extern "C" fn senyolanda_draw_with_years(
     put_portion(drawing, counts, amounts, written, owed)
 }
 
-// A year's line that was looked up.
-pub(crate) fn put_year(
-    answer: Result<Year, Refusal>,
-    line: &mut [f64; mortgage::years::YEAR_WIDTH],
-) -> u64
-    ensures { (result, line.new) ≡ told year_places (outcome answer) line.old }
+// A year's line.
+pub(crate) fn year_places(year: Year) -> [f64; mortgage::years::YEAR_WIDTH]
+    ensures { result ≡ year_places year }
 {
-    match answer {
-        Err(refusal) => refusal_result(refusal),
-        Ok(year) => {
-            *line = [year.months, year.interest, year.principal, year.balance];
-            ACCEPTED
-        }
-    }
+    [year.months, year.interest, year.principal, year.balance]
 }
 
 // The line of a year, counted from 1.
@@ -56,8 +46,6 @@ pub extern "C" fn senyolanda_look_up_year(
 ) -> u64
     ensures { (result, line.new) ≡ told year_places (looked_up (loan_in counts.now amounts.now) years.now year) line.old }
 {
-    put_year(
-        mortgage::years::look_up_year(loan_in(counts, amounts), years, year),
-        line,
-    )
+    let found = mortgage::years::look_up_year(loan_in(counts, amounts), years, year);
+    put(found.map(year_places), line)
 }

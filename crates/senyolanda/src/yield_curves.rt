@@ -4,7 +4,7 @@ ghost use Rattle.yield_curve.specs.Linear.{linear_interpolate, discount_factor, 
 ghost use Rattle.yield_curve.specs.Spline.{cubic_spline_interpolate};
 ghost use Rattle.senyolanda.specs.Told.{told_number};
 
-use crate::results::put_number;
+use crate::results::put;
 
 #[unsafe(no_mangle)]
 pub extern "C" fn senyolanda_linear_interpolate(
@@ -15,7 +15,7 @@ pub extern "C" fn senyolanda_linear_interpolate(
 ) -> u64
     ensures { (result, rate.new) ≡ told_number (linear_interpolate times.now rates.now t) rate.old }
 {
-    put_number(
+    put(
         yield_curve::linear::linear_interpolate(times, rates, t),
         rate,
     )
@@ -31,7 +31,7 @@ pub extern "C" fn senyolanda_cubic_spline_interpolate(
 ) -> u64
     ensures { (result, rate.new) ≡ told_number (cubic_spline_interpolate times.now rates.now t) rate.old }
 {
-    put_number(
+    put(
         yield_curve::spline::cubic_spline_interpolate(times, rates, t),
         rate,
     )
@@ -46,7 +46,7 @@ pub extern "C" fn senyolanda_yield_curve_discount_factor(
 ) -> u64
     ensures { (result, factor.new) ≡ told_number (discount_factor times.now rates.now t) factor.old }
 {
-    put_number(
+    put(
         yield_curve::linear::discount_factor(times, rates, t),
         factor,
     )
@@ -62,7 +62,7 @@ pub extern "C" fn senyolanda_yield_curve_forward_rate(
 ) -> u64
     ensures { (result, rate.new) ≡ told_number (forward_rate times.now rates.now t1 t2) rate.old }
 {
-    put_number(
+    put(
         yield_curve::linear::forward_rate(times, rates, t1, t2),
         rate,
     )
@@ -73,5 +73,5 @@ pub extern "C" fn senyolanda_yield_curve_forward_rate(
 pub extern "C" fn senyolanda_par_yield(times: &[f64], rates: &[f64], t: f64, par: &mut f64) -> u64
     ensures { (result, par.new) ≡ told_number (par_yield times.now rates.now t) par.old }
 {
-    put_number(yield_curve::linear::par_yield(times, rates, t), par)
+    put(yield_curve::linear::par_yield(times, rates, t), par)
 }

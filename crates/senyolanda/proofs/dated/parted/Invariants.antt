@@ -1,11 +1,15 @@
 -- `senyolanda::dated::parted` meets its contract: the times and amounts of the flows before the one in hand lie in their places. Assumes nothing.
-use Prim.Native.Nat.{◌*◌, ◌-◌, ◌≤◌}
-use lib.ListN.{length}
-use Rattle.senyolanda.proofs.DatedAmounts.{Filled, time_at, amount_at}
+use mathlib.Core.Path.{◌≡◌}
+use Prim.Native.Nat.{ℕ, ◌<◌}
+use lib.ListN.{length, get_or}
+use lib.Ieee.{nan}
+use Rattle.senyolanda.proofs.DatedAmounts.{time_at, amount_at}
 use Rattle.senyolanda.proofs.dated.parted.Given as goal
 
 abbrev pub invariant-loop-i : goal.invariant-loop-i
-invariant-loop-i l = (l.i ≤ l.n) × ((l.n * 2 ≤ length l.flows) × (l.n ≤ 1201)) × Filled l.times (time_at l.flows) l.i × Filled l.amounts (amount_at l.flows) l.i
-
-abbrev pub decreases-loop-i : goal.decreases-loop-i
-decreases-loop-i l = l.n - l.i
+invariant-loop-i l = record {
+  room_for_times : length l.times ≡ 1201;
+  room_for_amounts : length l.amounts ≡ 1201;
+  times : (k : ℕ) → k < l.i → get_or l.times k nan ≡ time_at l.flows k;
+  amounts : (k : ℕ) → k < l.i → get_or l.amounts k nan ≡ amount_at l.flows k;
+}

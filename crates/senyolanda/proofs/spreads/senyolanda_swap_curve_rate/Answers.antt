@@ -1,6 +1,0 @@
--- `senyolanda::spreads::senyolanda_swap_curve_rate` meets its contract. Assumes nothing.
-use Rattle.senyolanda.proofs.Handed.{told_as}
-use Rattle.senyolanda.proofs.spreads.senyolanda_swap_curve_rate.Goals as goal
-
-pub returns : goal.returns
-returns c = told_as _ _ _ _ _ c.put_number.ensures c.swap_rate_at.ensures

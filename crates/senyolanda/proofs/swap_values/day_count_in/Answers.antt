@@ -1,0 +1,10 @@
+-- `senyolanda::swap_values::day_count_in` meets its contract. Assumes nothing.
+use Rattle.std.proofs.Common.{rules}
+use Rattle.swaps.specs.Codes.{day_count_of}
+use Rattle.swaps.specs.Swap.{payments}
+use Rattle.senyolanda.proofs.Coded.{waits}
+use Rattle.senyolanda.proofs.swap_values.day_count_in.Goals as goal
+
+pub returns : goal.returns
+unfolding day_count_of payments
+returns c = waits _ _ _ _ _ c.day_count_of.ensures c.or_else.ensures (λ x p. p) (λ r p. search rules)

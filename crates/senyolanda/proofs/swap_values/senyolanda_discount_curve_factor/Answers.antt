@@ -1,6 +1,0 @@
--- `senyolanda::swap_values::senyolanda_discount_curve_factor` meets its contract. Assumes nothing.
-use Rattle.senyolanda.proofs.Handed.{told_as}
-use Rattle.senyolanda.proofs.swap_values.senyolanda_discount_curve_factor.Goals as goal
-
-pub returns : goal.returns
-returns c = told_as _ _ _ _ _ c.put_number.ensures c.discount_factor.ensures

@@ -1,6 +1,0 @@
--- `senyolanda::swap_values::senyolanda_swap_duration` meets its contract. Assumes nothing.
-use Rattle.senyolanda.proofs.Handed.{of_what_was_read}
-use Rattle.senyolanda.proofs.swap_values.senyolanda_swap_duration.Goals as goal
-
-pub returns : goal.returns
-returns c = of_what_was_read _ _ _ _ _ _ c.put_duration.ensures c.swap_in-read.ensures

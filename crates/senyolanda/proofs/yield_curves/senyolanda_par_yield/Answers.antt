@@ -1,6 +1,0 @@
--- `senyolanda::yield_curves::senyolanda_par_yield` meets its contract. Assumes nothing.
-use Rattle.senyolanda.proofs.Handed.{told_as}
-use Rattle.senyolanda.proofs.yield_curves.senyolanda_par_yield.Goals as goal
-
-pub returns : goal.returns
-returns c = told_as _ _ _ _ _ c.put_number.ensures c.par_yield.ensures
