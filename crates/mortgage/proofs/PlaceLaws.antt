@@ -1,6 +1,8 @@
 -- Rows from places of a room: where some are laid they are due and lie within the room, two loans' apart; and all that are asked for are laid where they are due and the room holds them.
 -- Assumes nothing.
-use mathlib.Core.Path.{◌≡◌, ◌∙◌}
+use mathlib.Core.Path.{◌≡◌, ap, ◌∙◌}
+use mathlib.Core.List.{List}
+use lib.Ieee.{Float}
 use Prim.Native.Nat.{ℕ, ◌+◌, ◌-◌, ◌*◌, ◌<◌, ◌≤◌, min}
 use native.Mathlib.Omega.{arith}
 use Rattle.mortgage.specs.declared.Loan.{Loan}
@@ -9,6 +11,7 @@ use Rattle.mortgage.specs.Kinds.{Way, level}
 use Rattle.mortgage.specs.Month.{end_month, due}
 use Rattle.mortgage.specs.Rows.{after}
 use Rattle.mortgage.specs.Places.{count_at, count_at_both}
+use Rattle.mortgage.specs.inner.Laying.{LaysPair}
 use Rattle.mortgage.proofs.RowLaws.{end_after, done_after}
 
 -- ---- what is laid
@@ -30,6 +33,14 @@ both_within x y asked a b end p q n ep eq e some =
     let f = laid_within x asked a b n (rw (← ep) m.0) some in
     let g = laid_within y asked b end n (rw (← eq) m.1) some in
     ((f.0, f.1, g.1), (f.2, g.2))
+
+-- the months done tell how many rows of each were laid
+pub both_counted : {k most a b : ℕ} {x y x' y' : Loan} {room room' : List Float} → LaysPair k a b x y room x' y' room' → k < most
+    → LaysPair (x'.done - x.done) a b x y room x' y' room' × ((x.done ≤ x'.done) × (x'.done < x.done + most))
+both_counted {k} {most} {a} {b} {x} {y} {x'} on h =
+    let done : x'.done ≡ x.done + k = ap (λ (l : Loan). l.done) on.x_state ∙ done_after level k x in
+    let many : x'.done - x.done ≡ k = omega arith in
+    (rw many on, (omega arith, omega arith))
 
 -- after k of n months that are due, so are the rest
 pub rest_within : (way : Way) (k n : ℕ) (l₀ l : Loan) → l ≡ after way k l₀ → k ≤ n → l₀.done + n ≤ end_month way l₀ → l.done + (n - k) ≤ end_month way l

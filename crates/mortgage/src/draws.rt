@@ -1,5 +1,5 @@
 // Draws: the rows of a loan in hand of any kind, as many as are due and the lent room holds.
-ghost use Rattle.std.specs.Prelude.{◌≡◌, ◌+◌, ◌*◌, ◌<◌, ◌≤◌, length};
+ghost use Rattle.std.specs.Prelude.{◌≡◌, ◌+◌, ◌-◌, ◌*◌, ◌<◌, ◌≤◌, length};
 ghost use Rattle.std.proofs.lemmas.List.Edits.{sets};
 ghost use Rattle.mortgage.specs.Row.{width, places};
 ghost use Rattle.mortgage.specs.Kinds.{way_of, adjustable, later_years};
@@ -29,13 +29,6 @@ pub struct Portion {
     pub loan: Loan,
 }
 
-// Rows that were written, and the loan after them.
-#[derive(Clone, Copy)]
-struct Run {
-    count: u32,
-    loan: Loan,
-}
-
 // Of the rows due, those that so many places hold.
 pub(crate) fn rows_within(due: u32, places: usize) -> u32
     ensures { result ≡ fitting due places width }
@@ -57,27 +50,24 @@ pub(crate) fn put_row(room: &mut [f64], at: usize, row: Row)
     ]);
 }
 
-// Rows of ordinary months, at most so many: it stops before a month whose principal a bound changes.
+// Rows of ordinary months, at most so many: it stops before a month whose principal a bound changes, and the months done tell how many there are.
 // The bounds are ways out of the loop, so that each row waits only for a product and two differences.
 #[tactic(auto, unfolding(steps::specs::Steps::stepped, steps::specs::Steps::pieces))]
-fn ordinary_rows(loan: Loan, course: Course, room: &mut [f64], most: u32) -> Run
+fn ordinary_rows(loan: Loan, course: Course, room: &mut [f64], most: u32) -> Loan
     requires { (most * width ≤ length room.old) × (course.only ≤ loan.done) × (loan.done + most < course.end) }
-    ensures laid { LaysOn course result.count loan room.old result.loan room.new }
-    ensures at_most { result.count ≤ most }
+    ensures laid { LaysOn course (result.done - loan.done) loan room.old result room.new }
+    ensures at_most { (loan.done ≤ result.done) × (result.done ≤ loan.done + most) }
 {
     let rate = crate::payment::monthly_rate(loan.rate);
     let mut l = loan;
     for k in 0..most {
         let Some(month) = crate::rows::ordinary_month(l, course, l.balance * rate) else {
-            return Run { count: k, loan: l };
+            break;
         };
         put_row(room, k as usize * WIDTH, month.row);
         l = month.next;
     }
-    Run {
-        count: most,
-        loan: l,
-    }
+    l
 }
 
 // The next rows on a course, whatever months they are of.
@@ -101,13 +91,9 @@ pub(crate) fn lay_rows(loan: Loan, course: Course, room: &mut [f64], count: u32,
     requires ordinary { (most ≤ count) × (course.only ≤ loan.done) × (loan.done + most < course.end) }
     ensures { LaysOn course count loan room.old result room.new }
 {
-    let run = ordinary_rows(loan, course, room, most);
-    any_rows(
-        run.loan,
-        course,
-        &mut room[run.count as usize * WIDTH..],
-        count - run.count,
-    )
+    let next = ordinary_rows(loan, course, room, most);
+    let laid = next.done - loan.done;
+    any_rows(next, course, &mut room[laid as usize * WIDTH..], count - laid)
 }
 
 // The same, with as many ordinary months as there may be.
@@ -152,13 +138,9 @@ fn lay_year(loan: Loan, course: Course, room: &mut [f64], count: u32) -> Loan
     ensures { LaysOn course count loan room.old result room.new }
 {
     let most = count.min(course.end - loan.done - 1);
-    let run = ordinary_rows(loan, course, room, most);
-    lay_stretch(
-        run.loan,
-        course,
-        &mut room[run.count as usize * WIDTH..],
-        count - run.count,
-    )
+    let next = ordinary_rows(loan, course, room, most);
+    let laid = next.done - loan.done;
+    lay_stretch(next, course, &mut room[laid as usize * WIDTH..], count - laid)
 }
 
 // The next rows of an adjustable loan, year by year: what the next year begins with is worked out before this year's rows, which it does not wait for.

@@ -1,5 +1,5 @@
 // Rows at places of a room: one loan's, and two loans' at once.
-ghost use Rattle.std.specs.Prelude.{◌≡◌, ◌+◌, ◌*◌, ◌<◌, ◌≤◌, length};
+ghost use Rattle.std.specs.Prelude.{◌≡◌, ◌+◌, ◌-◌, ◌*◌, ◌<◌, ◌≤◌, length};
 ghost use Rattle.std.proofs.lemmas.List.Edits.{sets};
 ghost use Rattle.mortgage.specs.Row.{width};
 ghost use Rattle.mortgage.specs.Level.{end_month, after, rows};
@@ -17,22 +17,11 @@ pub struct Pair {
     pub second: Loan,
 }
 
-// Rows that were written of each of two loans, and the loans after them.
-#[derive(Clone, Copy)]
-struct PairRun {
-    count: u32,
-    first: Loan,
-    second: Loan,
-}
-
 // Of the rows that are asked for, those that are due and lie between the place and the end.
 fn count_at(loan: Loan, asked: u32, at: usize, end: usize) -> u32
     ensures { result ≡ count_at loan asked at end }
 {
-    if end < at {
-        return 0;
-    }
-    rows_within(crate::rows::rows_due(loan), end - at).min(asked)
+    rows_within(crate::rows::rows_due(loan), end.saturating_sub(at)).min(asked)
 }
 
 // The next rows of a loan, from a place of the room.
@@ -45,14 +34,14 @@ fn lay_from(loan: Loan, room: &mut [f64], at: usize, count: u32) -> Loan
     crate::draws::lay_rows(loan, course, &mut room[at..], count, count - 1)
 }
 
-// Rows of ordinary months of two loans at once, fewer than so many of each: it stops before a month whose principal a bound changes.
+// Rows of ordinary months of two loans at once, fewer than so many of each: it stops before a month whose principal a bound changes, and the months done tell how many there are.
 // The two wait for nothing of each other, so that one's product and differences are worked out while the other's are waited for.
 #[tactic(auto, unfolding(steps::specs::Steps::stepped, steps::specs::Steps::pieces))]
-fn pair_rows(first: Loan, second: Loan, room: &mut [f64], a: usize, b: usize, most: u32) -> PairRun
+fn pair_rows(first: Loan, second: Loan, room: &mut [f64], a: usize, b: usize, most: u32) -> Pair
     requires most_nonzero { (0 < most) × (a + most * width ≤ b) × (b + most * width ≤ length room.old) }
     requires most_bound { (first.done + most ≤ end_month first) × (second.done + most ≤ end_month second) }
-    ensures laid { LaysPair result.count a b first second room.old result.first result.second room.new }
-    ensures below { result.count < most }
+    ensures laid { LaysPair (result.first.done - first.done) a b first second room.old result.first result.second room.new }
+    ensures below { (first.done ≤ result.first.done) × (result.first.done < first.done + most) }
 {
     let x_course = level_course(first.term);
     let y_course = level_course(second.term);
@@ -61,21 +50,11 @@ fn pair_rows(first: Loan, second: Loan, room: &mut [f64], a: usize, b: usize, mo
     let mut x = first;
     let mut y = second;
     for k in 0..most - 1 {
-        let x_interest = x.balance * x_rate;
-        let y_interest = y.balance * y_rate;
-        let Some(x_month) = crate::rows::ordinary_month(x, x_course, x_interest) else {
-            return PairRun {
-                count: k,
-                first: x,
-                second: y,
-            };
+        let Some(x_month) = crate::rows::ordinary_month(x, x_course, x.balance * x_rate) else {
+            break;
         };
-        let Some(y_month) = crate::rows::ordinary_month(y, y_course, y_interest) else {
-            return PairRun {
-                count: k,
-                first: x,
-                second: y,
-            };
+        let Some(y_month) = crate::rows::ordinary_month(y, y_course, y.balance * y_rate) else {
+            break;
         };
         let laid = k as usize * WIDTH;
         put_row(room, a + laid, x_month.row);
@@ -83,8 +62,7 @@ fn pair_rows(first: Loan, second: Loan, room: &mut [f64], a: usize, b: usize, mo
         x = x_month.next;
         y = y_month.next;
     }
-    PairRun {
-        count: most - 1,
+    Pair {
         first: x,
         second: y,
     }
@@ -96,12 +74,12 @@ fn lay_pair(first: Loan, second: Loan, room: &mut [f64], a: usize, b: usize, cou
     requires count_bound { (first.done + count ≤ end_month first) × (second.done + count ≤ end_month second) }
     ensures { LaysPair count a b first second room.old result.first result.second room.new }
 {
-    let run = pair_rows(first, second, room, a, b, count);
-    let laid = run.count as usize * WIDTH;
-    let left = count - run.count;
+    let next = pair_rows(first, second, room, a, b, count);
+    let rows = next.first.done - first.done;
+    let laid = rows as usize * WIDTH;
     Pair {
-        first: lay_from(run.first, room, a + laid, left),
-        second: lay_from(run.second, room, b + laid, left),
+        first: lay_from(next.first, room, a + laid, count - rows),
+        second: lay_from(next.second, room, b + laid, count - rows),
     }
 }
 

@@ -120,19 +120,19 @@ fn with_rows(year: Year, room: &[f64], at: usize, count: u32) -> Year
 }
 
 // Enters rows of one year, which stand in the room from a place on, the first of them behind so many months.
-// A whole year has its own call, whose turns the compiler counts.
+// A whole year has its own calls: the compiler counts their turns, and adds the two sums side by side.
 fn enter_year(room: &[f64], at: usize, count: u32, done: u32, years: &mut [f64])
     requires count_nonzero { (0 < count) × (done % 12 + count ≤ 12) × (at + count * width ≤ length room.now) }
     requires year_width_in_bounds { done / 12 * year_width + year_width ≤ length years.old }
     ensures { years.new ≡ entered_up_to (rows_from room.now at done) count years.old }
 {
     let place = (done / 12) as usize * YEAR_WIDTH;
-    let year = if count == 12 {
-        with_rows(line_unbegun(), room, at, 12)
+    if count == 12 {
+        put_line(years, place, with_rows(line_unbegun(), room, at, 12));
     } else {
-        with_rows(line_to_go_on_from(years, place, done), room, at, count)
-    };
-    put_line(years, place, year);
+        let line = line_to_go_on_from(years, place, done);
+        put_line(years, place, with_rows(line, room, at, count));
+    }
 }
 
 // Enters the rows that stand at the start of the room, the first of them behind so many months, year by year.

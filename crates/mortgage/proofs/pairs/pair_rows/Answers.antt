@@ -7,6 +7,7 @@ use Rattle.mortgage.specs.Row.{places}
 use Rattle.mortgage.specs.Kinds.{level}
 use Rattle.mortgage.proofs.SteadyKinds.{interest_along, no_last_along, level_month}
 use Rattle.mortgage.proofs.DrawCases.{wide}
+use Rattle.mortgage.proofs.PlaceLaws.{both_counted}
 use Rattle.mortgage.proofs.pairs.pair_rows.Goals as goal
 
 pub ordinary_month-requires : goal.ordinary_month-requires
@@ -29,7 +30,11 @@ loop-k-preserved c =
     let below : c.loop-k.k < c.args.most = omega arith in
     one_of_both (wide level) i c.requires.most_nonzero.1 below (ap places x.0) x.1 (ap places y.0) y.1 c.put_row.ensures c.put_row-in-loop-k.ensures
 
-pub returns-clause-laid : goal.returns-clause-laid
-returns-clause-laid c =
-    let whole : c.loop-k.k ≡ c.args.most - 1 = omega arith in
-    rw (← whole) c.loop-k.invariant
+pub returns-after-loop-k : goal.returns-after-loop-k
+returns-after-loop-k c = let r = both_counted c.loop-k.invariant (omega arith) in record { laid = r.0; below = r.1 }
+
+pub returns-in_default : goal.returns-in_default
+returns-in_default c = let r = both_counted c.loop-k.invariant (omega arith) in record { laid = r.0; below = r.1 }
+
+pub returns-in_default-ordinary_month : goal.returns-in_default-ordinary_month
+returns-in_default-ordinary_month c = let r = both_counted c.loop-k.invariant (omega arith) in record { laid = r.0; below = r.1 }
