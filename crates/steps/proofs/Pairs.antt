@@ -30,7 +30,7 @@ module _ {S A : Type 0} {next : S → S} {writes : S → List A} {w : ℕ} (wide
         x_state = steps_on next k x₀ x x' i.x_state nx;
         y_state = steps_on next k y₀ y y' i.y_state ny;
         stand = e₂
-        ∙ rw (e₁, i.stand, px, py, i.x_state, i.y_state, add-one k) (behind_both (written next writes k x₀) (written next writes k y₀) x_last (writes (stepped next k y₀)) room₀ a b (k * w) (long x₀) (long y₀) m);
+            ∙ rw (e₁, i.stand, px, py, i.x_state, i.y_state, add-one k) (behind_both (written next writes k x₀) (written next writes k y₀) x_last (writes (stepped next k y₀)) room₀ a b (k * w) (long x₀) (long y₀) m);
       }
 
   -- k pieces of each, and then the rest of n of each
@@ -46,5 +46,5 @@ module _ {S A : Type 0} {next : S → S} {writes : S → List A} {w : ℕ} (wide
         x_state = stepped_rest next k n x₀ x₁ x₂ h i.x_state fx;
         y_state = stepped_rest next k n y₀ y₁ y₂ h i.y_state fy;
         stand = rw (e₃, e₂, i.stand, ← written_rest next writes k n x₀ x₁ h i.x_state, ← written_rest next writes k n y₀ y₁ h i.y_state)
-        (behind_both (written next writes k x₀) (written next writes k y₀) x_rest (written next writes (n - k) y₁) room₀ a b (k * w) (long x₀) (long y₀) m);
+            (behind_both (written next writes k x₀) (written next writes k y₀) x_rest (written next writes (n - k) y₁) room₀ a b (k * w) (long x₀) (long y₀) m);
       }
