@@ -114,7 +114,7 @@ def constant(path, text):
     crate, *modules, name = path.split("::") if "::" in path else ("", path)
     if crate:
         text = (ROOT / "crates" / crate / "src" / f"{'/'.join(modules) or 'lib'}.rt").read_text()
-    found = re.search(rf"^pub const {name}: usize = (\d+);", text, re.M)
+    found = re.search(rf"^(?:pub )?const {name}: usize = (\d+);", text, re.M)
     if not found:
         raise Unreadable(f"there is no number {path}")
     return found[1]
