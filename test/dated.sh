@@ -21,42 +21,38 @@ done
 cat >"$room/asking.rt" <<'END'
 // Flows as one list of dated amounts and as two lists, over a curve: for each function a line for either.
 use numbers::sizes::infinity;
-use refusals::Number;
 use refusals::Refusal;
 use spread_analytics::dated::CashFlow;
-use spread_analytics::spread::SensitivityAnswer;
-use spread_analytics::spread::SpreadAnswer;
+use spread_analytics::spread::{Sensitivity, Spread};
 use spread_analytics::units::BasisPoints;
 use std::io;
 
 fn say_refused(out: &impl Print, refusal: Refusal) -> io::Result<()> {
-    println!(out; " refused {} at {}", refusal.number, refusal.place)
+    println!(out; " {refusal}")
 }
 
-fn say_worth(out: &impl Print, answer: Number) -> io::Result<()> {
+fn say_worth(out: &impl Print, answer: Result<f64, Refusal>) -> io::Result<()> {
     print!(out; "worth")?;
     match answer {
-        Number::Refused(refusal) => say_refused(out, refusal),
-        Number::Given(worth) => println!(out; " {:016x}", worth.to_bits()),
+        Err(refusal) => say_refused(out, refusal),
+        Ok(worth) => println!(out; " {:016x}", worth.to_bits()),
     }
 }
 
-fn say_spread(out: &impl Print, answer: SpreadAnswer) -> io::Result<()> {
+fn say_spread(out: &impl Print, answer: Result<Spread, Refusal>) -> io::Result<()> {
     print!(out; "spread")?;
     match answer {
-        SpreadAnswer::Refused(refusal) => say_refused(out, refusal),
-        SpreadAnswer::Found(points) => println!(out; " found {:016x}", points.0.to_bits()),
-        SpreadAnswer::NoSignChange(points) => println!(out; " end {:016x}", points.0.to_bits()),
+        Err(refusal) => say_refused(out, refusal),
+        Ok(Spread::Found(points)) => println!(out; " found {:016x}", points.0.to_bits()),
+        Ok(Spread::NoSignChange(points)) => println!(out; " end {:016x}", points.0.to_bits()),
     }
 }
 
-fn say_sensitivity(out: &impl Print, answer: SensitivityAnswer) -> io::Result<()> {
+fn say_sensitivity(out: &impl Print, answer: Result<Sensitivity, Refusal>) -> io::Result<()> {
     print!(out; "sensitivity")?;
     match answer {
-        SensitivityAnswer::Refused(refusal) => say_refused(out, refusal),
-        SensitivityAnswer::Given(s) => {
-            println!(out; " {:016x} {:016x}", s.duration.to_bits(), s.convexity.to_bits())
-        }
+        Err(refusal) => say_refused(out, refusal),
+        Ok(s) => println!(out; " {:016x} {:016x}", s.duration.to_bits(), s.convexity.to_bits()),
     }
 }
 
