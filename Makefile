@@ -131,10 +131,8 @@ test: kit
 	$(MAKE) tests
 	@tail -n 1 build/gate.log
 
-# Every test but the gate, as many at once as there are processors; what each prints is shown whole, when it ends. The one whose
-# interpreter ends a run that takes long comes first, alone.
+# Every test but the gate, as many at once as there are processors; what each prints is shown whole, when it ends.
 tests: all build/test/senyolanda build/test/schedule $(FASTER:%=build/%/libsenyolanda.a)
-	$(MAKE) -f test/Makefile dated
 	$(MAKE) -f test/Makefile -j"$$(nproc)" --output-sync=target FASTER=$(FASTER)
 
 # The program, watching its memory where the compiler can.

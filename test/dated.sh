@@ -1,7 +1,8 @@
 #!/bin/sh
 # The functions over a lent list of dated amounts, run: programs that lend lists of flows to `pv_of`, `z_spread_of` and `duration_convexity_of`, and
 # the same flows as two lists to the functions over two, on the interpreter and compiled. What they should write is worked out below, by
-# document 01's steps in Python's own floats. Few flows and many are two programs, since the interpreter ends a run after so many steps.
+# document 01's steps in Python's own floats. Few flows, many as one list and many as two are three programs, since the interpreter ends a run
+# after so many steps.
 set -eu
 cd "$(dirname "$0")/.."
 room=$(mktemp -d)
@@ -14,7 +15,7 @@ for crate in spread_analytics $(sed -n 's/^spread_analytics://p' crates.txt); do
     done
     grep "^$crate:" crates.txt >>"$room/crates.txt"
 done
-for program in few many; do
+for program in few many many_lists; do
     echo "$program: spread_analytics curves refusals numbers" >>"$room/crates.txt"
 done
 
@@ -63,6 +64,8 @@ fn ask(
     rates: &[f64],
     points: f64,
     market: f64,
+    dated: bool,
+    lists: bool,
 ) -> io::Result<()> {
     let mut times = [0.0; 1201];
     let mut amounts = [0.0; 1201];
@@ -73,36 +76,26 @@ fn ask(
         amounts[i] = flows[i].amount;
         i += 1;
     }
-    say_worth(out, spread_analytics::dated::pv_of(flows, tenors, rates, BasisPoints(points)))?;
-    say_worth(
-        out,
-        spread_analytics::spread::pv_cash_flows(
-            &times[..n],
-            &amounts[..n],
-            tenors,
-            rates,
-            BasisPoints(points),
-        ),
-    )?;
-    say_spread(out, spread_analytics::dated::z_spread_of(flows, tenors, rates, market))?;
-    say_spread(
-        out,
-        spread_analytics::spread::z_spread(&times[..n], &amounts[..n], tenors, rates, market),
-    )?;
-    say_sensitivity(
-        out,
-        spread_analytics::dated::duration_convexity_of(flows, tenors, rates, BasisPoints(points)),
-    )?;
-    say_sensitivity(
-        out,
-        spread_analytics::spread::duration_convexity(
-            &times[..n],
-            &amounts[..n],
-            tenors,
-            rates,
-            BasisPoints(points),
-        ),
-    )
+    let points = BasisPoints(points);
+    if dated {
+        say_worth(out, spread_analytics::dated::pv_of(flows, tenors, rates, points))?;
+    }
+    if lists {
+        say_worth(out, spread_analytics::spread::pv_cash_flows(&times[..n], &amounts[..n], tenors, rates, points))?;
+    }
+    if dated {
+        say_spread(out, spread_analytics::dated::z_spread_of(flows, tenors, rates, market))?;
+    }
+    if lists {
+        say_spread(out, spread_analytics::spread::z_spread(&times[..n], &amounts[..n], tenors, rates, market))?;
+    }
+    if dated {
+        say_sensitivity(out, spread_analytics::dated::duration_convexity_of(flows, tenors, rates, points))?;
+    }
+    if lists {
+        say_sensitivity(out, spread_analytics::spread::duration_convexity(&times[..n], &amounts[..n], tenors, rates, points))?;
+    }
+    Ok(())
 }
 
 fn many(
@@ -112,6 +105,8 @@ fn many(
     rates: &[f64],
     points: f64,
     market: f64,
+    dated: bool,
+    lists: bool,
 ) -> io::Result<()> {
     let mut flows = [CashFlow { time: 0.0, amount: 0.0 }; 1201];
     let mut month: u32 = 0;
@@ -124,7 +119,7 @@ fn many(
         };
         i += 1;
     }
-    ask(out, &flows[..count], tenors, rates, points, market)
+    ask(out, &flows[..count], tenors, rates, points, market, dated, lists)
 }
 
 fn main(rt: HostRuntime) -> io::Result<()> {
@@ -223,7 +218,7 @@ def sensitivity(flows, tenors, rates, points):
     )
 
 
-def lines(flows, tenors, rates, points, market):
+def lines(flows, tenors, rates, points, market, forms=2):
     """What the program should write: for each function a line for the flows and one for their two lists."""
     curve = (flows, tenors, rates)
     for word, priced, answer in (
@@ -233,7 +228,7 @@ def lines(flows, tenors, rates, points, market):
     ):
         refused = refusal(*curve, priced)
         line = word + (" refused %d at %d" % refused if refused else answer()) + "\n"
-        yield line * 2
+        yield line * forms
 
 
 def text(x):
@@ -274,16 +269,24 @@ MANY = [
 
 def few(flows, *asked):
     dated = ", ".join("CashFlow { time: %s, amount: %s }" % (text(t), text(a)) for t, a in flows)
-    return "    ask(&rt, &[%s], %s, %s, %s, %s)?;\n" % (dated, *map(texts, asked[:2]), *map(text, asked[2:])), lines(flows, *asked)
+    return "    ask(&rt, &[%s], %s, %s, %s, %s, true, true)?;\n" % (dated, *map(texts, asked[:2]), *map(text, asked[2:])), lines(flows, *asked)
 
 
-def many(count, *asked):
-    call = "    many(&rt, %d, %s, %s, %s, %s)?;\n" % (count, *map(texts, asked[:2]), *map(text, asked[2:]))
-    return call, lines([((i + 1) / 12.0, i + 1.0) for i in range(count)], *asked)
+def many(forms, count, *asked):
+    call = "    many(&rt, %d, %s, %s, %s, %s, %s)?;\n" % (count, *map(texts, asked[:2]), *map(text, asked[2:]), forms)
+    return call, lines([((i + 1) / 12.0, i + 1.0) for i in range(count)], *asked, forms=1)
+
+
+def many_dated(*asked):
+    return many("true, false", *asked)
+
+
+def many_lists(*asked):
+    return many("false, true", *asked)
 
 
 room = pathlib.Path(sys.argv[1])
-for name, case, cases in ("few", few, FEW), ("many", many, MANY):
+for name, case, cases in ("few", few, FEW), ("many", many_dated, MANY), ("many_lists", many_lists, MANY):
     program = room / "crates" / name
     (program / "src").mkdir(parents=True)
     (program / "cases").mkdir()
@@ -298,7 +301,7 @@ for name, case, cases in ("few", few, FEW), ("many", many, MANY):
 print(len(FEW) + len(MANY))
 END
 )
-for program in few many; do
+for program in few many many_lists; do
     { (cd "$room/crates/$program" && rt try --cases cases) && grep -q 'runners=2 output=expected' "$room/said"; } >"$room/said" 2>&1 || {
         cat "$room/said" >&2
         echo "dated: the functions over dated flows gave something else" >&2
