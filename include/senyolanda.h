@@ -1404,45 +1404,45 @@ static inline SENYOLANDA_CHECKED senyolanda_result senyolanda_flows_duration_con
  * STACK. The bytes of stack that each function (senyolanda_..) touches beyond the call itself, at the largest input that it takes:
  * the larger of what was measured for Arm and for x86-64.
  *
- *     39672 dated_z_spread                     520 bond_convexity                    56 actual_days
- *     38688 pool_convexity                     504 bond_macaulay_duration_at_price   56 dated_fraction
- *     38688 pool_duration                      504 bond_modified_duration_at_price   56 read_swap
- *     38640 pool_price                         504 draw_adjustable                   48 read_bond
- *     22088 dated_duration_convexity           504 draw_balloon                      48 refinance_breakeven
- *     22040 dated_pv                           504 draw_interest_only                40 bond_cash_flows
- *     20408 z_spread                           488 bond_macaulay_duration            40 days_30_360
- *     11720 bootstrap                          488 bond_modified_duration            40 look_up_balloon_year
- *      9872 pool_cash_flows                    488 draw                              40 read_row
- *      5832 value_dated_swap                   440 draw_book                         32 bond_current_yield
- *      5832 value_swap                         432 bond_yield_to_maturity            32 bond_dv01
- *      5640 dated_swap_dv01                    384 discount_curve_rate_each          32 bond_price
- *      5640 swap_dv01                          384 linear_interpolate_each           32 exp
- *      4536 dated_swap_npv                     384 swap_curve_rate_each              32 ln
- *      4536 swap_npv                           384 zero_curve_rate_each              32 pool_totals
- *      4520 dated_swap_duration                352 next_adjustable_row                8 look_up_year
- *      4520 swap_duration                      320 next_balloon_row                   8 open_balloon_with_payment
- *      4504 dated_fixed_leg_pv                 320 next_interest_only_row             8 open_interest_only_with_payment
- *      4504 dated_floating_leg_pv              256 next_row                           8 read_loan
- *      4504 dated_par_swap_rate                112 zero_curve_forward_rate            0 day_count_fraction
- *      4504 fixed_leg_pv                        96 read_dated_swap                    0 day_number
- *      4504 floating_leg_pv                     96 yield_curve_forward_rate           0 ltv
- *      4504 par_swap_rate                       64 discount_curve_factor              0 monthly_payment
- *      3984 cubic_spline_interpolate            64 discount_curve_rate                0 months_later
- *      2792 duration_convexity                  64 linear_interpolate                 0 nelson_siegel_instantaneous_forward
- *      2760 pv_cash_flows                       64 monthly_smm                        0 nelson_siegel_metrics
- *      2056 par_yield                           64 nelson_siegel_forward_rate         0 open
- *      1960 nelson_siegel_fit                   64 nelson_siegel_yield                0 open_with_payment
- *      1240 listing                             64 open_adjustable                    0 periods_per_year
- *      1016 discount_curve_factor_each          64 open_balloon                       0 points_to_decimal
- *      1016 yield_curve_discount_factor_each    64 open_interest_only                 0 prepayment_savings
- *      1016 zero_curve_discount_factor_each     64 power                              0 remaining_balance
- *       920 exp_each                            64 swap_curve_rate                    0 total_interest
- *       792 draw_adjustable_with_years          64 write_dated_swap                   0 write_bond
- *       792 draw_balloon_with_years             64 yield_curve_discount_factor        0 write_loan
- *       792 draw_interest_only_with_years       64 zero_coupon_bond_price             0 write_row
- *       776 draw_with_years                     64 zero_curve_discount_factor         0 write_swap
- *       536 bond_convexity_at_price             64 zero_curve_rate
- *       528 bond_price_change                   60 date_of_number
+ *     39540 dated_z_spread                     520 draw_balloon                      56 dated_fraction
+ *     38800 pool_convexity                     520 draw_interest_only                56 look_up_balloon_year
+ *     38800 pool_duration                      512 bond_convexity_at_price           56 read_swap
+ *     38640 pool_price                         504 draw                              56 write_dated_swap
+ *     22484 dated_duration_convexity           496 bond_convexity                    48 actual_days
+ *     22308 dated_pv                           496 bond_modified_duration_at_price   48 refinance_breakeven
+ *     20244 z_spread                           480 bond_macaulay_duration_at_price   40 bond_cash_flows
+ *     10548 bootstrap                          480 bond_modified_duration            40 days_30_360
+ *      9920 pool_cash_flows                    464 bond_macaulay_duration            40 read_row
+ *      5492 value_dated_swap                   440 draw_book                         32 exp
+ *      5492 value_swap                         404 discount_curve_rate_each          32 ln
+ *      5188 dated_swap_dv01                    404 linear_interpolate_each           24 look_up_year
+ *      5188 swap_dv01                          404 swap_curve_rate_each              24 pool_totals
+ *      4132 dated_swap_duration                404 zero_curve_rate_each              24 read_bond
+ *      4132 dated_swap_npv                     400 bond_yield_to_maturity            12 date_of_number
+ *      4132 swap_duration                      344 next_adjustable_row                8 read_loan
+ *      4132 swap_npv                           320 next_balloon_row                   0 bond_current_yield
+ *      4116 dated_fixed_leg_pv                 320 next_interest_only_row             0 bond_dv01
+ *      4116 dated_floating_leg_pv              256 next_row                           0 bond_price
+ *      4116 fixed_leg_pv                       192 open_adjustable                    0 day_count_fraction
+ *      4116 floating_leg_pv                    192 open_balloon                       0 day_number
+ *      4100 dated_par_swap_rate                192 open_interest_only                 0 ltv
+ *      4100 par_swap_rate                      144 open_balloon_with_payment          0 monthly_payment
+ *      3188 duration_convexity                 144 open_interest_only_with_payment    0 months_later
+ *      3124 pv_cash_flows                      112 zero_curve_forward_rate            0 nelson_siegel_instantaneous_forward
+ *      2048 cubic_spline_interpolate            96 read_dated_swap                    0 nelson_siegel_metrics
+ *      1892 par_yield                           96 yield_curve_forward_rate           0 open
+ *      1812 nelson_siegel_fit                   64 discount_curve_factor              0 open_with_payment
+ *      1272 listing                             64 discount_curve_rate                0 periods_per_year
+ *       852 discount_curve_factor_each          64 linear_interpolate                 0 points_to_decimal
+ *       852 yield_curve_discount_factor_each    64 monthly_smm                        0 prepayment_savings
+ *       852 zero_curve_discount_factor_each     64 nelson_siegel_forward_rate         0 remaining_balance
+ *       808 draw_adjustable_with_years          64 nelson_siegel_yield                0 total_interest
+ *       808 draw_balloon_with_years             64 power                              0 write_bond
+ *       808 draw_interest_only_with_years       64 swap_curve_rate                    0 write_loan
+ *       792 draw_with_years                     64 yield_curve_discount_factor        0 write_row
+ *       756 exp_each                            64 zero_coupon_bond_price             0 write_swap
+ *       544 bond_price_change                   64 zero_curve_discount_factor
+ *       520 draw_adjustable                     64 zero_curve_rate
  */
 
 #ifdef __cplusplus

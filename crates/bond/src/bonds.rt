@@ -5,7 +5,7 @@ ghost use Rattle.refusals.specs.Answers.{outcome};
 ghost use Rattle.refusals.specs.Table.{bad_number};
 ghost use Rattle.bond.specs.Bonds.{periods_per_year, coupons_a_year, period_coupon, periods, bad_maturity, number_lines, bond_lines};
 
-use crate::worked::Worked;
+pub use crate::worked::Worked;
 use crate::{Bond, Frequency};
 use refusals::{Cause, Refusal};
 

@@ -7,11 +7,11 @@ use crate::bonds::periods_per_year;
 
 // The coupons a year, the coupon of a period, and the number of periods.
 #[derive(Clone, Copy)]
-pub(crate) struct Worked {
-    pub(crate) bond: Bond,
-    pub(crate) m: f64,
-    pub(crate) coupon: f64,
-    pub(crate) count: u32,
+pub struct Worked {
+    pub bond: Bond,
+    pub m: f64,
+    pub coupon: f64,
+    pub count: u32,
     ghost yearly: { m ≡ coupons_a_year bond },
     ghost paid: { coupon ≡ period_coupon bond },
     ghost counted: { count ≡ periods bond },

@@ -5,6 +5,7 @@ ghost use Rattle.curves.specs.inner.Halving.{ending};
 
 use crate::halving::Serving;
 
+#[derive(Clone, Copy)]
 pub(crate) struct Ending;
 
 impl Serving for Ending {

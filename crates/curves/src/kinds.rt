@@ -6,7 +6,7 @@ ghost use Rattle.curves.specs.inner.Halving.{passes};
 ghost use Rattle.curves.specs.inner.Kinds.{rule_of, PastOn};
 
 use crate::ending::Ending;
-use crate::halving::{Serving, eight_segments, onward, segment};
+use crate::halving::{Serving, eight_segments, onward};
 use crate::starting::Starting;
 
 #[derive(Clone, Copy)]
@@ -16,13 +16,13 @@ pub enum Kind {
     SpreadCurve,
 }
 
-#[tactic(auto, unfolding(crate::specs::Kinds::served_by, crate::specs::inner::Kinds::rule_of, crate::specs::inner::Halving::segment_by))]
+#[tactic(auto, unfolding(crate::specs::Kinds::served_by))]
 pub(crate) fn segment_on(kind: Kind, times: &[f64], t: f64) -> usize
     ensures { Rising times.now → result ≡ served_by kind times.now t }
 {
     match kind {
-        Kind::YieldCurve | Kind::DiscountCurve => segment::<Ending>(times, t),
-        Kind::SpreadCurve => segment::<Starting>(times, t),
+        Kind::YieldCurve | Kind::DiscountCurve => crate::ending::segment(times, t),
+        Kind::SpreadCurve => crate::starting::segment(times, t),
     }
 }
 

@@ -5,6 +5,7 @@ ghost use Rattle.curves.specs.inner.Halving.{starting};
 
 use crate::halving::Serving;
 
+#[derive(Clone, Copy)]
 pub(crate) struct Starting;
 
 impl Serving for Starting {

@@ -20,8 +20,10 @@ pub fn list_loan(bytes: &[u8], out: &mut [u8; ROOM]) -> Result<u32, Refusal>
     ensures out_after { out.new ≡ lines_over (listed bytes.now) out.old }
 {
     let terms = records::terms_record::read_terms(bytes)?;
-    let loan = mortgage::opening::open(terms)?;
-    Ok(portions::put_loan(out, loan) as u32)
+    match mortgage::opening::open(terms) {
+        Err(refusal) => Err(refusal),
+        Ok(loan) => Ok(portions::put_loan(out, loan) as u32),
+    }
 }
 
 // Puts the listing of a kind 1 record, or the line that says its refusal, from the start of the lent memory, and gives its length.

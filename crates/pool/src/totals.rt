@@ -61,6 +61,8 @@ fn totals_of(loans: Loans) -> Totals
 pub fn pool_totals(bytes: &[u8]) -> Result<Totals, Refusal>
     ensures { outcome result ≡ placed (pool_totals bytes.now) }
 {
-    let loans = Loans::judged(bytes, None)?;
-    Ok(totals_of(loans))
+    match Loans::judged(bytes, None) {
+        Err(refusal) => Err(refusal),
+        Ok(loans) => Ok(totals_of(loans)),
+    }
 }

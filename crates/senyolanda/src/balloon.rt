@@ -14,7 +14,7 @@ ghost use Rattle.senyolanda.specs.Loans.{loan_in, loan_numbers, portion_numbers,
 
 use crate::kinds::{NO_INDEX, draw_kind, draw_kind_with_years, next_kind_row, open_kind};
 use crate::loans::{AMOUNTS, COUNTS, loan_in, put_loan};
-use crate::results::put;
+use crate::results::{put, refusal_result};
 use crate::years::year_places;
 use mortgage::kinds::Kind;
 use mortgage::opening::open_balloon_with_payment;
@@ -44,10 +44,13 @@ pub extern "C" fn senyolanda_open_balloon_with_payment(
 ) -> u64
     ensures { (result, (counts.new, amounts.new)) ≡ told loan_numbers (and_then (read_terms «record».now) (λ (t : Terms). kind_opened_with (balloon month) t given)) (counts.old, amounts.old) }
 {
-    let opening = read_terms(record).and_then(|terms| open_balloon_with_payment(
-        terms, month, given,
-    ));
-    put_loan(opening, counts, amounts)
+    match read_terms(record) {
+        Err(refusal) => refusal_result(refusal),
+        Ok(terms) => {
+            let opening = open_balloon_with_payment(terms, month, given);
+            put_loan(opening, counts, amounts)
+        }
+    }
 }
 
 // Writes as many rows as the room holds and the loan still owes.

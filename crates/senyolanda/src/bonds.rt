@@ -11,7 +11,7 @@ ghost use Rattle.senyolanda.specs.Told.{coded, told_number};
 ghost use Rattle.senyolanda.specs.Bonds.{uncoded_lines, bond_read, of_bond, periods_per_year_of};
 
 use crate::codes::code_within;
-use crate::results::put;
+use crate::results::{put, refusal_result};
 use bond::{Bond, Frequency};
 use records::BondRecord;
 use refusals::Refusal;
@@ -38,14 +38,15 @@ fn frequency_in(fields: BondRecord, beside: f64) -> Result<Frequency, Refusal>
 fn bond_in(bytes: &[u8], beside: f64) -> Result<Bond, Refusal>
     ensures { outcome result ≡ bond_read bytes.now beside }
 {
-    let fields = records::bond_record::read_bond_uncoded(bytes)?;
-    let frequency = frequency_in(fields, beside)?;
-    Ok(Bond {
-        face: fields.face,
-        coupon: fields.coupon,
-        maturity: fields.maturity,
-        frequency,
-    })
+    match records::bond_record::read_bond_uncoded(bytes) {
+        Err(refusal) => Err(refusal),
+        Ok(fields) => Ok(Bond {
+            face: fields.face,
+            coupon: fields.coupon,
+            maturity: fields.maturity,
+            frequency: frequency_in(fields, beside)?,
+        }),
+    }
 }
 
 // The price at a yield.
@@ -53,10 +54,10 @@ fn bond_in(bytes: &[u8], beside: f64) -> Result<Bond, Refusal>
 pub extern "C" fn senyolanda_bond_price(record: &[u8], ytm: f64, price: &mut f64) -> u64
     ensures { (result, price.new) ≡ told_number (of_bond «record».now ytm (price_at ytm)) price.old }
 {
-    put(
-        bond_in(record, ytm).and_then(|bond| bond::price::price(ytm, bond)),
-        price,
-    )
+    match bond_in(record, ytm) {
+        Err(refusal) => refusal_result(refusal),
+        Ok(bond) => put(bond::price::price(ytm, bond), price),
+    }
 }
 
 // What the price gains where the yield falls by a basis point.
@@ -64,10 +65,10 @@ pub extern "C" fn senyolanda_bond_price(record: &[u8], ytm: f64, price: &mut f64
 pub extern "C" fn senyolanda_bond_dv01(record: &[u8], ytm: f64, dv01: &mut f64) -> u64
     ensures { (result, dv01.new) ≡ told_number (of_bond «record».now ytm (dv01_at ytm)) dv01.old }
 {
-    put(
-        bond_in(record, ytm).and_then(|bond| bond::price::dv01(ytm, bond)),
-        dv01,
-    )
+    match bond_in(record, ytm) {
+        Err(refusal) => refusal_result(refusal),
+        Ok(bond) => put(bond::price::dv01(ytm, bond), dv01),
+    }
 }
 
 // The annual coupon over the market price.
@@ -79,10 +80,10 @@ pub extern "C" fn senyolanda_bond_current_yield(
 ) -> u64
     ensures { (result, current.new) ≡ told_number (of_bond «record».now market (current_yield market)) current.old }
 {
-    put(
-        bond_in(record, market).and_then(|bond| bond::price::current_yield(market, bond)),
-        current,
-    )
+    match bond_in(record, market) {
+        Err(refusal) => refusal_result(refusal),
+        Ok(bond) => put(bond::price::current_yield(market, bond), current),
+    }
 }
 
 // The yield at which the bond is worth its market price.
@@ -94,10 +95,10 @@ pub extern "C" fn senyolanda_bond_yield_to_maturity(
 ) -> u64
     ensures { (result, ytm.new) ≡ told_number (of_bond «record».now market (yield_to_maturity market)) ytm.old }
 {
-    put(
-        bond_in(record, market).and_then(|bond| bond::yields::yield_to_maturity(market, bond)),
-        ytm,
-    )
+    match bond_in(record, market) {
+        Err(refusal) => refusal_result(refusal),
+        Ok(bond) => put(bond::yields::yield_to_maturity(market, bond), ytm),
+    }
 }
 
 #[unsafe(no_mangle)]
@@ -108,10 +109,10 @@ pub extern "C" fn senyolanda_bond_macaulay_duration(
 ) -> u64
     ensures { (result, duration.new) ≡ told_number (of_bond «record».now ytm (macaulay_duration ytm)) duration.old }
 {
-    put(
-        bond_in(record, ytm).and_then(|bond| bond::durations::macaulay_duration(ytm, bond)),
-        duration,
-    )
+    match bond_in(record, ytm) {
+        Err(refusal) => refusal_result(refusal),
+        Ok(bond) => put(bond::durations::macaulay_duration(ytm, bond), duration),
+    }
 }
 
 #[unsafe(no_mangle)]
@@ -122,20 +123,20 @@ pub extern "C" fn senyolanda_bond_modified_duration(
 ) -> u64
     ensures { (result, duration.new) ≡ told_number (of_bond «record».now ytm (modified_duration ytm)) duration.old }
 {
-    put(
-        bond_in(record, ytm).and_then(|bond| bond::durations::modified_duration(ytm, bond)),
-        duration,
-    )
+    match bond_in(record, ytm) {
+        Err(refusal) => refusal_result(refusal),
+        Ok(bond) => put(bond::durations::modified_duration(ytm, bond), duration),
+    }
 }
 
 #[unsafe(no_mangle)]
 pub extern "C" fn senyolanda_bond_convexity(record: &[u8], ytm: f64, convexity: &mut f64) -> u64
     ensures { (result, convexity.new) ≡ told_number (of_bond «record».now ytm (convexity_at ytm)) convexity.old }
 {
-    put(
-        bond_in(record, ytm).and_then(|bond| bond::durations::convexity(ytm, bond)),
-        convexity,
-    )
+    match bond_in(record, ytm) {
+        Err(refusal) => refusal_result(refusal),
+        Ok(bond) => put(bond::durations::convexity(ytm, bond), convexity),
+    }
 }
 
 // What part of itself the price changes by where the yield changes by delta, by duration and convexity.
@@ -148,12 +149,13 @@ pub extern "C" fn senyolanda_bond_price_change(
 ) -> u64
     ensures { (result, change.new) ≡ told_number (of_bond «record».now ytm (price_change ytm delta)) change.old }
 {
-    put(
-        bond_in(record, ytm).and_then(|bond| bond::durations::price_change_approximation(
-            ytm, delta, bond,
-        )),
-        change,
-    )
+    match bond_in(record, ytm) {
+        Err(refusal) => refusal_result(refusal),
+        Ok(bond) => put(
+            bond::durations::price_change_approximation(ytm, delta, bond),
+            change,
+        ),
+    }
 }
 
 // At a market price the yield is asked first.
@@ -165,12 +167,13 @@ pub extern "C" fn senyolanda_bond_macaulay_duration_at_price(
 ) -> u64
     ensures { (result, duration.new) ≡ told_number (of_bond «record».now market (macaulay_at_price market)) duration.old }
 {
-    put(
-        bond_in(record, market).and_then(|bond| bond::durations::macaulay_duration_at_price(
-            market, bond,
-        )),
-        duration,
-    )
+    match bond_in(record, market) {
+        Err(refusal) => refusal_result(refusal),
+        Ok(bond) => put(
+            bond::durations::macaulay_duration_at_price(market, bond),
+            duration,
+        ),
+    }
 }
 
 #[unsafe(no_mangle)]
@@ -181,12 +184,13 @@ pub extern "C" fn senyolanda_bond_modified_duration_at_price(
 ) -> u64
     ensures { (result, duration.new) ≡ told_number (of_bond «record».now market (modified_at_price market)) duration.old }
 {
-    put(
-        bond_in(record, market).and_then(|bond| bond::durations::modified_duration_at_price(
-            market, bond,
-        )),
-        duration,
-    )
+    match bond_in(record, market) {
+        Err(refusal) => refusal_result(refusal),
+        Ok(bond) => put(
+            bond::durations::modified_duration_at_price(market, bond),
+            duration,
+        ),
+    }
 }
 
 #[unsafe(no_mangle)]
@@ -197,10 +201,10 @@ pub extern "C" fn senyolanda_bond_convexity_at_price(
 ) -> u64
     ensures { (result, convexity.new) ≡ told_number (of_bond «record».now market (convexity_at_price market)) convexity.old }
 {
-    put(
-        bond_in(record, market).and_then(|bond| bond::durations::convexity_at_price(market, bond)),
-        convexity,
-    )
+    match bond_in(record, market) {
+        Err(refusal) => refusal_result(refusal),
+        Ok(bond) => put(bond::durations::convexity_at_price(market, bond), convexity),
+    }
 }
 
 // The price of a bond of face 1 without coupons.

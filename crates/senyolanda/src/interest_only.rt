@@ -13,6 +13,7 @@ ghost use Rattle.senyolanda.specs.Loans.{loan_in, loan_numbers, portion_numbers,
 
 use crate::kinds::{NO_INDEX, draw_kind, draw_kind_with_years, next_kind_row, open_kind};
 use crate::loans::{AMOUNTS, COUNTS, put_loan};
+use crate::results::refusal_result;
 use mortgage::kinds::Kind;
 use mortgage::opening::open_interest_only_with_payment;
 use records::terms_record::read_terms;
@@ -47,10 +48,13 @@ pub extern "C" fn senyolanda_open_interest_only_with_payment(
 ) -> u64
     ensures { (result, (counts.new, amounts.new)) ≡ told loan_numbers (and_then (read_terms «record».now) (λ (t : Terms). kind_opened_with (interest_only months) t given)) (counts.old, amounts.old) }
 {
-    let opening = read_terms(record).and_then(|terms| open_interest_only_with_payment(
-        terms, months, given,
-    ));
-    put_loan(opening, counts, amounts)
+    match read_terms(record) {
+        Err(refusal) => refusal_result(refusal),
+        Ok(terms) => {
+            let opening = open_interest_only_with_payment(terms, months, given);
+            put_loan(opening, counts, amounts)
+        }
+    }
 }
 
 // Writes as many rows as the room holds and the loan still owes.

@@ -11,6 +11,7 @@ ghost use Rattle.senyolanda.specs.Told.{told};
 ghost use Rattle.senyolanda.specs.Loans.{loan_in, loan_numbers, portion_numbers, kind_next_numbers};
 
 use crate::loans::{AMOUNTS, COUNTS, loan_in, put_loan, put_next, put_portion};
+use crate::results::refusal_result;
 use mortgage::kinds::Kind;
 use records::terms_record::read_terms;
 
@@ -27,10 +28,13 @@ pub(crate) fn open_kind(
 ) -> u64
     ensures { (result, (counts.new, amounts.new)) ≡ told loan_numbers (and_then (read_terms «record».now) (kind_opened (way_of kind index.now))) (counts.old, amounts.old) }
 {
-    let opening = read_terms(record).and_then(|terms| mortgage::opening::open_kind(
-        kind, terms, index,
-    ));
-    put_loan(opening, counts, amounts)
+    match read_terms(record) {
+        Err(refusal) => refusal_result(refusal),
+        Ok(terms) => {
+            let opening = mortgage::opening::open_kind(kind, terms, index);
+            put_loan(opening, counts, amounts)
+        }
+    }
 }
 
 // Writes as many rows as the room holds and the loan still owes.

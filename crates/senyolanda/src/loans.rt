@@ -28,10 +28,10 @@ use refusals::Refusal;
 pub extern "C" fn senyolanda_monthly_payment(record: &[u8], payment: &mut f64) -> u64
     ensures { (result, payment.new) ≡ told_number (and_then (read_terms «record».now) monthly_payment) payment.old }
 {
-    put(
-        read_terms(record).and_then(mortgage::payment::monthly_payment),
-        payment,
-    )
+    match read_terms(record) {
+        Err(refusal) => refusal_result(refusal),
+        Ok(terms) => put(mortgage::payment::monthly_payment(terms), payment),
+    }
 }
 
 // Counts of a loan in hand: term, months done.
@@ -72,7 +72,13 @@ pub(crate) fn put_loan(
 ) -> u64
     ensures { (result, (counts.new, amounts.new)) ≡ told loan_numbers (outcome opening) (counts.old, amounts.old) }
 {
-    put_two(opening.map(loan_numbers), counts, amounts)
+    match opening {
+        Err(refusal) => refusal_result(refusal),
+        Ok(loan) => {
+            (*counts, *amounts) = loan_numbers(loan);
+            ACCEPTED
+        }
+    }
 }
 
 // Opens a loan with the worked-out payment.
@@ -84,11 +90,10 @@ pub extern "C" fn senyolanda_open(
 ) -> u64
     ensures { (result, (counts.new, amounts.new)) ≡ told loan_numbers (and_then (read_terms «record».now) opened) (counts.old, amounts.old) }
 {
-    put_loan(
-        read_terms(record).and_then(mortgage::opening::open),
-        counts,
-        amounts,
-    )
+    match read_terms(record) {
+        Err(refusal) => refusal_result(refusal),
+        Ok(terms) => put_loan(mortgage::opening::open(terms), counts, amounts),
+    }
 }
 
 // Opens a loan with a given payment.
@@ -101,10 +106,13 @@ pub extern "C" fn senyolanda_open_with_payment(
 ) -> u64
     ensures { (result, (counts.new, amounts.new)) ≡ told loan_numbers (and_then (read_terms «record».now) (λ (t : Terms). opened_with t given)) (counts.old, amounts.old) }
 {
-    let opening = read_terms(record).and_then(|terms| mortgage::opening::open_with_payment(
-        terms, given,
-    ));
-    put_loan(opening, counts, amounts)
+    match read_terms(record) {
+        Err(refusal) => refusal_result(refusal),
+        Ok(terms) => {
+            let opening = mortgage::opening::open_with_payment(terms, given);
+            put_loan(opening, counts, amounts)
+        }
+    }
 }
 
 // What a draw hands back.
@@ -192,10 +200,10 @@ pub extern "C" fn senyolanda_next_row(
 pub extern "C" fn senyolanda_total_interest(record: &[u8], interest: &mut f64) -> u64
     ensures { (result, interest.new) ≡ told_number (and_then (read_terms «record».now) total_interest) interest.old }
 {
-    put(
-        read_terms(record).and_then(mortgage::totals::total_interest),
-        interest,
-    )
+    match read_terms(record) {
+        Err(refusal) => refusal_result(refusal),
+        Ok(terms) => put(mortgage::totals::total_interest(terms), interest),
+    }
 }
 
 // The balance after so many months.
@@ -203,10 +211,10 @@ pub extern "C" fn senyolanda_total_interest(record: &[u8], interest: &mut f64) -
 pub extern "C" fn senyolanda_remaining_balance(record: &[u8], months: u32, balance: &mut f64) -> u64
     ensures { (result, balance.new) ≡ told_number (and_then (read_terms «record».now) (λ (t : Terms). remaining_balance t months)) balance.old }
 {
-    let remaining = read_terms(record).and_then(|terms| mortgage::totals::remaining_balance(
-        terms, months,
-    ));
-    put(remaining, balance)
+    match read_terms(record) {
+        Err(refusal) => refusal_result(refusal),
+        Ok(terms) => put(mortgage::totals::remaining_balance(terms, months), balance),
+    }
 }
 
 // Loan to value.
@@ -214,10 +222,10 @@ pub extern "C" fn senyolanda_remaining_balance(record: &[u8], months: u32, balan
 pub extern "C" fn senyolanda_ltv(record: &[u8], value: f64, ratio: &mut f64) -> u64
     ensures { (result, ratio.new) ≡ told_number (and_then (read_terms «record».now) (λ (t : Terms). loan_to_value t value)) ratio.old }
 {
-    put(
-        read_terms(record).and_then(|terms| mortgage::totals::ltv(terms, value)),
-        ratio,
-    )
+    match read_terms(record) {
+        Err(refusal) => refusal_result(refusal),
+        Ok(terms) => put(mortgage::totals::ltv(terms, value), ratio),
+    }
 }
 
 fn savings_numbers(savings: Savings) -> (u32, f64)
@@ -236,10 +244,13 @@ pub extern "C" fn senyolanda_prepayment_savings(
 ) -> u64
     ensures { (result, (months.new, interest.new)) ≡ told savings_numbers (and_then (read_terms «record».now) (λ (t : Terms). prepayment_savings t extra)) (months.old, interest.old) }
 {
-    let savings = read_terms(record).and_then(|terms| mortgage::savings::prepayment_savings(
-        terms, extra,
-    ));
-    put_two(savings.map(savings_numbers), months, interest)
+    match read_terms(record) {
+        Err(refusal) => refusal_result(refusal),
+        Ok(terms) => {
+            let savings = mortgage::savings::prepayment_savings(terms, extra);
+            put_two(savings.map(savings_numbers), months, interest)
+        }
+    }
 }
 
 // The terms of a record, which is refused at its own place.

@@ -10,7 +10,7 @@ ghost use Rattle.senyolanda.specs.Told.{told, told_number};
 ghost use Rattle.refusals.specs.Answers.{outcome};
 ghost use Rattle.senyolanda.specs.Pools.{speed_of, speed_for, smm_of, months_of, room_after, totals_numbers};
 
-use crate::results::{put, refusal_result};
+use crate::results::{ACCEPTED, put, refusal_result};
 use pool::speed::Speed;
 use pool::totals::Totals;
 use refusals::{Cause, Refusal};
@@ -160,8 +160,17 @@ fn totals_numbers(sums: Totals) -> [f64; 3]
 pub extern "C" fn senyolanda_pool_totals(records: &[u8], totals: &mut [f64; 3]) -> u64
     ensures { (result, totals.new) ≡ told totals_numbers (placed (pool_totals records.now)) totals.old }
 {
-    put(
-        pool::totals::pool_totals(records).map(totals_numbers),
-        totals,
-    )
+    match pool::totals::pool_totals(records) {
+        Err(refusal) => refusal_result(refusal),
+        Ok(
+            Totals {
+                balance,
+                coupon,
+                maturity,
+            },
+        ) => {
+            *totals = [balance, coupon, maturity];
+            ACCEPTED
+        }
+    }
 }

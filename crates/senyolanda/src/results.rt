@@ -1,4 +1,5 @@
-// The result of a call, and answers put into their lent places.
+// The result of a call, and answers put into their lent places. What the exported functions read, and values of several words that they answer with,
+// are taken apart by `match`: by `and_then` or `map` such a value goes through memory in pieces of another size, for which a call waits 5 to 20 ns.
 ghost use Rattle.std.specs.Prelude.{◌≡◌};
 ghost use Rattle.refusals.specs.Answers.{number, outcome};
 ghost use Rattle.senyolanda.specs.Told.{refusal_result, told_number};

@@ -74,14 +74,16 @@ fn judge_pars(tenors: &[f64], pars: &[f64]) -> Result<(), Refusal>
     judge_each(tenors, pars)
 }
 
-// One knot at a time: its zero rate from the tenors up to it and the rates before it.
-#[tactic(auto, using(crate::proofs::SolvedKnots::knot_solved), unfolding(crate::specs::Bootstrap::zeros_up_to))]
-fn solve_knots(tenors: &[f64], pars: &[f64], zeros: &mut [f64])
-    requires { (length tenors.now ≡ length pars.now) × (length zeros.old ≡ length tenors.now) × Rising tenors.now }
-    ensures { zeros.new ≡ zeros_up_to tenors.now pars.now (length tenors.now) }
+// One knot at a time: its tenor, and its zero rate from what stands in front of the two rooms.
+#[tactic(auto, unfolding(crate::specs::Bootstrap::zeros_up_to))]
+fn solve_knots(tenors: &[f64], pars: &[f64], times: &mut [f64], zeros: &mut [f64])
+    requires { (length tenors.now ≡ length pars.now) × (length times.old ≡ length tenors.now) × (length zeros.old ≡ length tenors.now) × Rising tenors.now }
+    ensures times_after { times.new ≡ tenors.now }
+    ensures zeros_after { zeros.new ≡ zeros_up_to tenors.now pars.now (length tenors.now) }
 {
     for (i, par) in pars.iter().enumerate() {
-        let zero = next_zero(&tenors[..i + 1], &zeros[..i], *par);
+        times[i] = tenors[i];
+        let zero = next_zero(&times[..i + 1], &zeros[..i], *par);
         zeros[i] = zero;
     }
 }
@@ -105,8 +107,7 @@ fn solved_curve(tenors: &[f64], pars: &[f64]) -> DiscountCurve
     let knots = tenors.len();
     let mut times = [0.0; 120];
     let mut zeros = [0.0; 120];
-    times[..knots].copy_from_slice(tenors);
-    solve_knots(tenors, pars, &mut zeros[..knots]);
+    solve_knots(tenors, pars, &mut times[..knots], &mut zeros[..knots]);
     DiscountCurve {
         tenors: times,
         zeros,

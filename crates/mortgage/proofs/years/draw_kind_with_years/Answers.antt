@@ -9,12 +9,12 @@ pub enter_rows-requires : goal.enter_rows-requires
 enter_rows-requires c =
     let a = c.args in
     let drawn = c.draw_kind.ensures in
-    enters_within (way_of a.kind a.index.now) a.loan a.room.now a.years.now (sym c.bad_term.ensures ∙ c.if-bad_term.false) (sym c.too_few.ensures ∙ c.if-too_few.false) _ _ (sym (ap outcome c.in_ok-portion.was) ∙ drawn.result_value)
+    enters_within (way_of a.kind a.index.now) a.loan a.room.now a.years.now (sym c.bad_term.ensures ∙ c.if-bad_term.false) (sym c.too_few.ensures ∙ c.if-too_few.false) _ _ (sym (ap outcome c.in-Ok.is) ∙ drawn.result_value)
     drawn.room_after c.draw_kind.auto.room
 
-pub returns-clause-years_after : goal.returns-clause-years_after
-returns-clause-years_after c =
+pub returns-in-Ok-clause-years_after : goal.returns-in-Ok-clause-years_after
+returns-in-Ok-clause-years_after c =
     let a = c.args in
     let drawn = c.draw_kind.ensures in
-    entered_as_summed (way_of a.kind a.index.now) a.loan a.room.now a.years.now (sym c.bad_term.ensures ∙ c.if-bad_term.false) (sym c.too_few.ensures ∙ c.if-too_few.false) _ _ (sym (ap outcome c.in_ok-portion.was) ∙ drawn.result_value)
+    entered_as_summed (way_of a.kind a.index.now) a.loan a.room.now a.years.now (sym c.bad_term.ensures ∙ c.if-bad_term.false) (sym c.too_few.ensures ∙ c.if-too_few.false) _ _ (sym (ap outcome c.in-Ok.is) ∙ drawn.result_value)
     drawn.room_after c.enter_rows.ensures

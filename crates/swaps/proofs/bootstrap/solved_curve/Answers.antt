@@ -7,4 +7,4 @@ use Rattle.swaps.proofs.bootstrap.solved_curve.Goals as goal
 pub returns : goal.returns
 returns c =
     let many : length c.solve_knots.new.zeros ≡ length c.args.tenors.now = grind (arith, common_steps) in
-    curve_made c.args.tenors.now _ _ c.solve_knots.new.zeros c.copy_from_slice.ensures.after c.solve_knots.ensures many
+    curve_made c.args.tenors.now _ _ c.solve_knots.new.zeros c.solve_knots.ensures.times_after c.solve_knots.ensures.zeros_after many
