@@ -162,14 +162,8 @@ pub extern "C" fn senyolanda_pool_totals(records: &[u8], totals: &mut [f64; 3]) 
 {
     match pool::totals::pool_totals(records) {
         Err(refusal) => refusal_result(refusal),
-        Ok(
-            Totals {
-                balance,
-                coupon,
-                maturity,
-            },
-        ) => {
-            *totals = [balance, coupon, maturity];
+        Ok(sums) => {
+            *totals = totals_numbers(sums);
             ACCEPTED
         }
     }
